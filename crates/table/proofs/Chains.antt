@@ -1,0 +1,72 @@
+-- Walking a chain: `met` cells have been met from cell `first` on, and j is the next cell, or 0.
+use mathlib.Core.Path.{_≡_, refl, sym, ap, _∙_}
+use mathlib.Core.List.{List, [], _∷_}
+use mathlib.Core.Bool.{Bool, true, false}
+use mathlib.Core.Logic.{⊎-elim}
+use Prim.Native.Nat.{ℕ, zero, suc, _+_, _-_, _≤_, _<_}
+use native.Mathlib.Omega.{arith}
+use lib.ListN.{length}
+use lib.Dec.{eqb, leb, ltb}
+use borrow.Author.Tests.{ne-eqb, eq-eqb, eqb-true, leb-true, le-leb, lt-leb}
+use Rattle.table.specs.Logic.{_and_, _or_, pick}
+use Rattle.table.specs.Outcome.Outcome.{accepted}
+use Rattle.table.specs.Limits.{mostParts, leastParts}
+use Rattle.table.specs.Layout.{Numbered, cell, cells, cellsFrom, chain, credential}
+use Rattle.table.specs.declared.Credential.{Credential}
+use Rattle.table.specs.Checks.{within, chainOk, cellOk, goodCell, goodChain}
+
+pub record Walked (t : List ℕ) (first met j : ℕ) : Type 0 where
+  pub few : met ≤ mostParts
+  pub inside : j ≤ cells t
+  pub whole : met + length (cellsFrom t (suc mostParts - met) j) ≡ length (chain t first)
+
+pub walk-starts : (t : List ℕ) (first : ℕ) → first ≤ cells t → Walked t first 0 first
+walk-starts t first h = record { few = omega arith; inside = h; whole = omega arith }
+
+-- one cell more
+cells-step : (t : List ℕ) (most j : ℕ) → (j ≡ 0 → ⊥) → length (cellsFrom t (suc most) j) ≡ suc (length (cellsFrom t most (cell t j .next)))
+unfolding cellsFrom pick length
+cells-step t most j h = rw (ne-eqb j 0 h)
+
+cells-end : (t : List ℕ) (most : ℕ) → length (cellsFrom t most 0) ≡ 0
+unfolding cellsFrom pick length
+cells-end t zero = refl
+cells-end t (suc most) = refl
+
+module _ (t : List ℕ) (first met j : ℕ) (walked : Walked t first met j) where
+  left : (most : ℕ) → suc mostParts - met ≡ suc most → (j ≡ 0 → ⊥) → met + suc (length (cellsFrom t most (cell t j .next))) ≡ length (chain t first)
+  left most e h = rw (← cells-step t most j h, ← e) (walked .whole)
+
+  pub walk-goes-on : (j ≡ 0 → ⊥) → met + 1 ≤ mostParts → cell t j .next ≤ cells t → Walked t first (met + 1) (cell t j .next)
+  walk-goes-on h few inside =
+      let l = left (suc mostParts - (met + 1)) (omega arith) h in
+      record { few = few; inside = inside; whole = omega arith }
+
+  -- a fifth cell is met
+  pub walk-too-long : (j ≡ 0 → ⊥) → mostParts < met + 1 → chainOk t first ≡ false
+  unfolding chainOk within _and_ cellsFrom length
+  walk-too-long h over =
+      let five : length (chain t first) ≡ 5 = omega (arith, left 0 (omega arith) h) in
+      rw five
+
+  -- the chain has ended with `met` cells
+  met-all : j ≡ 0 → length (chain t first) ≡ met
+  met-all e = let z = rw e at (walked .whole) in omega (arith, cells-end t (suc mostParts - met))
+
+  pub walk-too-short : j ≡ 0 → met < leastParts → chainOk t first ≡ false
+  unfolding chainOk within _and_
+  walk-too-short e under = rw (met-all e, lt-leb leastParts met under)
+
+  pub walk-ends : j ≡ 0 → leastParts ≤ met → chainOk t first ≡ true
+  unfolding chainOk within _and_
+  walk-ends e enough = rw (met-all e, le-leb leastParts met enough, le-leb met mostParts (walked .few))
+
+-- credential i, which the code has read as c, has a chain where its kind is 4, and only there
+module _ (t : List ℕ) (i : ℕ) (c : Credential) (read : c ≡ credential t i) where
+  pub chain-of-kind-4 : c .kind ≡ 4 → goodChain t i ≡ chainOk t (c .first)
+  unfolding goodChain pick
+  chain-of-kind-4 h = rw (← read, h)
+
+  pub no-chain : (c .kind ≡ 4 → ⊥) → goodChain t i ≡ true
+  unfolding goodChain pick
+  no-chain h = rw (← read, ne-eqb (c .kind) 4 h)

@@ -1,0 +1,8 @@
+-- Laws that belong to no one function; crates above cite those marked `pub mod`.
+pub mod Tests
+pub mod Meanings
+pub mod Fields
+pub mod Stages
+pub mod Sizes
+pub mod Chains
+pub mod Accepted

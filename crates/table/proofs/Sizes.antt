@@ -1,0 +1,38 @@
+-- What the head's checks give: each count inside its limit, and the length that the head says.
+use mathlib.Core.Path.{_≡_}
+use mathlib.Core.List.{List}
+use mathlib.Core.Bool.{Bool, true}
+use Prim.Native.Nat.{ℕ, _≤_}
+use lib.ListN.{length}
+use lib.Dec.{leb, eqb}
+use borrow.Author.Tests.{leb-true, eqb-true}
+use Rattle.table.specs.Logic.{_and_}
+use Rattle.table.specs.Outcome.{Outcome, _andThen_, demand}
+use Rattle.table.specs.Outcome.Outcome.{accepted}
+use Rattle.table.specs.Layout.{Counted, Sized, headSize, tableLength}
+use Rattle.table.specs.Checks.{countsOk, headOutcome}
+use Rattle.table.proofs.Tests.{and-first, and-second}
+use Rattle.table.proofs.Stages.{then-first, then-second, demand-true}
+
+pub counted : (t : List ℕ) → headSize ≤ length t → countsOk t ≡ true → Counted t
+unfolding countsOk
+counted t h e =
+    let e1 = and-second _ _ e in
+    let e2 = and-second _ _ e1 in
+    record {
+      head = h;
+      fewCredentials = leb-true _ _ (and-first _ _ e);
+      fewCells = leb-true _ _ (and-first _ _ e1);
+      fewAutomata = leb-true _ _ (and-first _ _ e2);
+      fewEdges = leb-true _ _ (and-second _ _ e2);
+    }
+
+pub sized : (t : List ℕ) (v : ℕ) → headOutcome t ≡ accepted v → Sized t
+unfolding headOutcome
+sized t v e =
+    let later = then-second _ _ v e in
+    record {
+      counted =
+          counted t (leb-true _ _ (demand-true _ 1 0 _ (then-first _ _ v e .1))) (demand-true _ 2 0 _ (then-first _ _ v later .1));
+      exact = eqb-true _ _ (demand-true _ 3 0 _ (then-second _ _ v later));
+    }

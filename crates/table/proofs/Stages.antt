@@ -1,0 +1,104 @@
+-- Laws of stages of checks: `demand` and `demandEach` one after the other, and what is known where all of them passed.
+use mathlib.Core.Path.{_≡_, refl, sym, ap, _∙_}
+use mathlib.Core.Bool.{Bool, true, false}
+use mathlib.Core.Logic.{⊎-elim}
+use Prim.Native.Nat.{ℕ, zero, suc, _+_, _≤_, _<_}
+use native.Mathlib.Omega.{arith}
+use native.Mathlib.Numerals.{add-one}
+use native.Mathlib.Nat.{eq-or-lt-of-le}
+use Rattle.table.specs.Outcome.{Outcome, _andThen_, demand, demandEach}
+use Rattle.table.specs.Outcome.Outcome.{accepted, refused}
+use Rattle.table.specs.Layout.{Numbered}
+use Rattle.table.specs.Checks.{told, tableTold}
+use Rattle.table.specs.declared.Refusal.{Refusal}
+use Rattle.table.specs.declared.TableCheck.{TableCheck}
+use Rattle.table.specs.declared.TableCheck.the-variants as table
+
+refused-accepted : {number position v : ℕ} → refused number position ≡ accepted v → ⊥
+refused-accepted e = let z : _≡_ {A = ℕ} 0 1 = cc in omega arith
+
+module _ (number position : ℕ) where
+  pub demand-on : {p : Bool} {later : Outcome} → p ≡ true → (demand p number position andThen later) ≡ later
+  unfolding demand _andThen_
+  demand-on h = rw h
+
+  pub demand-off : {p : Bool} (later : Outcome) → p ≡ false → (demand p number position andThen later) ≡ refused number position
+  unfolding demand _andThen_
+  demand-off later h = rw h
+
+  -- the last stage
+  pub demand-passes : {p : Bool} → p ≡ true → demand p number position ≡ accepted 0
+  unfolding demand
+  demand-passes h = rw h
+
+  pub demand-stops : {p : Bool} → p ≡ false → demand p number position ≡ refused number position
+  unfolding demand
+  demand-stops h = rw h
+
+-- a stage that has passed leaves the word to those after it
+pub then-on : {a later : Outcome} {v : ℕ} → a ≡ accepted v → later ≡ (a andThen later)
+unfolding _andThen_
+then-on h = rw h
+
+-- every stage of a chain that passes has passed
+pub then-first : (a later : Outcome) (v : ℕ) → (a andThen later) ≡ accepted v → (w : ℕ) × (a ≡ accepted w)
+unfolding _andThen_
+then-first (accepted w) later v e = (w, refl)
+then-first (refused number position) later v e = absurd (refused-accepted e)
+
+pub then-second : (a later : Outcome) (v : ℕ) → (a andThen later) ≡ accepted v → later ≡ accepted v
+unfolding _andThen_
+then-second (accepted w) later v e = e
+then-second (refused number position) later v e = absurd (refused-accepted e)
+
+pub demand-true : (p : Bool) (number position v : ℕ) → demand p number position ≡ accepted v → p ≡ true
+unfolding demand
+demand-true true number position v e = refl
+demand-true false number position v e = absurd (refused-accepted e)
+
+-- a row of checks on the records 1 to n; a loop has passed the first i of them and looks at i + 1
+module _ (ok : ℕ → Bool) (number : ℕ) where
+  each-next : (i : ℕ) → demandEach ok (i + 1) number ≡ (demandEach ok i number andThen demand (ok (i + 1)) number (i + 1))
+  unfolding demandEach
+  each-next i = rw (add-one i)
+
+  -- record i + 1 passes too
+  pub each-passes : (i : ℕ) → demandEach ok i number ≡ accepted 0 → ok (i + 1) ≡ true → demandEach ok (i + 1) number ≡ accepted 0
+  unfolding demand _andThen_
+  each-passes i before here = rw (each-next i, before, here)
+
+  -- a refusal stays, however many records follow
+  each-stays : (i n position : ℕ) → i ≤ n → demandEach ok i number ≡ refused number position → demandEach ok n number ≡ refused number position
+  unfolding demandEach _andThen_
+  each-stays i zero position h e = let z : i ≡ 0 = omega arith in rw z at e
+  each-stays i (suc n) position h e =
+      ⊎-elim (λ same. rw same at e) (λ less. rw (each-stays i n position (omega arith) e)) (eq-or-lt-of-le h)
+
+  -- the row stops at record i + 1
+  pub each-stops : (i n : ℕ) → i + 1 ≤ n → demandEach ok i number ≡ accepted 0 → ok (i + 1) ≡ false → refused number (i + 1) ≡ demandEach ok n number
+  unfolding demand _andThen_
+  each-stops i n h before here = sym (each-stays (i + 1) n (i + 1) h (rw (each-next i, before, here)))
+
+  -- the row passes once the loop is through
+  pub each-through : (i n : ℕ) → i ≡ n → demandEach ok i number ≡ accepted 0 → accepted 0 ≡ demandEach ok n number
+  each-through i n same e = sym (rw same at e)
+
+  -- where the row passes, every record is ok
+  pub each-ok : (n v : ℕ) → demandEach ok n number ≡ accepted v → (i : ℕ) → Numbered n i → ok i ≡ true
+  unfolding demandEach
+  each-ok zero v e i h = absurd (omega arith)
+  each-ok (suc n) v e i h =
+      ⊎-elim (λ same. rw same (demand-true (ok (suc n)) number (suc n) v (then-second (demandEach ok n number) _ v e)))
+      (λ less. each-ok n _ (then-first (demandEach ok n number) _ v e .1) i (record { first = h .first; last = omega arith }))
+      (eq-or-lt-of-le (h .last))
+
+-- a call that makes one stage: what its answer says of the stage's outcome
+module _ (answer : TableCheck) (stage : Outcome) (meets : tableTold answer ≡ stage) where
+  pub stage-passed : answer ≡ table.Accepted → stage ≡ accepted 0
+  unfolding tableTold
+  stage-passed h = sym meets ∙ ap tableTold h
+
+  -- a refused answer is the whole check's, whatever follows
+  pub stage-stops : (why : Refusal) (later : Outcome) → answer ≡ table.Refused why → tableTold answer ≡ (stage andThen later)
+  unfolding tableTold told _andThen_
+  stage-stops why later h = rw (← meets, h)

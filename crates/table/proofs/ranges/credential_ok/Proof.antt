@@ -1,0 +1,29 @@
+-- `table::ranges::credential_ok` meets its contract: the role, what the kind allows, then the automaton. Assumes nothing.
+use mathlib.Core.Path.{_∙_}
+use borrow.Author.Needs.{needs}
+use Rattle.table.proofs.Tests.{flag-off, flag-on}
+use Rattle.table.specs.Checks.{credentialOk}
+use Rattle.table.proofs.ranges.credential_ok.Statement.{statement}
+use Rattle.table.proofs.ranges.credential_ok.Tie as tie
+
+is-role-requires : tie.Need-is-role-requires
+is-role-requires c κs = search needs
+
+meaning-ok-requires : tie.Need-meaning-ok-requires
+meaning-ok-requires c κs = search needs
+
+returns : tie.Need-returns
+unfolding credentialOk
+returns c = flag-on (c .before .before .meaning-ok .ensures) (c .before .if2 .taken) ∙ flag-on (c .before .before .before .before .is-role .ensures) (c .before .before .before .if1 .taken)
+
+returns-2 : tie.Need-returns-2
+unfolding credentialOk
+returns-2 c = flag-off _ (c .before .meaning-ok .ensures) (c .if2 .left) ∙ flag-on (c .before .before .before .is-role .ensures) (c .before .before .if1 .taken)
+
+returns-3 : tie.Need-returns-3
+unfolding credentialOk
+returns-3 c = flag-off _ (c .before .is-role .ensures) (c .if1 .left)
+
+pub credential-ok-spec : {M : Type 1} → statement M
+credential-ok-spec =
+    tie.close (tie.spec is-role-requires meaning-ok-requires returns returns-2 returns-3)

@@ -1,0 +1,24 @@
+-- `table::ranges::is_role` meets its contract: the owner is tested, then the name. Assumes nothing.
+use mathlib.Core.Path.{_∙_}
+use borrow.Author.Needs.{needs}
+use Rattle.table.proofs.Tests.{flag-off, flag-on}
+use Rattle.table.specs.Checks.{isName, isRole}
+use Rattle.table.proofs.ranges.is_role.Statement.{statement}
+use Rattle.table.proofs.ranges.is_role.Tie as tie
+
+is-principal-requires : tie.Need-is-principal-requires
+is-principal-requires c κs = search needs
+
+is-name-requires : tie.Need-is-name-requires
+is-name-requires c κs = search needs
+
+returns : tie.Need-returns
+unfolding isRole
+returns c = c .is-name .ensures ∙ flag-on (c .before .before .is-principal .ensures) (c .before .if1 .taken)
+
+returns-2 : tie.Need-returns-2
+unfolding isRole
+returns-2 c = flag-off (isName _) (c .before .is-principal .ensures) (c .if1 .left)
+
+pub is-role-spec : {M : Type 1} → statement M
+is-role-spec = tie.close (tie.spec is-principal-requires is-name-requires returns returns-2)

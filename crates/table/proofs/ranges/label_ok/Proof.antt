@@ -1,0 +1,34 @@
+-- `table::ranges::label_ok` meets its contract: label by label. Assumes nothing.
+use mathlib.Core.Path.{_∙_, sym}
+use borrow.Author.Needs.{needs}
+use borrow.Author.Tests.{eq-eqb, ne-eqb}
+use Rattle.table.proofs.Meanings.{label-1, label-2, label-3, label-none}
+use Rattle.table.proofs.Tests.{and-off, and-on}
+use Rattle.table.proofs.ranges.label_ok.Statement.{statement}
+use Rattle.table.proofs.ranges.label_ok.Tie as tie
+
+is-role-requires : tie.Need-is-role-requires
+is-role-requires c κs = search needs
+
+is-role-requires-2 : tie.Need-is-role-requires-2
+is-role-requires-2 c κs = search needs
+
+returns : tie.Need-returns
+returns c = c .is-role .ensures ∙ sym (label-1 _ _ (c .before .match .keys1))
+
+returns-2 : tie.Need-returns-2
+returns-2 c = and-on (eq-eqb _ _ (c .before .if1 .taken)) ∙ sym (label-2 _ _ (c .before .before .before .match .keys2))
+
+returns-3 : tie.Need-returns-3
+returns-3 c = and-off _ (ne-eqb _ _ (c .if1 .left)) ∙ sym (label-2 _ _ (c .before .before .match .keys2))
+
+returns-4 : tie.Need-returns-4
+returns-4 c = c .is-role2 .ensures ∙ sym (label-3 _ _ (c .before .match .keys3))
+
+returns-5 : tie.Need-returns-5
+returns-5 c = let no = c .match .rest in sym (label-none _ _ (no .0 .0 .1) (no .0 .1) (no .1))
+
+pub label-ok-spec : {M : Type 1} → statement M
+label-ok-spec =
+    tie.close
+    (tie.spec is-role-requires is-role-requires-2 returns returns-2 returns-3 returns-4 returns-5)

@@ -1,0 +1,162 @@
+-- Document 01, "Where each input is stopped", rows 1 to 8, with the ranges of "The table": what each record must be, and
+-- the order in which the checks are made.
+use Prim.Native.Nat.{ℕ}
+use mathlib.Core.Path.{_≡_}
+use mathlib.Core.List.{List}
+use mathlib.Core.Bool.{Bool, true, false, not}
+use lib.ListN.{length}
+use lib.Dec.{eqb, leb, ltb}
+use Rattle.table.specs.Logic.{_and_, _or_, pick}
+use Rattle.table.specs.Outcome.{Outcome, _andThen_, demand, demandEach}
+use Rattle.table.specs.Outcome.Outcome.{accepted, refused}
+use Rattle.table.specs.Limits.{mostCredentials, mostCells, mostAutomata, mostEdges, mostPrincipals, mostNames, lastState, leastParts, mostParts, mostDepth}
+use Rattle.table.specs.Layout.{headSize, credentials, cells, automata, edges, tableLength, principal, name, credential, cell, edge, chain}
+use Rattle.table.specs.declared.Principal.{Principal}
+use Rattle.table.specs.declared.Name.{Name}
+use Rattle.table.specs.declared.Role.{Role}
+use Rattle.table.specs.declared.Query.{Query}
+use Rattle.table.specs.declared.Credential.{Credential}
+use Rattle.table.specs.declared.Cell.{Cell}
+use Rattle.table.specs.declared.Edge.{Edge}
+use Rattle.table.specs.declared.Refusal.{Refusal}
+use Rattle.table.specs.declared.Refusal.the-variants as reason
+use Rattle.table.specs.declared.TableCheck.{TableCheck}
+use Rattle.table.specs.declared.TableCheck.the-variants as table
+use Rattle.table.specs.declared.QueryCheck.{QueryCheck}
+use Rattle.table.specs.declared.QueryCheck.the-variants as query
+
+-- a number from low to high
+unfoldable pub within : ℕ → ℕ → ℕ → Bool
+within low high x = leb low x and leb x high
+
+-- principals and role names are each numbered 1 to 64
+unfoldable pub isPrincipal : Principal → Bool
+isPrincipal p = within 1 mostPrincipals (p .0)
+
+unfoldable pub isName : Name → Bool
+isName n = within 1 mostNames (n .0)
+
+unfoldable pub isRole : Role → Bool
+isRole r = isPrincipal (r .owner) and isName (r .name)
+
+-- what each kind allows as first and second, where there are q part cells
+unfoldable pub meaningOk : ℕ → ℕ → ℕ → ℕ → Bool
+meaningOk kind first second q =
+    pick (eqb kind 1) (isPrincipal (principal first) and eqb second 0)
+    (pick (eqb kind 2) (isPrincipal (principal first) and isName (name second))
+    (pick (eqb kind 3) (isName (name first) and isName (name second))
+    (pick (eqb kind 4) (within 1 q first and eqb second 0) false)))
+
+-- a credential's automaton is 0, none, or 1 to a
+unfoldable pub credentialOk : ℕ → ℕ → Credential → Bool
+credentialOk q a c = isRole (c .role) and meaningOk (c .kind) (c .first) (c .second) q and leb (c .automaton) a
+
+-- next is 0, or a greater cell number up to q
+unfoldable pub cellOk : ℕ → ℕ → Cell → Bool
+cellOk q j c = isRole (c .role) and (eqb (c .next) 0 or ltb j (c .next) and leb (c .next) q)
+
+-- a chain of 2 to 4 cells
+unfoldable pub chainOk : List ℕ → ℕ → Bool
+chainOk t first = within leastParts mostParts (length (chain t first))
+
+-- labels 1 and 3 name a role; label 2 has owner and name both 0
+unfoldable pub labelOk : ℕ → Role → Bool
+labelOk label r =
+    pick (eqb label 1) (isRole r)
+    (pick (eqb label 2) (eqb (r .owner .0) 0 and eqb (r .name .0) 0)
+    (pick (eqb label 3) (isRole r) false))
+
+unfoldable pub edgeOk : ℕ → Edge → Bool
+edgeOk a e =
+    within 1 a (e .automaton) and leb (e .from) lastState and leb (e .to) lastState and labelOk (e .label) (e .role)
+
+-- row 2
+unfoldable pub countsOk : List ℕ → Bool
+countsOk t =
+    leb (credentials t) mostCredentials and leb (cells t) mostCells and leb (automata t) mostAutomata and leb (edges t) mostEdges
+
+-- rows 1, 2 and 3
+unfoldable pub headOutcome : List ℕ → Outcome
+headOutcome t =
+    demand (leb headSize (length t)) 1 0 andThen
+    demand (countsOk t) 2 0 andThen
+    demand (eqb (length t) (tableLength t)) 3 0
+
+-- row 4
+unfoldable pub goodCredential : List ℕ → ℕ → Bool
+goodCredential t i = credentialOk (cells t) (automata t) (credential t i)
+
+unfoldable pub credentialsOutcome : List ℕ → Outcome
+credentialsOutcome t = demandEach (goodCredential t) (credentials t) 4
+
+-- row 5
+unfoldable pub goodCell : List ℕ → ℕ → Bool
+goodCell t j = cellOk (cells t) j (cell t j)
+
+unfoldable pub cellsOutcome : List ℕ → Outcome
+cellsOutcome t = demandEach (goodCell t) (cells t) 5
+
+-- row 6: a credential of kind 4 has a chain, and no other
+unfoldable pub goodChain : List ℕ → ℕ → Bool
+goodChain t i = pick (eqb (credential t i .kind) 4) (chainOk t (credential t i .first)) true
+
+unfoldable pub chainsOutcome : List ℕ → Outcome
+chainsOutcome t = demandEach (goodChain t) (credentials t) 6
+
+-- row 7
+unfoldable pub goodEdge : List ℕ → ℕ → Bool
+goodEdge t k = edgeOk (automata t) (edge t k)
+
+unfoldable pub edgesOutcome : List ℕ → Outcome
+edgesOutcome t = demandEach (goodEdge t) (edges t) 7
+
+-- the table call: rows 1 to 7
+unfoldable pub tableOutcome : List ℕ → Outcome
+tableOutcome t =
+    headOutcome t andThen credentialsOutcome t andThen cellsOutcome t andThen chainsOutcome t andThen edgesOutcome t
+
+-- row 8: a depth limit is 1 to 16
+unfoldable pub queryOutcome : Query → Outcome
+queryOutcome q =
+    demand (isPrincipal (q .principal)) 8 1 andThen
+    demand (isPrincipal (q .owner)) 8 2 andThen
+    demand (isName (q .name)) 8 3 andThen
+    demand (within 1 mostDepth (q .depth)) 8 4
+
+-- an accepted table, and a valid query
+abbrev pub WellFormed : List ℕ → Type 0
+WellFormed t = tableOutcome t ≡ accepted 0
+
+abbrev pub Valid : Query → Type 0
+Valid q = queryOutcome q ≡ accepted 0
+
+-- document 01's number and position of each reason
+unfoldable pub place : Refusal → ℕ × ℕ
+place reason.ShortHead = (1, 0)
+place reason.CountOverLimit = (2, 0)
+place reason.WrongLength = (3, 0)
+place (reason.Credential i) = (4, i)
+place (reason.Cell j) = (5, j)
+place (reason.Chain i) = (6, i)
+place (reason.Edge k) = (7, k)
+place (reason.Query field) = (8, field)
+place reason.NoMinimalSet = (9, 0)
+place reason.LongerThanBuffer = (10, 0)
+place (reason.RecordLength node) = (11, node)
+place (reason.Node node) = (12, node)
+place (reason.Branch node) = (13, node)
+place (reason.Word automaton) = (14, automaton)
+
+unfoldable pub told : Refusal → Outcome
+unfolding place
+told why = refused (place why .0) (place why .1)
+
+unfoldable pub tableTold : TableCheck → Outcome
+unfolding told
+tableTold table.Accepted = accepted 0
+tableTold (table.Refused why) = told why
+
+unfoldable pub queryTold : QueryCheck → Outcome
+unfolding told
+queryTold query.Valid = accepted 0
+queryTold (query.Refused why) = told why

@@ -1,0 +1,5 @@
+pub mod Logic
+pub mod Outcome
+pub mod Limits
+pub mod Layout
+pub mod Checks

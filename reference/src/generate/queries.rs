@@ -1,0 +1,48 @@
+//! Queries, valid and damaged.
+
+use crate::generate::places::Place;
+use crate::query::Query;
+use crate::random::Random;
+
+/// A valid query.
+pub fn valid(random: &mut Random) -> Query {
+    Query::from_numbers(Query::LIMITS.map(|limit| random.between(1, limit)))
+}
+
+/// The values that a field with this limit is given in turn.
+pub fn values(limit: u16) -> [u16; 6] {
+    [0, 1, limit, limit + 1, limit + 256, u16::MAX]
+}
+
+/// A query with one field in turn given each such value, and the field.
+pub fn every_field(query: Query) -> impl Iterator<Item = (Query, Place)> {
+    (0..4).flat_map(move |index| {
+        values(Query::LIMITS[index])
+            .into_iter()
+            .map(move |value| (with_value(query, index, value), Place::QUERY[index]))
+    })
+}
+
+/// A query with one field damaged, and the field.
+pub fn damaged(random: &mut Random) -> (Query, Place) {
+    let index = random.below(4);
+    let value = *random.pick(&values(Query::LIMITS[index]));
+    let query = valid(random);
+    (with_value(query, index, value), Place::QUERY[index])
+}
+
+/// A query with any of its fields out of range.
+pub fn several(random: &mut Random) -> Query {
+    let numbers = Query::LIMITS.map(|limit| match random.below(2) {
+        0 => random.between(1, limit),
+        _ => *random.pick(&[0, limit + 1, u16::MAX]),
+    });
+    Query::from_numbers(numbers)
+}
+
+/// The query with the field at this index, from 0, changed.
+fn with_value(query: Query, index: usize, value: u16) -> Query {
+    let mut numbers = query.numbers();
+    numbers[index] = value;
+    Query::from_numbers(numbers)
+}

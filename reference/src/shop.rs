@@ -1,0 +1,37 @@
+//! The worked example: a shop that gives students a discount.
+//!
+//! Principals: Shop 1, School 2, Ann 4. Names: discount 1, student 2,
+//! accredited 3.
+
+use crate::query::Query;
+
+/// Table T: Shop gives the discount to the students of whoever it accredits,
+/// it accredits School, Ann is a student of School, and Ann has the discount.
+pub const T: [u16; 28] = [
+    4, 0, 0, 0, //
+    1, 1, 3, 3, 2, 0, //
+    1, 3, 1, 2, 0, 0, //
+    2, 2, 1, 4, 0, 0, //
+    1, 1, 1, 4, 0, 0, //
+];
+
+/// Table U: T with an automaton attached to credential 3, which rejects every
+/// word that begins with Shop.discount.
+pub const U: [u16; 42] = [
+    4, 0, 1, 2, //
+    1, 1, 3, 3, 2, 0, //
+    1, 3, 1, 2, 0, 0, //
+    2, 2, 1, 4, 0, 1, //
+    1, 1, 1, 4, 0, 0, //
+    1, 2, //
+    1, 0, 3, 1, 1, 1, //
+    1, 1, 2, 0, 0, 1, //
+];
+
+/// Query Q: Ann in Shop.discount, depth 2.
+pub const Q: Query = Query {
+    principal: 4,
+    owner: 1,
+    name: 1,
+    depth: 2,
+};

@@ -1,0 +1,53 @@
+//! Principals, role names and roles.
+//!
+//! Principals and role names are numbers alike, but separate sorts: neither
+//! can stand for the other.
+
+/// Principals and role names are each numbered from 1 to this.
+pub const HIGHEST: u16 = 64;
+
+/// A principal, numbered 1 to 64.
+#[derive(Clone, Copy, Debug, PartialEq, Eq)]
+pub struct Principal(u16);
+
+/// A role name, numbered 1 to 64.
+#[derive(Clone, Copy, Debug, PartialEq, Eq)]
+pub struct Name(u16);
+
+/// A role: its owner and its name.
+#[derive(Clone, Copy, Debug, PartialEq, Eq)]
+pub struct Role {
+    /// Who owns the role.
+    pub owner: Principal,
+    /// What the owner calls it.
+    pub name: Name,
+}
+
+impl Principal {
+    /// The principal with this number, if there is one.
+    pub fn read(number: u16) -> Option<Principal> {
+        one_to(HIGHEST, number).map(Principal)
+    }
+}
+
+impl Name {
+    /// The role name with this number, if there is one.
+    pub fn read(number: u16) -> Option<Name> {
+        one_to(HIGHEST, number).map(Name)
+    }
+}
+
+impl Role {
+    /// The role with these numbers, if there is one.
+    pub fn read(owner: u16, name: u16) -> Option<Role> {
+        Some(Role {
+            owner: Principal::read(owner)?,
+            name: Name::read(name)?,
+        })
+    }
+}
+
+/// The number itself, if it is one of 1 to `limit`.
+pub fn one_to(limit: u16, number: u16) -> Option<u16> {
+    (1..=limit).contains(&number).then_some(number)
+}

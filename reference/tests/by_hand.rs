@@ -1,0 +1,221 @@
+//! Answers worked out by hand, each refusal with its number and position.
+
+use reference::shop::{Q, T, U};
+use reference::{check, check_query, Query, Refusal};
+
+/// A table with two credentials of kind 4, six cells (two chains, one of them
+/// inside the other, and an unused cell), an automaton and three edges.
+const PARTS: [u16; 4 + 6 * 3 + 3 * 6 + 2 + 6 * 3] = [
+    3, 6, 1, 3, //
+    1, 1, 4, 1, 0, 0, // credential 1: the chain 1, 2, 4, 5
+    1, 2, 4, 4, 0, 1, // credential 2: the chain 4, 5
+    2, 1, 2, 3, 1, 0, // credential 3
+    2, 1, 2, // cell 1
+    2, 1, 4, // cell 2: the same role again
+    9, 9, 0, // cell 3: unused
+    64, 64, 5, // cell 4
+    3, 1, 0, // cell 5
+    5, 5, 0, // cell 6: unused
+    0, 65535, // automaton 1
+    1, 0, 1, 1, 1, 15, // edge 1
+    1, 15, 2, 0, 0, 0, // edge 2
+    1, 3, 3, 64, 64, 3, // edge 3
+];
+
+/// Where the numbers of a record of `PARTS` begin.
+fn credential(number: usize) -> usize {
+    4 + 6 * (number - 1)
+}
+
+fn cell(number: usize) -> usize {
+    4 + 6 * 3 + 3 * (number - 1)
+}
+
+fn edge(number: usize) -> usize {
+    4 + 6 * 3 + 3 * 6 + 2 + 6 * (number - 1)
+}
+
+/// The answer to `PARTS` with these numbers changed.
+fn changed(changes: &[(usize, u16)]) -> Result<(), Refusal> {
+    let mut table = PARTS;
+    for &(index, value) in changes {
+        table[index] = value;
+    }
+    check(&table)
+}
+
+fn refused(number: u32, position: u64) -> Result<(), Refusal> {
+    Err(Refusal { number, position })
+}
+
+#[test]
+fn the_shop_is_accepted() {
+    assert_eq!(check(&T), Ok(()));
+    assert_eq!(check(&U), Ok(()));
+    assert_eq!(check_query(&T, Q), Ok(()));
+    assert_eq!(check_query(&U, Q), Ok(()));
+}
+
+#[test]
+fn a_table_with_parts_is_accepted() {
+    assert_eq!(check(&PARTS), Ok(()));
+}
+
+#[test]
+fn a_table_of_nothing_is_accepted() {
+    assert_eq!(check(&[0, 0, 0, 0]), Ok(()));
+}
+
+#[test]
+fn refusal_1_fewer_than_four_numbers() {
+    assert_eq!(check(&[]), refused(1, 0));
+    assert_eq!(check(&[4]), refused(1, 0));
+    assert_eq!(check(&[4, 0]), refused(1, 0));
+    assert_eq!(check(&[65535, 65535, 65535]), refused(1, 0));
+}
+
+#[test]
+fn refusal_2_a_head_count_over_its_limit() {
+    assert_eq!(check(&[21, 0, 0, 0]), refused(2, 0));
+    assert_eq!(check(&[0, 64, 0, 0]), refused(2, 0));
+    assert_eq!(check(&[0, 0, 9, 0]), refused(2, 0));
+    assert_eq!(check(&[0, 0, 0, 129]), refused(2, 0));
+    // 129 edges of the one automaton, all of them right.
+    let mut table = vec![0, 0, 1, 129, 1, 1];
+    table.extend([1, 0, 2, 0, 0, 0].repeat(129));
+    assert_eq!(check(&table), refused(2, 0));
+}
+
+#[test]
+fn refusal_3_a_wrong_length() {
+    assert_eq!(check(&T[..27]), refused(3, 0));
+    assert_eq!(check(&[T.as_slice(), &[0]].concat()), refused(3, 0));
+    assert_eq!(check(&[20, 63, 8, 128]), refused(3, 0));
+    assert_eq!(check(&[0, 0, 0, 0, 0]), refused(3, 0));
+}
+
+#[test]
+fn refusal_4_owner_name_kind_and_automaton() {
+    assert_eq!(changed(&[(credential(1), 0)]), refused(4, 1));
+    assert_eq!(changed(&[(credential(2), 65)]), refused(4, 2));
+    assert_eq!(changed(&[(credential(3) + 1, 0)]), refused(4, 3));
+    assert_eq!(changed(&[(credential(3) + 1, 64)]), Ok(()));
+    assert_eq!(changed(&[(credential(3) + 2, 0)]), refused(4, 3));
+    assert_eq!(changed(&[(credential(3) + 2, 5)]), refused(4, 3));
+    assert_eq!(changed(&[(credential(3) + 5, 1)]), Ok(()));
+    assert_eq!(changed(&[(credential(3) + 5, 2)]), refused(4, 3));
+}
+
+#[test]
+fn refusal_4_first_and_second_by_kind() {
+    for (kind, first, second, answer) in [
+        (1, 64, 0, Ok(())),
+        (1, 0, 0, refused(4, 3)),
+        (1, 65, 0, refused(4, 3)),
+        (1, 1, 1, refused(4, 3)),
+        (2, 64, 64, Ok(())),
+        (2, 0, 1, refused(4, 3)),
+        (2, 1, 0, refused(4, 3)),
+        (2, 1, 65, refused(4, 3)),
+        (3, 64, 64, Ok(())),
+        (3, 0, 1, refused(4, 3)),
+        (3, 65, 1, refused(4, 3)),
+        (3, 1, 0, refused(4, 3)),
+        (4, 2, 0, Ok(())),
+        (4, 2, 1, refused(4, 3)),
+        (4, 0, 0, refused(4, 3)),
+        (4, 7, 0, refused(4, 3)),
+        (4, 6, 0, refused(6, 3)),
+    ] {
+        let start = credential(3);
+        let changes = [(start + 2, kind), (start + 3, first), (start + 4, second)];
+        assert_eq!(changed(&changes), answer, "kind {kind}, {first}, {second}");
+    }
+}
+
+#[test]
+fn refusal_4_a_chain_where_there_are_no_cells() {
+    assert_eq!(check(&[1, 0, 0, 0, 1, 1, 4, 0, 0, 0]), refused(4, 1));
+    assert_eq!(check(&[1, 0, 0, 0, 1, 1, 4, 1, 0, 0]), refused(4, 1));
+}
+
+#[test]
+fn refusal_5_part_cells() {
+    assert_eq!(changed(&[(cell(1), 0)]), refused(5, 1));
+    assert_eq!(changed(&[(cell(4), 65)]), refused(5, 4));
+    assert_eq!(changed(&[(cell(5) + 1, 0)]), refused(5, 5));
+    assert_eq!(changed(&[(cell(6) + 1, 65)]), refused(5, 6));
+    assert_eq!(changed(&[(cell(3) + 2, 3)]), refused(5, 3));
+    assert_eq!(changed(&[(cell(3) + 2, 2)]), refused(5, 3));
+    assert_eq!(changed(&[(cell(3) + 2, 6)]), Ok(()));
+    assert_eq!(changed(&[(cell(3) + 2, 7)]), refused(5, 3));
+    assert_eq!(changed(&[(cell(6) + 2, 6)]), refused(5, 6));
+}
+
+#[test]
+fn refusal_6_chains() {
+    // The chain 1, 2, 4, 5, 6 has five cells; 4, 5, 6 is right.
+    assert_eq!(changed(&[(cell(5) + 2, 6)]), refused(6, 1));
+    // 2, 4, 5, 6 is right too.
+    let both = [(cell(5) + 2, 6), (credential(1) + 3, 2)];
+    assert_eq!(changed(&both), Ok(()));
+    // The chain 5 has one cell, and so has 4 once it ends there.
+    assert_eq!(changed(&[(credential(2) + 3, 5)]), refused(6, 2));
+    assert_eq!(changed(&[(cell(4) + 2, 0)]), refused(6, 2));
+}
+
+#[test]
+fn refusal_7_edges() {
+    assert_eq!(changed(&[(edge(1), 0)]), refused(7, 1));
+    assert_eq!(changed(&[(edge(2), 2)]), refused(7, 2));
+    assert_eq!(changed(&[(edge(2) + 1, 16)]), refused(7, 2));
+    assert_eq!(changed(&[(edge(3) + 5, 16)]), refused(7, 3));
+    assert_eq!(changed(&[(edge(3) + 2, 0)]), refused(7, 3));
+    assert_eq!(changed(&[(edge(3) + 2, 4)]), refused(7, 3));
+    assert_eq!(changed(&[(edge(3) + 2, 2)]), refused(7, 3));
+    assert_eq!(changed(&[(edge(1) + 3, 0)]), refused(7, 1));
+    assert_eq!(changed(&[(edge(1) + 4, 65)]), refused(7, 1));
+    assert_eq!(changed(&[(edge(2) + 3, 1)]), refused(7, 2));
+    assert_eq!(changed(&[(edge(2) + 4, 1)]), refused(7, 2));
+    assert_eq!(changed(&[(edge(3) + 3, 65)]), refused(7, 3));
+    assert_eq!(changed(&[(edge(3) + 4, 0)]), refused(7, 3));
+    assert_eq!(changed(&[(edge(1) + 2, 3)]), Ok(()));
+}
+
+#[test]
+fn refusal_8_the_first_wrong_field_of_the_query() {
+    for (numbers, answer) in [
+        ([64, 64, 64, 16], Ok(())),
+        ([1, 1, 1, 1], Ok(())),
+        ([0, 1, 1, 2], refused(8, 1)),
+        ([65, 1, 1, 2], refused(8, 1)),
+        ([4, 0, 1, 2], refused(8, 2)),
+        ([4, 65, 1, 2], refused(8, 2)),
+        ([4, 1, 0, 2], refused(8, 3)),
+        ([4, 1, 65, 2], refused(8, 3)),
+        ([4, 1, 1, 0], refused(8, 4)),
+        ([4, 1, 1, 17], refused(8, 4)),
+        ([4, 65535, 0, 0], refused(8, 2)),
+    ] {
+        let query = Query::from_numbers(numbers);
+        assert_eq!(check_query(&T, query), answer, "{numbers:?}");
+    }
+}
+
+#[test]
+fn rows_come_before_records() {
+    let (four, five) = ((credential(3), 0), (cell(1), 0));
+    let (six, seven) = ((credential(1) + 3, 5), (edge(1), 0));
+    assert_eq!(changed(&[four, five, six, seven]), refused(4, 3));
+    assert_eq!(changed(&[five, six, seven]), refused(5, 1));
+    assert_eq!(changed(&[six, seven]), refused(6, 1));
+    assert_eq!(changed(&[(edge(3), 0), seven]), refused(7, 1));
+}
+
+#[test]
+fn the_table_is_checked_before_the_query() {
+    let query = Query { depth: 0, ..Q };
+    assert_eq!(check_query(&T[..27], query), refused(3, 0));
+    assert_eq!(check_query(&[], query), refused(1, 0));
+    assert_eq!(check_query(&T, query), refused(8, 4));
+}
