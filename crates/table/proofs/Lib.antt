@@ -6,3 +6,4 @@ pub mod Stages
 pub mod Sizes
 pub mod Chains
 pub mod Accepted
+pub mod WellFormed

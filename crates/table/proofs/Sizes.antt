@@ -2,14 +2,15 @@
 use mathlib.Core.Path.{_≡_}
 use mathlib.Core.List.{List}
 use mathlib.Core.Bool.{Bool, true}
-use Prim.Native.Nat.{ℕ, _≤_}
+use Prim.Native.Nat.{ℕ, _+_, _-_, _*_, _≤_}
+use native.Mathlib.Omega.{arith}
 use lib.ListN.{length}
 use lib.Dec.{leb, eqb}
 use borrow.Author.Tests.{leb-true, eqb-true}
 use Rattle.table.specs.Logic.{_and_}
 use Rattle.table.specs.Outcome.{Outcome, _andThen_, demand}
 use Rattle.table.specs.Outcome.Outcome.{accepted}
-use Rattle.table.specs.Layout.{Counted, Sized, headSize, tableLength}
+use Rattle.table.specs.Layout.{Counted, Numbered, Sized, automata, automataBase, automatonSize, cellSize, cells, cellsBase, credentialSize, credentials, edgeSize, edges, edgesBase, headSize, tableLength}
 use Rattle.table.specs.Checks.{countsOk, headOutcome}
 use Rattle.table.proofs.Tests.{and-first, and-second}
 use Rattle.table.proofs.Stages.{then-first, then-second, demand-true}
@@ -36,3 +37,17 @@ sized t v e =
           counted t (leb-true _ _ (demand-true _ 1 0 _ (then-first _ _ v e .1))) (demand-true _ 2 0 _ (then-first _ _ v later .1));
       exact = eqb-true _ _ (demand-true _ 3 0 _ (then-second _ _ v later));
     }
+
+-- every index that an accessor forms is inside the table
+module _ (t : List ℕ) (s : Sized t) (i : ℕ) where
+  pub credential-inside : Numbered (credentials t) i → headSize + credentialSize * (i - 1) + credentialSize ≤ length t
+  credential-inside h = omega arith
+
+  pub cell-inside : Numbered (cells t) i → cellsBase t + cellSize * (i - 1) + cellSize ≤ length t
+  cell-inside h = omega arith
+
+  pub automaton-inside : Numbered (automata t) i → automataBase t + automatonSize * (i - 1) + automatonSize ≤ length t
+  automaton-inside h = omega arith
+
+  pub edge-inside : Numbered (edges t) i → edgesBase t + edgeSize * (i - 1) + edgeSize ≤ length t
+  edge-inside h = omega arith

@@ -123,6 +123,10 @@ queryOutcome q =
     demand (isName (q .name)) 8 3 andThen
     demand (within 1 mostDepth (q .depth)) 8 4
 
+-- verifying and listing make the checks of rows 1 to 8 first
+unfoldable pub requestOutcome : List ℕ → Query → Outcome
+requestOutcome t q = tableOutcome t andThen queryOutcome q
+
 -- an accepted table, and a valid query
 abbrev pub WellFormed : List ℕ → Type 0
 WellFormed t = tableOutcome t ≡ accepted 0

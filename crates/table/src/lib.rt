@@ -6,8 +6,7 @@ mod ranges; // ranges.rt: what a single record or query must be
 mod rows; // rows.rt: the rows of checks over all records
 
 ghost use mathlib.Core.Path.{_≡_};
-ghost use Rattle.table.specs.Outcome.{_andThen_};
-ghost use Rattle.table.specs.Checks.{tableOutcome, queryOutcome, tableTold, queryTold};
+ghost use Rattle.table.specs.Checks.{place, queryOutcome, queryTold, requestOutcome, tableOutcome, tableTold};
 
 // The width of every number of a table, a query and a record.
 pub type Number = u16;
@@ -98,6 +97,52 @@ pub enum Refusal {
     Word(usize),
 }
 
+impl Refusal {
+    // Document 01's number of the reason.
+    pub fn number(self) -> u32
+        ensures { λ r. ⌜ r ≡ place self .0 ⌝ }
+    {
+        match self {
+            Refusal::ShortHead => 1,
+            Refusal::CountOverLimit => 2,
+            Refusal::WrongLength => 3,
+            Refusal::Credential(_) => 4,
+            Refusal::Cell(_) => 5,
+            Refusal::Chain(_) => 6,
+            Refusal::Edge(_) => 7,
+            Refusal::Query(_) => 8,
+            Refusal::NoMinimalSet => 9,
+            Refusal::LongerThanBuffer => 10,
+            Refusal::RecordLength(_) => 11,
+            Refusal::Node(_) => 12,
+            Refusal::Branch(_) => 13,
+            Refusal::Word(_) => 14,
+        }
+    }
+
+    // Its position: a record's, a field's, a node's or an automaton's number, or 0.
+    pub fn position(self) -> usize
+        ensures { λ r. ⌜ r ≡ place self .1 ⌝ }
+    {
+        match self {
+            Refusal::ShortHead => 0,
+            Refusal::CountOverLimit => 0,
+            Refusal::WrongLength => 0,
+            Refusal::Credential(i) => i,
+            Refusal::Cell(j) => j,
+            Refusal::Chain(i) => i,
+            Refusal::Edge(k) => k,
+            Refusal::Query(field) => field,
+            Refusal::NoMinimalSet => 0,
+            Refusal::LongerThanBuffer => 0,
+            Refusal::RecordLength(node) => node,
+            Refusal::Node(node) => node,
+            Refusal::Branch(node) => node,
+            Refusal::Word(automaton) => automaton,
+        }
+    }
+}
+
 pub enum TableCheck {
     Accepted,
     Refused(Refusal),
@@ -129,6 +174,16 @@ pub fn check_table(table: &[Number]) -> TableCheck
         return chains;
     };
     rows::check_edges(table)
+}
+
+// Whether the table is accepted and the query valid: rows 1 to 8, which every call with a query makes first.
+pub fn check_request(table: &[Number], query: Query) -> QueryCheck
+    ensures { λ r. ⌜ queryTold r ≡ requestOutcome (now (table .entry)) query ⌝ }
+{
+    match check_table(table) {
+        TableCheck::Accepted => check_query(query),
+        TableCheck::Refused(why) => QueryCheck::Refused(why),
+    }
 }
 
 // Whether the query is valid: row 8. Of several bad fields the first is told.

@@ -1,5 +1,6 @@
 // What a single record must be, given by value: the ranges of document 01, "The table", by kind and by label.
 use crate::Cell;
+use crate::{EVERY_ROLE, INTERSECTION_CONTAINMENT, LINKING_CONTAINMENT, OTHER_ROLES, SIMPLE_CONTAINMENT, SIMPLE_MEMBERSHIP, THIS_ROLE};
 use crate::Credential;
 use crate::Edge;
 use crate::Name;
@@ -42,10 +43,10 @@ pub fn meaning_ok(kind: Number, first: Number, second: Number, cells: Number) ->
     ensures { λ r. ⌜ r ≡ Checks.meaningOk kind first second cells ⌝ }
 {
     match kind {
-        1 => is_principal(Principal(first)) && second == 0,
-        2 => is_principal(Principal(first)) && is_name(Name(second)),
-        3 => is_name(Name(first)) && is_name(Name(second)),
-        4 => within(1, cells, first) && second == 0,
+        SIMPLE_MEMBERSHIP => is_principal(Principal(first)) && second == 0,
+        SIMPLE_CONTAINMENT => is_principal(Principal(first)) && is_name(Name(second)),
+        LINKING_CONTAINMENT => is_name(Name(first)) && is_name(Name(second)),
+        INTERSECTION_CONTAINMENT => within(1, cells, first) && second == 0,
         _ => false,
     }
 }
@@ -68,9 +69,9 @@ pub fn label_ok(label: Number, role: Role) -> bool
     ensures { λ r. ⌜ r ≡ Checks.labelOk label role ⌝ }
 {
     match label {
-        1 => is_role(role),
-        2 => role.owner.0 == 0 && role.name.0 == 0,
-        3 => is_role(role),
+        THIS_ROLE => is_role(role),
+        EVERY_ROLE => role.owner.0 == 0 && role.name.0 == 0,
+        OTHER_ROLES => is_role(role),
         _ => false,
     }
 }

@@ -16,15 +16,29 @@ wide-requires c κs = search needs
 
 returns : tie.Need-returns
 unfolding cellOk
-returns c = or-on _ (eq-eqb _ _ (c .if2 .taken)) ∙ flag-on (c .before .before .before .is-role .ensures) (c .before .before .if1 .taken)
+returns c =
+    let is-role = c .before .before .before .is-role in
+    let if1 = c .before .before .if1 in
+    or-on _ (eq-eqb _ _ (c .if2 .taken)) ∙ flag-on (is-role .ensures) (if1 .taken)
 
 returns-2 : tie.Need-returns-2
 unfolding cellOk
-returns-2 c = flag-on (ap (ltb _) (c .before .before .wide .ensures .0)) (lt-ltb _ _ (c .before .if3 .taken)) ∙ or-off (ne-eqb _ _ (c .before .before .before .if2 .left)) ∙ flag-on (c .before .before .before .before .before .before .is-role .ensures) (c .before .before .before .before .before .if1 .taken)
+returns-2 c =
+    let wide = c .before .before .wide in
+    let if2 = c .before .before .before .if2 in
+    let is-role = c .before .before .before .before .before .before .is-role in
+    let if1 = c .before .before .before .before .before .if1 in
+    flag-on (ap (ltb _) (wide .ensures .0)) (lt-ltb _ _ (c .before .if3 .taken)) ∙ or-off (ne-eqb _ _ (if2 .left))
+    ∙ flag-on (is-role .ensures) (if1 .taken)
 
 returns-3 : tie.Need-returns-3
 unfolding cellOk
-returns-3 c = flag-off _ (ap (ltb _) (c .before .wide .ensures .0)) (le-ltb _ _ (c .if3 .left)) ∙ or-off (ne-eqb _ _ (c .before .before .if2 .left)) ∙ flag-on (c .before .before .before .before .before .is-role .ensures) (c .before .before .before .before .if1 .taken)
+returns-3 c =
+    let if2 = c .before .before .if2 in
+    let is-role = c .before .before .before .before .before .is-role in
+    let if1 = c .before .before .before .before .if1 in
+    flag-off _ (ap (ltb _) (c .before .wide .ensures .0)) (le-ltb _ _ (c .if3 .left)) ∙ or-off (ne-eqb _ _
+    (if2 .left)) ∙ flag-on (is-role .ensures) (if1 .taken)
 
 returns-4 : tie.Need-returns-4
 unfolding cellOk

@@ -14,11 +14,18 @@ meaning-ok-requires c κs = search needs
 
 returns : tie.Need-returns
 unfolding credentialOk
-returns c = flag-on (c .before .before .meaning-ok .ensures) (c .before .if2 .taken) ∙ flag-on (c .before .before .before .before .is-role .ensures) (c .before .before .before .if1 .taken)
+returns c =
+    let meaning-ok = c .before .before .meaning-ok in
+    let is-role = c .before .before .before .before .is-role in
+    let if1 = c .before .before .before .if1 in
+    flag-on (meaning-ok .ensures) (c .before .if2 .taken) ∙ flag-on (is-role .ensures) (if1 .taken)
 
 returns-2 : tie.Need-returns-2
 unfolding credentialOk
-returns-2 c = flag-off _ (c .before .meaning-ok .ensures) (c .if2 .left) ∙ flag-on (c .before .before .before .is-role .ensures) (c .before .before .if1 .taken)
+returns-2 c =
+    let is-role = c .before .before .before .is-role in
+    let if1 = c .before .before .if1 in
+    flag-off _ (c .before .meaning-ok .ensures) (c .if2 .left) ∙ flag-on (is-role .ensures) (if1 .taken)
 
 returns-3 : tie.Need-returns-3
 unfolding credentialOk

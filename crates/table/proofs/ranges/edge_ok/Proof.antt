@@ -15,15 +15,28 @@ label-ok-requires c κs = search needs
 
 returns : tie.Need-returns
 unfolding edgeOk
-returns c = c .label-ok .ensures ∙ and-on (le-leb _ _ (c .before .if3 .taken)) ∙ and-on (le-leb _ _ (c .before .before .before .if2 .taken)) ∙ flag-on (c .before .before .before .before .before .before .within .ensures) (c .before .before .before .before .before .if1 .taken)
+returns c =
+    let if2 = c .before .before .before .if2 in
+    let within = c .before .before .before .before .before .before .within in
+    let if1 = c .before .before .before .before .before .if1 in
+    c .label-ok .ensures ∙ and-on (le-leb _ _ (c .before .if3 .taken)) ∙ and-on (le-leb _ _ (if2 .taken)) ∙
+    flag-on (within .ensures) (if1 .taken)
 
 returns-2 : tie.Need-returns-2
 unfolding edgeOk
-returns-2 c = and-off _ (lt-leb _ _ (c .if3 .left)) ∙ and-on (le-leb _ _ (c .before .before .if2 .taken)) ∙ flag-on (c .before .before .before .before .before .within .ensures) (c .before .before .before .before .if1 .taken)
+returns-2 c =
+    let if2 = c .before .before .if2 in
+    let within = c .before .before .before .before .before .within in
+    let if1 = c .before .before .before .before .if1 in
+    and-off _ (lt-leb _ _ (c .if3 .left)) ∙ and-on (le-leb _ _ (if2 .taken)) ∙ flag-on (within .ensures)
+    (if1 .taken)
 
 returns-3 : tie.Need-returns-3
 unfolding edgeOk
-returns-3 c = and-off _ (lt-leb _ _ (c .if2 .left)) ∙ flag-on (c .before .before .before .within .ensures) (c .before .before .if1 .taken)
+returns-3 c =
+    let within = c .before .before .before .within in
+    let if1 = c .before .before .if1 in
+    and-off _ (lt-leb _ _ (c .if2 .left)) ∙ flag-on (within .ensures) (if1 .taken)
 
 returns-4 : tie.Need-returns-4
 unfolding edgeOk

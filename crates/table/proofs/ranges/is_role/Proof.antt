@@ -14,7 +14,9 @@ is-name-requires c κs = search needs
 
 returns : tie.Need-returns
 unfolding isRole
-returns c = c .is-name .ensures ∙ flag-on (c .before .before .is-principal .ensures) (c .before .if1 .taken)
+returns c =
+    let is-principal = c .before .before .is-principal in
+    c .is-name .ensures ∙ flag-on (is-principal .ensures) (c .before .if1 .taken)
 
 returns-2 : tie.Need-returns-2
 unfolding isRole

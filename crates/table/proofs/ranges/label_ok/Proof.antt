@@ -17,10 +17,14 @@ returns : tie.Need-returns
 returns c = c .is-role .ensures ∙ sym (label-1 _ _ (c .before .match .keys1))
 
 returns-2 : tie.Need-returns-2
-returns-2 c = and-on (eq-eqb _ _ (c .before .if1 .taken)) ∙ sym (label-2 _ _ (c .before .before .before .match .keys2))
+returns-2 c =
+    let chosen = c .before .before .before .match in
+    and-on (eq-eqb _ _ (c .before .if1 .taken)) ∙ sym (label-2 _ _ (chosen .keys2))
 
 returns-3 : tie.Need-returns-3
-returns-3 c = and-off _ (ne-eqb _ _ (c .if1 .left)) ∙ sym (label-2 _ _ (c .before .before .match .keys2))
+returns-3 c =
+    let chosen = c .before .before .match in
+    and-off _ (ne-eqb _ _ (c .if1 .left)) ∙ sym (label-2 _ _ (chosen .keys2))
 
 returns-4 : tie.Need-returns-4
 returns-4 c = c .is-role2 .ensures ∙ sym (label-3 _ _ (c .before .match .keys3))

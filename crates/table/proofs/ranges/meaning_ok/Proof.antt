@@ -26,28 +26,48 @@ within-requires : tie.Need-within-requires
 within-requires c κs = search needs
 
 returns : tie.Need-returns
-returns c = flag-on (c .before .is-principal .ensures) (c .if1 .taken) ∙ sym (kind-1 _ _ _ _ (c .before .before .match .keys1))
+returns c =
+    let chosen = c .before .before .match in
+    flag-on (c .before .is-principal .ensures) (c .if1 .taken) ∙ sym (kind-1 _ _ _ _ (chosen .keys1))
 
 returns-2 : tie.Need-returns-2
-returns-2 c = flag-off _ (c .before .is-principal .ensures) (c .if1 .left) ∙ sym (kind-1 _ _ _ _ (c .before .before .match .keys1))
+returns-2 c =
+    let chosen = c .before .before .match in
+    flag-off _ (c .before .is-principal .ensures) (c .if1 .left) ∙ sym (kind-1 _ _ _ _ (chosen .keys1))
 
 returns-3 : tie.Need-returns-3
-returns-3 c = c .is-name .ensures ∙ flag-on (c .before .before .is-principal2 .ensures) (c .before .if2 .taken) ∙ sym (kind-2 _ _ _ _ (c .before .before .before .match .keys2))
+returns-3 c =
+    let is-principal2 = c .before .before .is-principal2 in
+    let chosen = c .before .before .before .match in
+    c .is-name .ensures ∙ flag-on (is-principal2 .ensures) (c .before .if2 .taken) ∙ sym (kind-2 _ _ _ _
+    (chosen .keys2))
 
 returns-4 : tie.Need-returns-4
-returns-4 c = flag-off _ (c .before .is-principal2 .ensures) (c .if2 .left) ∙ sym (kind-2 _ _ _ _ (c .before .before .match .keys2))
+returns-4 c =
+    let chosen = c .before .before .match in
+    flag-off _ (c .before .is-principal2 .ensures) (c .if2 .left) ∙ sym (kind-2 _ _ _ _ (chosen .keys2))
 
 returns-5 : tie.Need-returns-5
-returns-5 c = c .is-name3 .ensures ∙ flag-on (c .before .before .is-name2 .ensures) (c .before .if3 .taken) ∙ sym (kind-3 _ _ _ _ (c .before .before .before .match .keys3))
+returns-5 c =
+    let is-name2 = c .before .before .is-name2 in
+    let chosen = c .before .before .before .match in
+    c .is-name3 .ensures ∙ flag-on (is-name2 .ensures) (c .before .if3 .taken) ∙ sym (kind-3 _ _ _ _
+    (chosen .keys3))
 
 returns-6 : tie.Need-returns-6
-returns-6 c = flag-off _ (c .before .is-name2 .ensures) (c .if3 .left) ∙ sym (kind-3 _ _ _ _ (c .before .before .match .keys3))
+returns-6 c =
+    let chosen = c .before .before .match in
+    flag-off _ (c .before .is-name2 .ensures) (c .if3 .left) ∙ sym (kind-3 _ _ _ _ (chosen .keys3))
 
 returns-7 : tie.Need-returns-7
-returns-7 c = flag-on (c .before .within .ensures) (c .if4 .taken) ∙ sym (kind-4 _ _ _ _ (c .before .before .match .keys4))
+returns-7 c =
+    let chosen = c .before .before .match in
+    flag-on (c .before .within .ensures) (c .if4 .taken) ∙ sym (kind-4 _ _ _ _ (chosen .keys4))
 
 returns-8 : tie.Need-returns-8
-returns-8 c = flag-off _ (c .before .within .ensures) (c .if4 .left) ∙ sym (kind-4 _ _ _ _ (c .before .before .match .keys4))
+returns-8 c =
+    let chosen = c .before .before .match in
+    flag-off _ (c .before .within .ensures) (c .if4 .left) ∙ sym (kind-4 _ _ _ _ (chosen .keys4))
 
 returns-9 : tie.Need-returns-9
 returns-9 c = let no = c .match .rest in sym (kind-none _ _ _ _ (no .0 .0 .0 .1) (no .0 .0 .1) (no .0 .1) (no .1))

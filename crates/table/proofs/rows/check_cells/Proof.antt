@@ -43,18 +43,31 @@ cell-ok-requires c κs = search needs
 
 returns : tie.Need-returns Inv-loop μ-loop
 unfolding cellsOutcome goodCell tableTold told
-returns c = each-stops (goodCell (now (c .before .before .before .before .before .before .before .before .before .args .table))) 5 (c .before .before .before .before .before .loop .j) (cells (now (c .before .before .before .before .before .before .before .before .before .args .table))) (omega arith) (c .before .before .before .before .before .loop .inv .1) (failed (c .before .cell-ok .ensures ∙ ap (cellOk _ _) (c .before .before .before .cell .ensures)) (c .if1 .taken))
+returns c =
+    let args = c .before .before .before .before .before .before .before .before .before .args in
+    let loop = c .before .before .before .before .before .loop in
+    let cell = c .before .before .before .cell in
+    each-stops (goodCell (now (args .table))) 5 (loop .j) (cells (now (args .table))) (omega arith) (loop .inv .1)
+    (failed (c .before .cell-ok .ensures ∙ ap (cellOk _ _) (cell .ensures)) (c .if1 .taken))
 
 loop-less : tie.Need-loop-less Inv-loop μ-loop
 loop-less c = search needs
 
 loop-again : tie.Need-loop-again Inv-loop μ-loop
 unfolding cellsOutcome goodCell
-loop-again c = (omega arith, each-passes (goodCell (now (c .before .before .before .before .before .before .before .before .before .args .table))) 5 _ (c .before .before .before .before .before .loop .inv .1) (passed (c .before .cell-ok .ensures ∙ ap (cellOk _ _) (c .before .before .before .cell .ensures)) (c .if1 .left)))
+loop-again c =
+    let args = c .before .before .before .before .before .before .before .before .before .args in
+    let loop = c .before .before .before .before .before .loop in
+    let cell = c .before .before .before .cell in
+    (omega arith, each-passes (goodCell (now (args .table))) 5 _ (loop .inv .1) (passed
+    (c .before .cell-ok .ensures ∙ ap (cellOk _ _) (cell .ensures)) (c .if1 .left)))
 
 returns-2 : tie.Need-returns-2 Inv-loop μ-loop
 unfolding cellsOutcome goodCell tableTold
-returns-2 c = each-through (goodCell (now (c .before .before .before .before .before .args .table))) 5 (c .before .loop .j) (cells (now (c .before .before .before .before .before .args .table))) (omega arith) (c .before .loop .inv .1)
+returns-2 c =
+    let args = c .before .before .before .before .before .args in
+    each-through (goodCell (now (args .table))) 5 (c .before .loop .j) (cells (now (args .table))) (omega arith)
+    (c .before .loop .inv .1)
 
 pub check-cells-spec : {M : Type 1} → statement M
 check-cells-spec =

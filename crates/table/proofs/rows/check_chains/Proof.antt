@@ -47,10 +47,18 @@ credentials-less : tie.Need-credentials-less Inv-loop μ-loop Inv-credentials μ
 credentials-less c = search needs
 
 credentials-again : tie.Need-credentials-again Inv-loop μ-loop Inv-credentials μ-credentials
-credentials-again c = (omega arith, each-passes (goodChain _) 6 _ (c .before .before .before .before .credentials .inv .1) (no-chain _ _ _ (c .before .before .credential .ensures) (c .if2 .taken)))
+credentials-again c =
+    let outer = c .before .before .before .before .credentials in
+    let credential = c .before .before .credential in
+    (omega arith, each-passes (goodChain _) 6 _ (outer .inv .1) (no-chain _ _ _ (credential .ensures)
+    (c .if2 .taken)))
 
 loop-holds : tie.Need-loop-holds Inv-loop μ-loop Inv-credentials μ-credentials
-loop-holds c = walk-starts _ _ (first-inside _ _ (c .before .before .before .before .before .before .before .before .pre .1 .0) _ (record { first = omega arith; last = omega arith }) _ (c .before .before .credential .ensures) (c .if2 .left))
+loop-holds c =
+    let pre = c .before .before .before .before .before .before .before .before .pre in
+    let credential = c .before .before .credential in
+    walk-starts _ _ (first-inside _ _ (pre .1 .0) _ (record { first = omega arith; last = omega arith }) _
+    (credential .ensures) (c .if2 .left))
 
 add-met : tie.Need-add-met Inv-loop μ-loop Inv-credentials μ-credentials
 add-met c = search needs
@@ -59,31 +67,65 @@ wide-requires-2 : tie.Need-wide-requires-2 Inv-loop μ-loop Inv-credentials μ-c
 wide-requires-2 c κs = search needs
 
 cell-requires : tie.Need-cell-requires Inv-loop μ-loop Inv-credentials μ-credentials
-cell-requires c κs = (c .before .before .before .before .before .before .before .before .before .before .before .before .pre .0, (record { first = omega arith; last = omega (arith, c .before .before .before .loop .inv .inside) }))
+cell-requires c κs =
+    let pre = c .before .before .before .before .before .before .before .before .before .before .before .before .pre in
+    let loop = c .before .before .before .loop in
+    (pre .0, (record { first = omega arith; last = omega (arith, loop .inv .inside) }))
 
 loop-less : tie.Need-loop-less Inv-loop μ-loop Inv-credentials μ-credentials
 loop-less c = search needs
 
 loop-again : tie.Need-loop-again Inv-loop μ-loop Inv-credentials μ-credentials
-loop-again c = rw (c .cell .ensures, c .before .wide2 .ensures .0) (walk-goes-on _ _ _ _ (c .before .before .before .before .loop .inv) (c .before .before .before .loop-test .taken) (omega arith) (next-inside _ _ (c .before .before .before .before .before .before .before .before .before .before .before .before .before .pre .1 .1) _ (record { first = omega arith; last = omega (arith, c .before .before .before .before .loop .inv .inside) })))
+loop-again c =
+    let loop = c .before .before .before .before .loop in
+    let loop-test = c .before .before .before .loop-test in
+    let pre = c .before .before .before .before .before .before .before .before .before .before .before .before .before .pre in
+    rw (c .cell .ensures, c .before .wide2 .ensures .0) (walk-goes-on _ _ _ _ (loop .inv) (loop-test .taken)
+    (omega arith) (next-inside _ _ (pre .1 .1) _ (record { first = omega arith; last = omega (arith,
+    loop .inv .inside) })))
 
 credentials-less-2 : tie.Need-credentials-less-2 Inv-loop μ-loop Inv-credentials μ-credentials
 credentials-less-2 c = search needs
 
 credentials-again-2 : tie.Need-credentials-again-2 Inv-loop μ-loop Inv-credentials μ-credentials
-credentials-again-2 c = (omega arith, each-passes (goodChain _) 6 _ (c .before .before .before .before .before .before .before .credentials .inv .1) (chain-of-kind-4 _ _ _ (c .before .before .before .before .before .credential .ensures) (c .before .before .before .if2 .left) ∙ walk-ends _ _ _ _ (c .before .before .loop .inv) (c .before .loop-test .left) (c .if4 .left)))
+credentials-again-2 c =
+    let outer = c .before .before .before .before .before .before .before .credentials in
+    let credential = c .before .before .before .before .before .credential in
+    let if2 = c .before .before .before .if2 in
+    let loop = c .before .before .loop in
+    (omega arith, each-passes (goodChain _) 6 _ (outer .inv .1) (chain-of-kind-4 _ _ _ (credential .ensures)
+    (if2 .left) ∙ walk-ends _ _ _ _ (loop .inv) (c .before .loop-test .left) (c .if4 .left)))
 
 returns : tie.Need-returns Inv-loop μ-loop Inv-credentials μ-credentials
 unfolding chainsOutcome tableTold
-returns c = each-through (goodChain _) 6 (c .before .credentials .i) (credentials (now (c .before .before .before .before .before .args .table))) (omega arith) (c .before .credentials .inv .1)
+returns c =
+    let args = c .before .before .before .before .before .args in
+    each-through (goodChain _) 6 (c .before .credentials .i) (credentials (now (args .table))) (omega arith)
+    (c .before .credentials .inv .1)
 
 returns-2 : tie.Need-returns-2 Inv-loop μ-loop Inv-credentials μ-credentials
 unfolding chainsOutcome tableTold told
-returns-2 c = each-stops (goodChain _) 6 (c .before .before .before .before .before .before .before .credentials .i) (credentials (now (c .before .before .before .before .before .before .before .before .before .before .before .args .table))) (omega arith) (c .before .before .before .before .before .before .before .credentials .inv .1) (chain-of-kind-4 _ _ _ (c .before .before .before .before .before .credential .ensures) (c .before .before .before .if2 .left) ∙ walk-too-long _ _ _ _ (c .before .before .loop .inv) (c .before .loop-test .taken) (c .if3 .taken))
+returns-2 c =
+    let outer = c .before .before .before .before .before .before .before .credentials in
+    let args = c .before .before .before .before .before .before .before .before .before .before .before .args in
+    let credential = c .before .before .before .before .before .credential in
+    let if2 = c .before .before .before .if2 in
+    let loop = c .before .before .loop in
+    each-stops (goodChain _) 6 (outer .i) (credentials (now (args .table))) (omega arith) (outer .inv .1)
+    (chain-of-kind-4 _ _ _ (credential .ensures) (if2 .left) ∙ walk-too-long _ _ _ _ (loop .inv)
+    (c .before .loop-test .taken) (c .if3 .taken))
 
 returns-3 : tie.Need-returns-3 Inv-loop μ-loop Inv-credentials μ-credentials
 unfolding chainsOutcome tableTold told
-returns-3 c = each-stops (goodChain _) 6 (c .before .before .before .before .before .before .before .credentials .i) (credentials (now (c .before .before .before .before .before .before .before .before .before .before .before .args .table))) (omega arith) (c .before .before .before .before .before .before .before .credentials .inv .1) (chain-of-kind-4 _ _ _ (c .before .before .before .before .before .credential .ensures) (c .before .before .before .if2 .left) ∙ walk-too-short _ _ _ _ (c .before .before .loop .inv) (c .before .loop-test .left) (c .if4 .taken))
+returns-3 c =
+    let outer = c .before .before .before .before .before .before .before .credentials in
+    let args = c .before .before .before .before .before .before .before .before .before .before .before .args in
+    let credential = c .before .before .before .before .before .credential in
+    let if2 = c .before .before .before .if2 in
+    let loop = c .before .before .loop in
+    each-stops (goodChain _) 6 (outer .i) (credentials (now (args .table))) (omega arith) (outer .inv .1)
+    (chain-of-kind-4 _ _ _ (credential .ensures) (if2 .left) ∙ walk-too-short _ _ _ _ (loop .inv)
+    (c .before .loop-test .left) (c .if4 .taken))
 
 pub check-chains-spec : {M : Type 1} → statement M
 check-chains-spec =

@@ -46,18 +46,32 @@ credential-ok-requires c κs = search needs
 
 returns : tie.Need-returns Inv-loop μ-loop
 unfolding credentialsOutcome goodCredential tableTold told
-returns c = each-stops (goodCredential (now (c .before .before .before .before .before .before .before .before .before .before .args .table))) 4 (c .before .before .before .before .before .before .loop .i) (credentials (now (c .before .before .before .before .before .before .before .before .before .before .args .table))) (omega arith) (c .before .before .before .before .before .before .loop .inv .1) (failed (c .before .credential-ok .ensures ∙ ap (credentialOk _ _) (c .before .before .before .before .credential .ensures)) (c .if1 .taken))
+returns c =
+    let args = c .before .before .before .before .before .before .before .before .before .before .args in
+    let loop = c .before .before .before .before .before .before .loop in
+    let credential = c .before .before .before .before .credential in
+    each-stops (goodCredential (now (args .table))) 4 (loop .i) (credentials (now (args .table))) (omega arith)
+    (loop .inv .1) (failed (c .before .credential-ok .ensures ∙ ap (credentialOk _ _) (credential .ensures))
+    (c .if1 .taken))
 
 loop-less : tie.Need-loop-less Inv-loop μ-loop
 loop-less c = search needs
 
 loop-again : tie.Need-loop-again Inv-loop μ-loop
 unfolding credentialsOutcome goodCredential
-loop-again c = (omega arith, each-passes (goodCredential (now (c .before .before .before .before .before .before .before .before .before .before .args .table))) 4 _ (c .before .before .before .before .before .before .loop .inv .1) (passed (c .before .credential-ok .ensures ∙ ap (credentialOk _ _) (c .before .before .before .before .credential .ensures)) (c .if1 .left)))
+loop-again c =
+    let args = c .before .before .before .before .before .before .before .before .before .before .args in
+    let loop = c .before .before .before .before .before .before .loop in
+    let credential = c .before .before .before .before .credential in
+    (omega arith, each-passes (goodCredential (now (args .table))) 4 _ (loop .inv .1) (passed
+    (c .before .credential-ok .ensures ∙ ap (credentialOk _ _) (credential .ensures)) (c .if1 .left)))
 
 returns-2 : tie.Need-returns-2 Inv-loop μ-loop
 unfolding credentialsOutcome goodCredential tableTold
-returns-2 c = each-through (goodCredential (now (c .before .before .before .before .before .args .table))) 4 (c .before .loop .i) (credentials (now (c .before .before .before .before .before .args .table))) (omega arith) (c .before .loop .inv .1)
+returns-2 c =
+    let args = c .before .before .before .before .before .args in
+    each-through (goodCredential (now (args .table))) 4 (c .before .loop .i) (credentials (now (args .table)))
+    (omega arith) (c .before .loop .inv .1)
 
 pub check-credentials-spec : {M : Type 1} → statement M
 check-credentials-spec =

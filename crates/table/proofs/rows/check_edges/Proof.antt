@@ -43,18 +43,31 @@ edge-ok-requires c κs = search needs
 
 returns : tie.Need-returns Inv-loop μ-loop
 unfolding edgesOutcome goodEdge tableTold told
-returns c = each-stops (goodEdge (now (c .before .before .before .before .before .before .before .before .before .args .table))) 7 (c .before .before .before .before .before .loop .k) (edges (now (c .before .before .before .before .before .before .before .before .before .args .table))) (omega arith) (c .before .before .before .before .before .loop .inv .1) (failed (c .before .edge-ok .ensures ∙ ap (edgeOk _) (c .before .before .before .edge .ensures)) (c .if1 .taken))
+returns c =
+    let args = c .before .before .before .before .before .before .before .before .before .args in
+    let loop = c .before .before .before .before .before .loop in
+    let edge = c .before .before .before .edge in
+    each-stops (goodEdge (now (args .table))) 7 (loop .k) (edges (now (args .table))) (omega arith) (loop .inv .1)
+    (failed (c .before .edge-ok .ensures ∙ ap (edgeOk _) (edge .ensures)) (c .if1 .taken))
 
 loop-less : tie.Need-loop-less Inv-loop μ-loop
 loop-less c = search needs
 
 loop-again : tie.Need-loop-again Inv-loop μ-loop
 unfolding edgesOutcome goodEdge
-loop-again c = (omega arith, each-passes (goodEdge (now (c .before .before .before .before .before .before .before .before .before .args .table))) 7 _ (c .before .before .before .before .before .loop .inv .1) (passed (c .before .edge-ok .ensures ∙ ap (edgeOk _) (c .before .before .before .edge .ensures)) (c .if1 .left)))
+loop-again c =
+    let args = c .before .before .before .before .before .before .before .before .before .args in
+    let loop = c .before .before .before .before .before .loop in
+    let edge = c .before .before .before .edge in
+    (omega arith, each-passes (goodEdge (now (args .table))) 7 _ (loop .inv .1) (passed
+    (c .before .edge-ok .ensures ∙ ap (edgeOk _) (edge .ensures)) (c .if1 .left)))
 
 returns-2 : tie.Need-returns-2 Inv-loop μ-loop
 unfolding edgesOutcome goodEdge tableTold
-returns-2 c = each-through (goodEdge (now (c .before .before .before .before .before .args .table))) 7 (c .before .loop .k) (edges (now (c .before .before .before .before .before .args .table))) (omega arith) (c .before .loop .inv .1)
+returns-2 c =
+    let args = c .before .before .before .before .before .args in
+    each-through (goodEdge (now (args .table))) 7 (c .before .loop .k) (edges (now (args .table))) (omega arith)
+    (c .before .loop .inv .1)
 
 pub check-edges-spec : {M : Type 1} → statement M
 check-edges-spec =

@@ -18,18 +18,33 @@ counts-ok-requires c κs = search needs
 
 returns-2 : tie.Need-returns-2
 unfolding headOutcome tableTold
-returns-2 c = sym (demand-on 1 0 (le-leb _ _ (c .before .before .if1 .left)) ∙ demand-off 2 0 _ (failed (c .before .counts-ok .ensures) (c .if2 .taken)))
+returns-2 c =
+    let if1 = c .before .before .if1 in
+    sym (demand-on 1 0 (le-leb _ _ (if1 .left)) ∙ demand-off 2 0 _ (failed (c .before .counts-ok .ensures)
+    (c .if2 .taken)))
 
 table-length-requires : tie.Need-table-length-requires
-table-length-requires c κs = counted _ (c .before .before .if1 .left) (passed (c .before .counts-ok .ensures) (c .if2 .left))
+table-length-requires c κs =
+    let if1 = c .before .before .if1 in
+    counted _ (if1 .left) (passed (c .before .counts-ok .ensures) (c .if2 .left))
 
 returns-3 : tie.Need-returns-3
 unfolding headOutcome tableTold
-returns-3 c = sym (demand-on 1 0 (le-leb _ _ (c .before .before .before .before .if1 .left)) ∙ demand-on 2 0 (passed (c .before .before .before .counts-ok .ensures) (c .before .before .if2 .left)) ∙ demand-stops 3 0 (ne-eqb _ _ (λ e. c .if3 .taken (e ∙ sym (c .before .table-length .ensures)))))
+returns-3 c =
+    let if1 = c .before .before .before .before .if1 in
+    let counts-ok = c .before .before .before .counts-ok in
+    let if2 = c .before .before .if2 in
+    sym (demand-on 1 0 (le-leb _ _ (if1 .left)) ∙ demand-on 2 0 (passed (counts-ok .ensures) (if2 .left)) ∙
+    demand-stops 3 0 (ne-eqb _ _ (λ e. c .if3 .taken (e ∙ sym (c .before .table-length .ensures)))))
 
 returns-4 : tie.Need-returns-4
 unfolding headOutcome tableTold
-returns-4 c = sym (demand-on 1 0 (le-leb _ _ (c .before .before .before .before .if1 .left)) ∙ demand-on 2 0 (passed (c .before .before .before .counts-ok .ensures) (c .before .before .if2 .left)) ∙ demand-passes 3 0 (eq-eqb _ _ (c .if3 .left ∙ c .before .table-length .ensures)))
+returns-4 c =
+    let if1 = c .before .before .before .before .if1 in
+    let counts-ok = c .before .before .before .counts-ok in
+    let if2 = c .before .before .if2 in
+    sym (demand-on 1 0 (le-leb _ _ (if1 .left)) ∙ demand-on 2 0 (passed (counts-ok .ensures) (if2 .left)) ∙
+    demand-passes 3 0 (eq-eqb _ _ (c .if3 .left ∙ c .before .table-length .ensures)))
 
 pub check-head-spec : {M : Type 1} → statement M
 check-head-spec =

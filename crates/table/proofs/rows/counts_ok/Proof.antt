@@ -21,15 +21,24 @@ shared-slice-read-result c = search needs
 
 returns : tie.Need-returns
 unfolding countsOk
-returns c = and-on (le-leb _ _ (c .before .if3 .taken)) ∙ and-on (le-leb _ _ (c .before .before .before .if2 .taken)) ∙ and-on (le-leb _ _ (c .before .before .before .before .before .if1 .taken))
+returns c =
+    let if2 = c .before .before .before .if2 in
+    let if1 = c .before .before .before .before .before .if1 in
+    and-on (le-leb _ _ (c .before .if3 .taken)) ∙ and-on (le-leb _ _ (if2 .taken)) ∙ and-on (le-leb _ _
+    (if1 .taken))
 
 returns-2 : tie.Need-returns-2
 unfolding countsOk
-returns-2 c = and-off _ (lt-leb _ _ (c .if3 .left)) ∙ and-on (le-leb _ _ (c .before .before .if2 .taken)) ∙ and-on (le-leb _ _ (c .before .before .before .before .if1 .taken))
+returns-2 c =
+    let if2 = c .before .before .if2 in
+    let if1 = c .before .before .before .before .if1 in
+    and-off _ (lt-leb _ _ (c .if3 .left)) ∙ and-on (le-leb _ _ (if2 .taken)) ∙ and-on (le-leb _ _ (if1 .taken))
 
 returns-3 : tie.Need-returns-3
 unfolding countsOk
-returns-3 c = and-off _ (lt-leb _ _ (c .if2 .left)) ∙ and-on (le-leb _ _ (c .before .before .if1 .taken))
+returns-3 c =
+    let if1 = c .before .before .if1 in
+    and-off _ (lt-leb _ _ (c .if2 .left)) ∙ and-on (le-leb _ _ (if1 .taken))
 
 returns-4 : tie.Need-returns-4
 unfolding countsOk

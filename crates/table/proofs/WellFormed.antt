@@ -1,0 +1,109 @@
+-- What an accepted table gives its readers: its size, every field's range, and chains that are whole.
+use mathlib.Core.Path.{_≡_, refl, sym, ap, _∙_}
+use mathlib.Core.List.{List, [], _∷_}
+use mathlib.Core.Bool.{Bool, true}
+use mathlib.Core.Logic.{_⊎_, inl, inr}
+use Prim.Native.Nat.{ℕ, zero, suc, _≤_, _<_}
+use native.Mathlib.Omega.{arith}
+use native.Mathlib.Decide.{ℕ-discrete}
+use lib.ListN.{length}
+use lib.Dec.{eqb, leb}
+use borrow.Author.Tests.{leb-true, ne-eqb, eq-eqb}
+use Rattle.table.specs.Logic.{pick}
+use Rattle.table.specs.Outcome.{_andThen_}
+use Rattle.table.specs.Outcome.Outcome.{accepted}
+use Rattle.table.specs.Limits.{leastParts, mostParts}
+use Rattle.table.specs.Layout.{Numbered, Sized, automata, cell, cells, cellsFrom, chain, credential, credentials, edge, edges}
+use Rattle.table.specs.Checks.{WellFormed, within, chainOk, goodChain, tableOutcome, headOutcome, credentialsOutcome, cellsOutcome, chainsOutcome, edgesOutcome}
+use Rattle.table.proofs.Tests.{and-first, and-second}
+use Rattle.table.proofs.Stages.{then-first, then-second, each-ok}
+use Rattle.table.proofs.Sizes.{sized}
+use Rattle.table.proofs.Fields.{CredentialRange, CellRange, EdgeRange}
+use Rattle.table.proofs.Accepted.{credentials-in-range, cells-in-range, edges-in-range}
+use Rattle.table.proofs.Chains.{chain-of-kind-4}
+
+-- numbers that ascend from above `low` up to q
+pub data Climbs (q : ℕ) : ℕ → List ℕ → Type 0 where
+  ends : {low : ℕ} → Climbs q low []
+  climbs : {low j : ℕ} {js : List ℕ} → low < j → j ≤ q → Climbs q j js → Climbs q low (j ∷ js)
+
+-- a chain of 2 to 4 cells, whose numbers ascend from 1 to q
+pub record ChainRange (t : List ℕ) (first : ℕ) : Type 0 where
+  pub least : leastParts ≤ length (chain t first)
+  pub most : length (chain t first) ≤ mostParts
+  pub ascending : Climbs (cells t) 0 (chain t first)
+
+-- cell j, where it is not 0, leads its chain; 0 is the end
+step-from : (t : List ℕ) (most j : ℕ) → (j ≡ 0 → ⊥) → cellsFrom t (suc most) j ≡ j ∷ cellsFrom t most (cell t j .next)
+unfolding cellsFrom pick
+step-from t most j h = rw (ne-eqb j 0 h)
+
+stop-at : (t : List ℕ) (most j : ℕ) → j ≡ 0 → cellsFrom t most j ≡ []
+unfolding cellsFrom pick
+stop-at t zero j h = refl
+stop-at t (suc most) j h = rw h
+
+-- where the chain ends before the limit, a greater limit gives the same chain
+pub cells-settled : (t : List ℕ) (most big j : ℕ) → length (cellsFrom t most j) < most → most ≤ big → cellsFrom t big j ≡ cellsFrom t most j
+unfolding length
+cells-settled t zero big j h le = absurd (omega arith)
+cells-settled t (suc most) zero j h le = absurd (omega arith)
+cells-settled t (suc most) (suc big) j h le =
+    settle (ℕ-discrete j 0) (λ shorter. cells-settled t most big (cell t j .next) shorter (omega arith))
+  where
+    settle : Dec (j ≡ 0) → (length (cellsFrom t most (cell t j .next)) < most → cellsFrom t big (cell t j .next) ≡ cellsFrom t most (cell t j .next)) → cellsFrom t (suc big) j ≡ cellsFrom t (suc most) j
+    settle (yes z) same = rw (stop-at t (suc big) j z, stop-at t (suc most) j z)
+    settle (no nz) same =
+        let shorter = rw (step-from t most j nz) at h in
+        rw (step-from t big j nz, step-from t most j nz, same (omega arith))
+
+module _ (t : List ℕ) (good : (j : ℕ) → Numbered (cells t) j → CellRange (cells t) j (cell t j)) where
+  cells-climb : (most low j : ℕ) → ((j ≡ 0) ⊎ ((low < j) × (j ≤ cells t))) → Climbs (cells t) low (cellsFrom t most j)
+  unfolding cellsFrom
+  cells-climb zero low j next = ends
+  cells-climb (suc most) low j (inl z) = rw (stop-at t (suc most) j z) ends
+  cells-climb (suc most) low j (inr (above, there)) =
+      rw (step-from t most j (omega arith))
+      (climbs above there (cells-climb most j (cell t j .next) (good j (record { first = omega arith; last = there }) .next)))
+
+module _ (t : List ℕ) (wf : WellFormed t) where
+  after-head : (credentialsOutcome t andThen cellsOutcome t andThen chainsOutcome t andThen edgesOutcome t) ≡ accepted 0
+  unfolding tableOutcome
+  after-head = then-second (headOutcome t) _ 0 wf
+
+  after-credentials : (cellsOutcome t andThen chainsOutcome t andThen edgesOutcome t) ≡ accepted 0
+  after-credentials = then-second (credentialsOutcome t) _ 0 after-head
+
+  after-cells : (chainsOutcome t andThen edgesOutcome t) ≡ accepted 0
+  after-cells = then-second (cellsOutcome t) _ 0 after-credentials
+
+  pub wf-sized : Sized t
+  unfolding tableOutcome
+  wf-sized = sized t _ (then-first (headOutcome t) _ 0 wf .1)
+
+  pub wf-credential : (i : ℕ) → Numbered (credentials t) i → CredentialRange (cells t) (automata t) (credential t i)
+  wf-credential i h = credentials-in-range t _ (then-first (credentialsOutcome t) _ 0 after-head .1) i h
+
+  pub wf-cell : (j : ℕ) → Numbered (cells t) j → CellRange (cells t) j (cell t j)
+  wf-cell j h = cells-in-range t _ (then-first (cellsOutcome t) _ 0 after-credentials .1) j h
+
+  pub wf-edge : (k : ℕ) → Numbered (edges t) k → EdgeRange (automata t) (edge t k)
+  wf-edge k h = edges-in-range t _ (then-second (chainsOutcome t) _ 0 after-cells) k h
+
+  pub wf-chain : (i : ℕ) → Numbered (credentials t) i → credential t i .kind ≡ 4 → ChainRange t (credential t i .first)
+  unfolding chainsOutcome chainOk within
+  wf-chain i h four =
+      let passed = each-ok (goodChain t) 6 (credentials t) _ (then-first (chainsOutcome t) _ 0 after-cells .1) i h in
+      let ok = sym (chain-of-kind-4 t i (credential t i) refl four) ∙ passed in
+      let there = wf-credential i h .intersection four .0 in
+      record {
+        least = leb-true _ _ (and-first _ _ ok);
+        most = leb-true _ _ (and-second _ _ ok);
+        ascending = cells-climb t wf-cell (suc mostParts) 0 (credential t i .first) (inr (there .first, there .last))
+      }
+
+  -- the chain is whole: reading on gives no further cell
+  pub wf-chain-whole : (i : ℕ) → Numbered (credentials t) i → credential t i .kind ≡ 4 → (big : ℕ) → suc mostParts ≤ big → cellsFrom t big (credential t i .first) ≡ chain t (credential t i .first)
+  wf-chain-whole i h four big le =
+      let few = wf-chain i h four .most in
+      cells-settled t (suc mostParts) big (credential t i .first) (omega arith) le
