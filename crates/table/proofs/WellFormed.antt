@@ -99,7 +99,7 @@ module _ (t : List ℕ) (wf : WellFormed t) where
       record {
         least = leb-true _ _ (and-first _ _ ok);
         most = leb-true _ _ (and-second _ _ ok);
-        ascending = cells-climb t wf-cell (suc mostParts) 0 (credential t i .first) (inr (there .first, there .last))
+        ascending = cells-climb t wf-cell (suc mostParts) 0 (credential t i .first) (inr (there .first, there .last));
       }
 
   -- the chain is whole: reading on gives no further cell

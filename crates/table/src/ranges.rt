@@ -1,12 +1,18 @@
 // What a single record must be, given by value: the ranges of document 01, "The table", by kind and by label.
 use crate::Cell;
-use crate::{EVERY_ROLE, INTERSECTION_CONTAINMENT, LINKING_CONTAINMENT, OTHER_ROLES, SIMPLE_CONTAINMENT, SIMPLE_MEMBERSHIP, THIS_ROLE};
 use crate::Credential;
+use crate::EVERY_ROLE;
 use crate::Edge;
+use crate::INTERSECTION_CONTAINMENT;
+use crate::LINKING_CONTAINMENT;
 use crate::Name;
 use crate::Number;
+use crate::OTHER_ROLES;
 use crate::Principal;
 use crate::Role;
+use crate::SIMPLE_CONTAINMENT;
+use crate::SIMPLE_MEMBERSHIP;
+use crate::THIS_ROLE;
 use crate::layout::LAST_STATE;
 use crate::layout::MOST_NAMES;
 use crate::layout::MOST_PRINCIPALS;

@@ -72,10 +72,15 @@ check-chains-requires c κs =
     let enum-told = c .before .before .before .before .before .before .enum-told in
     let check-credentials = c .before .before .before .before .before .check-credentials in
     let enum-told3 = c .before .before .before .enum-told3 in
-    let check-cells = c .before .before .check-cells in
-    (sized _ 0 (stage-passed _ _ (check-head .ensures) (enum-told .given .1)), ((stage-passed _ _
-    (check-credentials .ensures) (enum-told3 .given .1)), (stage-passed _ _ (check-cells .ensures)
-    (c .enum-told5 .given .1))))
+    let check-cells = c .before .before .check-cells in (
+      sized _ 0 (stage-passed _ _ (check-head .ensures) (enum-told .given .1)),
+      (
+        (stage-passed _ _
+            (check-credentials .ensures) (enum-told3 .given .1)),
+        (stage-passed _ _ (check-cells .ensures)
+            (c .enum-told5 .given .1)),
+      ),
+    )
 
 enum-told-7 : tie.Need-enum-told-7
 enum-told-7 c = search needs

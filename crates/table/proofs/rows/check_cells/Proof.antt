@@ -58,9 +58,11 @@ unfolding cellsOutcome goodCell
 loop-again c =
     let args = c .before .before .before .before .before .before .before .before .before .args in
     let loop = c .before .before .before .before .before .loop in
-    let cell = c .before .before .before .cell in
-    (omega arith, each-passes (goodCell (now (args .table))) 5 _ (loop .inv .1) (passed
-    (c .before .cell-ok .ensures ∙ ap (cellOk _ _) (cell .ensures)) (c .if1 .left)))
+    let cell = c .before .before .before .cell in (
+      omega arith,
+      each-passes (goodCell (now (args .table))) 5 _ (loop .inv .1) (passed
+          (c .before .cell-ok .ensures ∙ ap (cellOk _ _) (cell .ensures)) (c .if1 .left)),
+    )
 
 returns-2 : tie.Need-returns-2 Inv-loop μ-loop
 unfolding cellsOutcome goodCell tableTold

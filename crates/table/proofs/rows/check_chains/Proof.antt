@@ -49,9 +49,11 @@ credentials-less c = search needs
 credentials-again : tie.Need-credentials-again Inv-loop μ-loop Inv-credentials μ-credentials
 credentials-again c =
     let outer = c .before .before .before .before .credentials in
-    let credential = c .before .before .credential in
-    (omega arith, each-passes (goodChain _) 6 _ (outer .inv .1) (no-chain _ _ _ (credential .ensures)
-    (c .if2 .taken)))
+    let credential = c .before .before .credential in (
+      omega arith,
+      each-passes (goodChain _) 6 _ (outer .inv .1) (no-chain _ _ _ (credential .ensures)
+          (c .if2 .taken)),
+    )
 
 loop-holds : tie.Need-loop-holds Inv-loop μ-loop Inv-credentials μ-credentials
 loop-holds c =
@@ -81,8 +83,13 @@ loop-again c =
     let loop-test = c .before .before .before .loop-test in
     let pre = c .before .before .before .before .before .before .before .before .before .before .before .before .before .pre in
     rw (c .cell .ensures, c .before .wide2 .ensures .0) (walk-goes-on _ _ _ _ (loop .inv) (loop-test .taken)
-    (omega arith) (next-inside _ _ (pre .1 .1) _ (record { first = omega arith; last = omega (arith,
-    loop .inv .inside) })))
+    (omega arith) (next-inside _ _ (pre .1 .1) _ (record {
+      first = omega arith;
+      last = omega (
+        arith,
+        loop .inv .inside,
+      );
+    })))
 
 credentials-less-2 : tie.Need-credentials-less-2 Inv-loop μ-loop Inv-credentials μ-credentials
 credentials-less-2 c = search needs
@@ -92,9 +99,11 @@ credentials-again-2 c =
     let outer = c .before .before .before .before .before .before .before .credentials in
     let credential = c .before .before .before .before .before .credential in
     let if2 = c .before .before .before .if2 in
-    let loop = c .before .before .loop in
-    (omega arith, each-passes (goodChain _) 6 _ (outer .inv .1) (chain-of-kind-4 _ _ _ (credential .ensures)
-    (if2 .left) ∙ walk-ends _ _ _ _ (loop .inv) (c .before .loop-test .left) (c .if4 .left)))
+    let loop = c .before .before .loop in (
+      omega arith,
+      each-passes (goodChain _) 6 _ (outer .inv .1) (chain-of-kind-4 _ _ _ (credential .ensures)
+          (if2 .left) ∙ walk-ends _ _ _ _ (loop .inv) (c .before .loop-test .left) (c .if4 .left)),
+    )
 
 returns : tie.Need-returns Inv-loop μ-loop Inv-credentials μ-credentials
 unfolding chainsOutcome tableTold

@@ -62,9 +62,11 @@ unfolding credentialsOutcome goodCredential
 loop-again c =
     let args = c .before .before .before .before .before .before .before .before .before .before .args in
     let loop = c .before .before .before .before .before .before .loop in
-    let credential = c .before .before .before .before .credential in
-    (omega arith, each-passes (goodCredential (now (args .table))) 4 _ (loop .inv .1) (passed
-    (c .before .credential-ok .ensures ∙ ap (credentialOk _ _) (credential .ensures)) (c .if1 .left)))
+    let credential = c .before .before .before .before .credential in (
+      omega arith,
+      each-passes (goodCredential (now (args .table))) 4 _ (loop .inv .1) (passed
+          (c .before .credential-ok .ensures ∙ ap (credentialOk _ _) (credential .ensures)) (c .if1 .left)),
+    )
 
 returns-2 : tie.Need-returns-2 Inv-loop μ-loop
 unfolding credentialsOutcome goodCredential tableTold

@@ -58,9 +58,11 @@ unfolding edgesOutcome goodEdge
 loop-again c =
     let args = c .before .before .before .before .before .before .before .before .before .args in
     let loop = c .before .before .before .before .before .loop in
-    let edge = c .before .before .before .edge in
-    (omega arith, each-passes (goodEdge (now (args .table))) 7 _ (loop .inv .1) (passed
-    (c .before .edge-ok .ensures ∙ ap (edgeOk _) (edge .ensures)) (c .if1 .left)))
+    let edge = c .before .before .before .edge in (
+      omega arith,
+      each-passes (goodEdge (now (args .table))) 7 _ (loop .inv .1) (passed
+          (c .before .edge-ok .ensures ∙ ap (edgeOk _) (edge .ensures)) (c .if1 .left)),
+    )
 
 returns-2 : tie.Need-returns-2 Inv-loop μ-loop
 unfolding edgesOutcome goodEdge tableTold

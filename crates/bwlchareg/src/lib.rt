@@ -1,0 +1,61 @@
+// The C interface. A slice is a pointer and a length. Each call returns 0 or document 01's refusal number, and writes the
+// position, or on 0 the value that the call returns: 0 where there is none. bindings/c/bwlchareg.h has the promises in words.
+use table::Name;
+use table::Principal;
+use table::Query;
+use table::QueryCheck;
+use table::Refusal;
+use table::TableCheck;
+ghost use mathlib.Core.Path.{_≡_};
+ghost use Rattle.table.specs.Outcome.{Outcome};
+ghost use Rattle.table.specs.Checks.{tableOutcome, requestOutcome, told};
+ghost use Rattle.bwlchareg.specs.Answer.{answered, asQuery};
+
+// Rows 1 to 7: whether the table is accepted.
+#[no_mangle]
+pub extern "C" fn bwlchareg_check(table: &[u16], position: &mut u64) -> u32
+    ensures { λ r. ⌜ answered r (now (position .exit)) ≡ tableOutcome (now (table .entry)) ⌝ }
+{
+    match table::check_table(table) {
+        TableCheck::Accepted => accept(0, position),
+        TableCheck::Refused(why) => refuse(why, position),
+    }
+}
+
+// Rows 1 to 8: whether the table is accepted and the query valid.
+#[no_mangle]
+pub extern "C" fn bwlchareg_check_query(
+    table: &[u16],
+    principal: u16,
+    owner: u16,
+    name: u16,
+    depth: u16,
+    position: &mut u64,
+) -> u32
+    ensures { λ r. ⌜ answered r (now (position .exit)) ≡ requestOutcome (now (table .entry)) (asQuery principal owner name depth) ⌝ }
+{
+    let query = Query {
+        principal: Principal(principal),
+        owner: Principal(owner),
+        name: Name(name),
+        depth: depth,
+    };
+    match table::check_request(table, query) {
+        QueryCheck::Valid => accept(0, position),
+        QueryCheck::Refused(why) => refuse(why, position),
+    }
+}
+
+fn accept(value: u64, told: &mut u64) -> u32
+    ensures { λ r. ⌜ answered r (now (told .exit)) ≡ Outcome.accepted value ⌝ }
+{
+    *told = value;
+    0
+}
+
+fn refuse(why: Refusal, position: &mut u64) -> u32
+    ensures { λ r. ⌜ answered r (now (position .exit)) ≡ told why ⌝ }
+{
+    *position = why.position() as u64;
+    why.number()
+}
