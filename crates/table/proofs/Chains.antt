@@ -23,19 +23,24 @@ pub record Walked (t : List ℕ) (first met j : ℕ) : Type 0 where
 pub walk-starts : (t : List ℕ) (first : ℕ) → first ≤ cells t → Walked t first 0 first
 walk-starts t first h = record { few = omega arith; inside = h; whole = omega arith }
 
--- one cell more
-cells-step : (t : List ℕ) (most j : ℕ) → (j ≡ 0 → ⊥) → length (cellsFrom t (suc most) j) ≡ suc (length (cellsFrom t most (cell t j .next)))
-unfolding cellsFrom pick length
-cells-step t most j h = rw (ne-eqb j 0 h)
+-- cell j leads its chain where it is not 0, and 0 is the end
+pub step-from : (t : List ℕ) (most j : ℕ) → (j ≡ 0 → ⊥) → cellsFrom t (suc most) j ≡ j ∷ cellsFrom t most (cell t j .next)
+unfolding cellsFrom pick
+step-from t most j h = rw (ne-eqb j 0 h)
 
-cells-end : (t : List ℕ) (most : ℕ) → length (cellsFrom t most 0) ≡ 0
-unfolding cellsFrom pick length
-cells-end t zero = refl
-cells-end t (suc most) = refl
+pub stop-at : (t : List ℕ) (most j : ℕ) → j ≡ 0 → cellsFrom t most j ≡ []
+unfolding cellsFrom pick
+stop-at t zero j h = refl
+stop-at t (suc most) j h = rw h
 
 module _ (t : List ℕ) (first met j : ℕ) (walked : Walked t first met j) where
   left : (most : ℕ) → suc mostParts - met ≡ suc most → (j ≡ 0 → ⊥) → met + suc (length (cellsFrom t most (cell t j .next))) ≡ length (chain t first)
-  left most e h = rw (← cells-step t most j h, ← e) (walked .whole)
+  unfolding length
+  left most e h = rw (e, step-from t most j h) at (walked .whole)
+
+  -- there is one cell more
+  pub walk-more : (j ≡ 0 → ⊥) → met + 1 ≤ length (chain t first)
+  walk-more h = omega (arith, left (mostParts - met) (omega (arith, walked .few)) h)
 
   pub walk-goes-on : (j ≡ 0 → ⊥) → met + 1 ≤ mostParts → cell t j .next ≤ cells t → Walked t first (met + 1) (cell t j .next)
   walk-goes-on h few inside =
@@ -51,7 +56,8 @@ module _ (t : List ℕ) (first met j : ℕ) (walked : Walked t first met j) wher
 
   -- the chain has ended with `met` cells
   met-all : j ≡ 0 → length (chain t first) ≡ met
-  met-all e = let z = rw e at (walked .whole) in omega (arith, cells-end t (suc mostParts - met))
+  unfolding length
+  met-all e = let z = rw (stop-at t (suc mostParts - met) j e) at (walked .whole) in omega arith
 
   pub walk-too-short : j ≡ 0 → met < leastParts → chainOk t first ≡ false
   unfolding chainOk within _and_

@@ -5,5 +5,6 @@ pub mod Fields
 pub mod Stages
 pub mod Sizes
 pub mod Chains
+pub mod Parts
 pub mod Accepted
 pub mod WellFormed

@@ -7,9 +7,7 @@ use Prim.Native.Nat.{ℕ, zero, suc, _≤_, _<_}
 use native.Mathlib.Omega.{arith}
 use native.Mathlib.Decide.{ℕ-discrete}
 use lib.ListN.{length}
-use lib.Dec.{eqb, leb}
-use borrow.Author.Tests.{leb-true, ne-eqb, eq-eqb}
-use Rattle.table.specs.Logic.{pick}
+use borrow.Author.Tests.{leb-true}
 use Rattle.table.specs.Outcome.{_andThen_}
 use Rattle.table.specs.Outcome.Outcome.{accepted}
 use Rattle.table.specs.Limits.{leastParts, mostParts}
@@ -20,7 +18,7 @@ use Rattle.table.proofs.Stages.{then-first, then-second, each-ok}
 use Rattle.table.proofs.Sizes.{sized}
 use Rattle.table.proofs.Fields.{CredentialRange, CellRange, EdgeRange}
 use Rattle.table.proofs.Accepted.{credentials-in-range, cells-in-range, edges-in-range}
-use Rattle.table.proofs.Chains.{chain-of-kind-4}
+use Rattle.table.proofs.Chains.{chain-of-kind-4, step-from, stop-at}
 
 -- numbers that ascend from above `low` up to q
 pub data Climbs (q : ℕ) : ℕ → List ℕ → Type 0 where
@@ -32,16 +30,6 @@ pub record ChainRange (t : List ℕ) (first : ℕ) : Type 0 where
   pub least : leastParts ≤ length (chain t first)
   pub most : length (chain t first) ≤ mostParts
   pub ascending : Climbs (cells t) 0 (chain t first)
-
--- cell j, where it is not 0, leads its chain; 0 is the end
-step-from : (t : List ℕ) (most j : ℕ) → (j ≡ 0 → ⊥) → cellsFrom t (suc most) j ≡ j ∷ cellsFrom t most (cell t j .next)
-unfolding cellsFrom pick
-step-from t most j h = rw (ne-eqb j 0 h)
-
-stop-at : (t : List ℕ) (most j : ℕ) → j ≡ 0 → cellsFrom t most j ≡ []
-unfolding cellsFrom pick
-stop-at t zero j h = refl
-stop-at t (suc most) j h = rw h
 
 -- where the chain ends before the limit, a greater limit gives the same chain
 pub cells-settled : (t : List ℕ) (most big j : ℕ) → length (cellsFrom t most j) < most → most ≤ big → cellsFrom t big j ≡ cellsFrom t most j
@@ -84,8 +72,11 @@ module _ (t : List ℕ) (wf : WellFormed t) where
   pub wf-credential : (i : ℕ) → Numbered (credentials t) i → CredentialRange (cells t) (automata t) (credential t i)
   wf-credential i h = credentials-in-range t _ (then-first (credentialsOutcome t) _ 0 after-head .1) i h
 
+  pub wf-cells : (v : ℕ) × (cellsOutcome t ≡ accepted v)
+  wf-cells = then-first (cellsOutcome t) _ 0 after-credentials
+
   pub wf-cell : (j : ℕ) → Numbered (cells t) j → CellRange (cells t) j (cell t j)
-  wf-cell j h = cells-in-range t _ (then-first (cellsOutcome t) _ 0 after-credentials .1) j h
+  wf-cell j h = cells-in-range t _ (wf-cells .1) j h
 
   pub wf-edge : (k : ℕ) → Numbered (edges t) k → EdgeRange (automata t) (edge t k)
   wf-edge k h = edges-in-range t _ (then-second (chainsOutcome t) _ 0 after-cells) k h

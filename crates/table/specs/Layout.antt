@@ -2,7 +2,7 @@
 -- numbered from 1. Sizes and bases stand here and nowhere else; all other definitions go by the records.
 use Prim.Native.Nat.{ℕ, zero, suc, _+_, _-_, _*_, _≤_}
 use mathlib.Core.Path.{_≡_}
-use mathlib.Core.List.{List, [], _∷_}
+use mathlib.Core.List.{List, [], _∷_, map}
 use mathlib.Core.Bool.{Bool}
 use lib.ListN.{length, getD}
 use lib.Dec.{eqb}
@@ -123,6 +123,10 @@ cellsFrom t (suc most) j = pick (eqb j 0) [] (j ∷ cellsFrom t most (cell t j .
 -- the chain of a kind 4 credential; it is left as soon as a fifth cell is met
 abbrev pub chain : List ℕ → ℕ → List ℕ
 chain t j = cellsFrom t (suc mostParts) j
+
+-- the roles of its parts, in chain order
+unfoldable pub parts : List ℕ → ℕ → List Role
+parts t j = map (λ (k : ℕ). cell t k .role) (chain t j)
 
 -- the head is there, with each count inside its limit
 pub record Counted (t : List ℕ) : Type 0 where

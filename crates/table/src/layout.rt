@@ -2,6 +2,7 @@
 // "The table", stand here and nowhere else. A caller shows that the table has the length that its head says.
 use crate::Automaton;
 use crate::Cell;
+use crate::Chain;
 use crate::Credential;
 use crate::Edge;
 use crate::Name;
@@ -10,9 +11,12 @@ use crate::Principal;
 use crate::Role;
 ghost use mathlib.Core.Path.{_≡_};
 ghost use Prim.Native.Nat.{_+_, _≤_};
-ghost use lib.ListN.{length};
+ghost use mathlib.Core.Bool.{true};
+ghost use lib.ListN.{length, take};
+ghost use Rattle.table.specs.Limits.{mostParts};
+ghost use Rattle.table.specs.Checks.{WellFormed, chainOk};
 ghost use Rattle.table.specs.Layout;
-ghost use Rattle.table.specs.Layout.{Counted, Numbered, Sized, automata, automatonSize, cellSize, cells, credentialSize, credentials, edgeSize, edges};
+ghost use Rattle.table.specs.Layout.{Counted, Numbered, Sized, parts, automata, automatonSize, cellSize, cells, credentialSize, credentials, edgeSize, edges};
 
 pub const MOST_CREDENTIALS: Number = 20;
 
@@ -96,6 +100,32 @@ pub fn cell(table: &[Number], j: usize) -> Cell
     ensures { λ r. ⌜ r ≡ Layout.cell (now (table .entry)) j ⌝ }
 {
     cell_at(table, cells_base(table) + CELL_SIZE * (j - 1))
+}
+
+// The chain that begins with cell `first`.
+pub fn chain(table: &[Number], first: Number) -> Chain
+    requires { ⌜ WellFormed (now table) ⌝ }
+    requires { ⌜ Numbered (cells (now table)) first ⌝ }
+    requires { ⌜ chainOk (now table) first ≡ true ⌝ }
+    ensures { λ r. ⌜ (r .len ≤ mostParts) × (take (r .len) (r .roles) ≡ parts (now (table .entry)) first) ⌝ }
+{
+    let mut roles = [Role {
+        owner: Principal(0),
+        name: Name(0),
+    }; MOST_PARTS];
+    let mut len = 0;
+    let mut j = first;
+    while j != 0 {
+        let c = cell(table, wide(j));
+        let role = c.role;
+        roles[len] = role;
+        len += 1;
+        j = c.next;
+    }
+    Chain {
+        len: len,
+        roles: roles,
+    }
 }
 
 pub fn automaton(table: &[Number], k: usize) -> Automaton

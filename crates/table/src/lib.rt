@@ -58,6 +58,12 @@ pub struct Cell {
     pub next: Number,
 }
 
+// The parts of an intersection, in chain order: the first `len` roles.
+pub struct Chain {
+    pub len: usize,
+    pub roles: [Role; layout::MOST_PARTS],
+}
+
 // Sets of states: state s counts 2^s.
 pub struct Automaton {
     pub starting: Number,

@@ -1,0 +1,87 @@
+-- `table::layout::chain` meets its contract: the roles of the first len cells are gathered, and j is the next cell. Assumes nothing.
+use mathlib.Core.Path.{refl}
+use Prim.Native.Nat.{_-_}
+use native.Mathlib.Omega.{arith}
+use borrow.Author.Needs.{needs}
+use Rattle.table.proofs.Accepted.{next-inside}
+use Rattle.table.proofs.Parts.{Gathered, gather-ends, gather-goes-on, gather-room, gather-starts}
+use Rattle.table.proofs.WellFormed.{wf-cells, wf-sized}
+use Rattle.table.specs.Layout.{cell}
+use Rattle.table.proofs.layout.chain.Statement.{statement}
+use Rattle.table.proofs.layout.chain.Tie as tie
+
+abbrev Inv-loop : tie.InvT-loop
+Inv-loop table first roles₀ len₀ j₀ roles len j = Gathered table first roles len j
+
+abbrev μ-loop : tie.MeasureT-loop
+μ-loop table first roles₀ len₀ j₀ roles len j = 5 - len
+
+loop-holds : tie.Need-loop-holds Inv-loop μ-loop
+loop-holds c = gather-starts _ _ _ refl (c .before .pre .1 .0 .last)
+
+wide-requires : tie.Need-wide-requires Inv-loop μ-loop
+wide-requires c κs = search needs
+
+cell-requires : tie.Need-cell-requires Inv-loop μ-loop
+cell-requires c κs =
+    let pre = c .before .before .before .before .pre in
+    let loop = c .before .before .loop in
+    (wf-sized _ (pre .0), (record { first = omega arith; last = omega (arith, loop .inv .walked .inside) }))
+
+mul-roles : tie.Need-mul-roles Inv-loop μ-loop
+mul-roles c =
+    let loop = c .before .before .before .before .loop in
+    let pre = c .before .before .before .before .before .before .pre in
+    let loop-test = c .before .before .before .loop-test in
+    omega (arith, gather-room _ _ _ _ _ (loop .inv) (pre .1 .1) (loop-test .taken))
+
+array-set-from-roles : tie.Need-array-set-from-roles Inv-loop μ-loop
+array-set-from-roles c =
+    let loop = c .before .before .before .before .loop in
+    let pre = c .before .before .before .before .before .before .pre in
+    let loop-test = c .before .before .before .loop-test in
+    gather-room _ _ _ _ _ (loop .inv) (pre .1 .1) (loop-test .taken)
+
+add-len : tie.Need-add-len Inv-loop μ-loop
+add-len c =
+    let loop = c .before .before .before .before .loop in
+    let pre = c .before .before .before .before .before .before .pre in
+    let loop-test = c .before .before .before .loop-test in
+    omega (arith, gather-room _ _ _ _ _ (loop .inv) (pre .1 .1) (loop-test .taken))
+
+loop-less : tie.Need-loop-less Inv-loop μ-loop
+loop-less c =
+    let loop = c .before .before .before .before .loop in
+    let pre = c .before .before .before .before .before .before .pre in
+    let loop-test = c .before .before .before .loop-test in
+    omega (arith, gather-room _ _ _ _ _ (loop .inv) (pre .1 .1) (loop-test .taken))
+
+loop-again : tie.Need-loop-again Inv-loop μ-loop
+loop-again c =
+    let wide = c .before .before .wide in
+    let loop = c .before .before .before .before .loop in
+    let loop-test = c .before .before .before .loop-test in
+    let pre = c .before .before .before .before .before .before .pre in
+    rw (c .before .cell .ensures, wide .ensures .0) (gather-goes-on _ _ _ _ _ (loop .inv) (loop-test .taken)
+    (gather-room _ _ _ _ _ (loop .inv) (pre .1 .1) (loop-test .taken)) (next-inside _ _ (wf-cells _ (pre .0) .1) _
+    (record { first = omega arith; last = omega (arith, loop .inv .walked .inside) })))
+
+returns : tie.Need-returns Inv-loop μ-loop
+returns c =
+    (c .before .loop .inv .walked .few, gather-ends _ _ _ _ _ (c .before .loop .inv) (c .loop-test .left))
+
+pub chain-spec : {M : Type 1} → statement M
+chain-spec =
+    tie.close
+    (tie.spec
+    Inv-loop
+    μ-loop
+    loop-holds
+    wide-requires
+    cell-requires
+    mul-roles
+    array-set-from-roles
+    add-len
+    loop-less
+    loop-again
+    returns)
