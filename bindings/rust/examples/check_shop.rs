@@ -1,0 +1,57 @@
+//! Checks the two tables of document 01's shop example, and one with a mistake in it.
+
+use bwlchareg::{check, check_query, Query};
+
+/// Principals Shop 1, School 2, Ann 4; names discount 1, student 2, accredited 3.
+const T: [u16; 28] = [
+    4, 0, 0, 0, // four credentials, no part cells, no automata, no edges
+    1, 1, 3, 3, 2, 0, // Shop.discount <- Shop.accredited.student
+    1, 3, 1, 2, 0, 0, // Shop.accredited <- School
+    2, 2, 1, 4, 0, 0, // School.student <- Ann
+    1, 1, 1, 4, 0, 0, // Shop.discount <- Ann
+];
+
+/// Table T with an automaton that rejects every word that begins with
+/// Shop.discount, attached to credential 3.
+const U: [u16; 42] = [
+    4, 0, 1, 2, //
+    1, 1, 3, 3, 2, 0, //
+    1, 3, 1, 2, 0, 0, //
+    2, 2, 1, 4, 0, 1, //
+    1, 1, 1, 4, 0, 0, //
+    1, 2, // starts in state 0, accepts in state 1
+    1, 0, 3, 1, 1, 1, // 0 -- any role but Shop.discount --> 1
+    1, 1, 2, 0, 0, 1, // 1 -- any role --> 1
+];
+
+/// Ann in Shop.discount, within two levels.
+const Q: Query = Query {
+    principal: 4,
+    owner: 1,
+    name: 1,
+    depth: 2,
+};
+
+fn tell(what: &str, answer: Result<(), bwlchareg::Refusal>) {
+    match answer {
+        Ok(()) => println!("{what}: accepted"),
+        Err(refusal) => println!("{what}: {refusal}"),
+    }
+}
+
+fn main() {
+    tell("table T", check(&T));
+    tell("table U", check(&U));
+    tell("table T, query Q", check_query(&T, Q));
+    tell(
+        "table T, query Q with depth 17",
+        check_query(&T, Query { depth: 17, ..Q }),
+    );
+
+    let mut mistaken = T;
+    mistaken[4 + 6 * 2 + 3] = 65; // credential 3 names principal 65
+    tell(
+        "table T with principal 65 in credential 3",
+        check(&mistaken),
+    );
+}
