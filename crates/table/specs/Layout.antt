@@ -6,7 +6,7 @@ use mathlib.Core.List.{List, [], _∷_, map}
 use mathlib.Core.Bool.{Bool}
 use lib.ListN.{length, getD}
 use lib.Dec.{eqb}
-use Rattle.table.specs.Logic.{pick}
+use Rattle.table.specs.Logic.{_and_, pick}
 use Rattle.table.specs.Limits.{mostCredentials, mostCells, mostAutomata, mostEdges, mostParts}
 use Rattle.table.specs.declared.Principal.{Principal}
 use Rattle.table.specs.declared.Name.{Name}
@@ -70,6 +70,10 @@ name x = record { 0 = x }
 
 abbrev pub role : ℕ → ℕ → Role
 role o n = record { owner = principal o; name = name n }
+
+-- equal owner and equal name
+unfoldable pub sameRole : Role → Role → Bool
+sameRole r s = eqb (r .owner .0) (s .owner .0) and eqb (r .name .0) (s .name .0)
 
 -- six numbers: owner, name, kind, first, second, automaton
 abbrev pub credentialAt : List ℕ → ℕ → Credential

@@ -6,6 +6,7 @@ mod ranges; // ranges.rt: what a single record or query must be
 mod rows; // rows.rt: the rows of checks over all records
 
 ghost use mathlib.Core.Path.{_≡_};
+ghost use Rattle.table.specs.Layout.{sameRole};
 ghost use Rattle.table.specs.Checks.{place, queryOutcome, queryTold, requestOutcome, tableOutcome, tableTold};
 
 // The width of every number of a table, a query and a record.
@@ -19,6 +20,14 @@ pub struct Name(pub Number);
 pub struct Role {
     pub owner: Principal,
     pub name: Name,
+}
+
+impl Role {
+    pub fn same(self, other: Role) -> bool
+        ensures { λ r. ⌜ r ≡ sameRole self other ⌝ }
+    {
+        self.owner.0 == other.owner.0 && self.name.0 == other.name.0
+    }
 }
 
 // A principal's membership in a role.

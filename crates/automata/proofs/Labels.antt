@@ -1,0 +1,58 @@
+-- What each label matches, and whether an edge leads on once its tests are known.
+use mathlib.Core.Path.{_≡_, refl, sym, _∙_}
+use mathlib.Core.Bool.{Bool, true, false, not}
+use Prim.Native.Nat.{ℕ, _-_, _*_, _/_, _%_, _^_, _≤_}
+use native.Mathlib.Nat.{one-mul, mod-eq-of-lt}
+use native.Mathlib.Omega.{arith}
+use lib.Pow.{pow-lt}
+use lib.ListN.{getD, set}
+use lib.Bits.{bitOr}
+use lib.Dec.{eqb}
+use borrow.Author.Tests.{eq-eqb, ne-eqb}
+use Rattle.table.specs.Logic.{_and_, pick}
+use Rattle.table.specs.Limits.{lastState}
+use Rattle.table.specs.Layout.{sameRole}
+use Rattle.table.specs.declared.Role.{Role}
+use Rattle.table.specs.declared.Edge.{Edge}
+use Rattle.automata.specs.Sets.{inSet}
+use Rattle.automata.specs.Automata.{leads, matches, withEdge}
+use Rattle.automata.specs.declared.StateSets.{StateSets}
+
+module _ (e : Edge) (r : Role) where
+  pub label-1 : e .label ≡ 1 → matches e r ≡ sameRole (e .role) r
+  unfolding matches pick
+  label-1 h = rw h
+
+  pub label-2 : e .label ≡ 2 → matches e r ≡ true
+  unfolding matches pick
+  label-2 h = rw h
+
+  pub label-3 : e .label ≡ 3 → matches e r ≡ not (sameRole (e .role) r)
+  unfolding matches pick
+  label-3 h = rw h
+
+  pub label-none : (e .label ≡ 1 → ⊥) → (e .label ≡ 2 → ⊥) → (e .label ≡ 3 → ⊥) → matches e r ≡ false
+  unfolding matches pick
+  label-none h1 h2 h3 = rw (ne-eqb (e .label) 1 h1, ne-eqb (e .label) 2 h2, ne-eqb (e .label) 3 h3)
+
+-- one bit, as the code makes it: to is a state, so nothing is shifted out of the 16
+pub one-bit : (s : ℕ) → s ≤ lastState → (1 * 2 ^ s) % 2 ^ 16 ≡ 2 ^ s
+one-bit s h = rw (one-mul, mod-eq-of-lt (pow-lt {i = s} {j = 16} (omega arith)))
+
+-- an edge, judged by its own automaton's set: the code has read the automaton's number as w
+module _ (from next : StateSets) (r : Role) (e : Edge) (w : ℕ) (read : w ≡ e .automaton) where
+  leads-own : (x : ℕ) → leads (e .automaton) r x e ≡ (inSet x (e .from) and matches e r)
+  unfolding leads _and_
+  leads-own x = rw (eq-eqb (e .automaton) (e .automaton) refl)
+
+  pub edge-elsewhere : (getD (from .sets) (w - 1) 0 / 2 ^ (e .from) % 2 ≡ 1 → ⊥) → next ≡ withEdge from r e next
+  unfolding withEdge inSet _and_ pick
+  edge-elsewhere h = rw (leads-own, ne-eqb _ 1 (rw read at h))
+
+  pub edge-unmatched : getD (from .sets) (w - 1) 0 / 2 ^ (e .from) % 2 ≡ 1 → matches e r ≡ false → next ≡ withEdge from r e next
+  unfolding withEdge inSet _and_ pick
+  edge-unmatched h off = rw (leads-own, eq-eqb _ 1 (rw read at h), off)
+
+  pub edge-leads : getD (from .sets) (w - 1) 0 / 2 ^ (e .from) % 2 ≡ 1 → matches e r ≡ true → e .to ≤ lastState → record { sets = set (next .sets) (w - 1) (bitOr (getD (next .sets) (w - 1) 0) ((1 * 2 ^ (e .to)) % 2 ^ 16)) } ≡ withEdge from r e next
+  unfolding withEdge inSet _and_ pick
+  edge-leads h on state = rw (read, leads-own, eq-eqb _ 1 (rw read at h), on, one-bit (e .to) state)

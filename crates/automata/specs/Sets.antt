@@ -1,0 +1,18 @@
+-- A set of states is a number: state s counts 2^s (document 01, "The table"). Nothing here depends on how many states there are.
+use Prim.Native.Nat.{ℕ, zero, suc, _/_, _%_, _^_}
+use mathlib.Core.Bool.{Bool, not}
+use lib.Bits.{bitAnd, bitOr}
+use lib.Dec.{eqb}
+use Rattle.table.specs.Logic.{pick}
+
+unfoldable pub inSet : ℕ → ℕ → Bool
+inSet x s = eqb (x / 2 ^ s % 2) 1
+
+-- the two sets have a state in common
+unfoldable pub meets : ℕ → ℕ → Bool
+meets x y = not (eqb (bitAnd x y) 0)
+
+-- the set of all k below n that pass the test
+unfoldable pub setOf : (ℕ → Bool) → ℕ → ℕ
+setOf p zero = 0
+setOf p (suc n) = pick (p n) (bitOr (setOf p n) (2 ^ n)) (setOf p n)
