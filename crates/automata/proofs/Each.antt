@@ -1,7 +1,7 @@
 -- The list f 1, f 2, up to f n: how long it is, what stands at each place, and that a list of that length with the same
 -- at each place is that list.
 use mathlib.Core.Path.{_≡_, refl, sym, _∙_}
-use mathlib.Core.List.{List, [], _∷_, _++_}
+use mathlib.Core.List.{List, []}
 use mathlib.Core.Logic.{⊎-elim}
 use Prim.Native.Nat.{ℕ, zero, suc, _<_}
 use native.Mathlib.Omega.{arith}

@@ -1,0 +1,158 @@
+-- A number as a set: what is in an empty set, a union, an intersection, a set of one and a set by a test, for any number
+-- of states; two sets with the same members are one number.
+use mathlib.Core.Path.{_≡_, refl, sym, ap, _∙_}
+use mathlib.Core.Bool.{Bool, true, false, not}
+use Prim.Native.Nat.{ℕ, zero, suc, _/_, _%_, _^_, _<_}
+use native.Mathlib.Omega.{arith}
+use native.Mathlib.Nat.{div-one, div-div-eq-div-mul, pow-suc, pow-succ'}
+use native.Mathlib.Decide.{ℕ-discrete}
+use lib.Arith.{bin-ind}
+use lib.Bits.{bitAnd, bitOr, and-shr, and-mod, or-shr, or-mod}
+use lib.Dec.{eqb, ltb, eqb·zero-suc, eqb·suc-zero, eqb·suc-suc}
+use borrow.Author.Tests.{ne-eqb, eq-eqb, eqb-true, eqb-false, not-true, ltb-true, ltb-false, lt-ltb, le-ltb}
+use Rattle.table.specs.Logic.{_and_, _or_, pick}
+use Rattle.table.proofs.Tests.{and-first, and-second, false-true}
+use Rattle.automata.specs.Sets.{inSet, meets, setOf}
+
+-- state 0 is the lowest digit, and the states after it are the other digits
+member-first : (x : ℕ) → inSet x 0 ≡ eqb (x % 2) 1
+unfolding inSet
+member-first x = rw (div-one x)
+
+member-next : (x s : ℕ) → inSet x (suc s) ≡ inSet (x / 2) s
+unfolding inSet
+member-next x s = rw (pow-succ' 2 s, ← div-div-eq-div-mul x 2 (2 ^ s))
+
+pub inSet-zero : (s : ℕ) → inSet 0 s ≡ false
+inSet-zero zero = member-first 0
+inSet-zero (suc s) = member-next 0 s ∙ inSet-zero s
+
+-- digit by digit
+or-digit : (a b : ℕ) → a < 2 → b < 2 → eqb (bitOr a b) 1 ≡ (eqb a 1 or eqb b 1)
+unfolding _or_
+or-digit zero b h l = refl
+or-digit (suc zero) zero h l = refl
+or-digit (suc zero) (suc zero) h l = refl
+or-digit (suc zero) (suc (suc b)) h l = absurd (omega arith)
+or-digit (suc (suc a)) b h l = absurd (omega arith)
+
+and-digit : (a b : ℕ) → a < 2 → b < 2 → eqb (bitAnd a b) 1 ≡ (eqb a 1 and eqb b 1)
+unfolding _and_
+and-digit zero b h l = refl
+and-digit (suc zero) zero h l = refl
+and-digit (suc zero) (suc zero) h l = refl
+and-digit (suc zero) (suc (suc b)) h l = absurd (omega arith)
+and-digit (suc (suc a)) b h l = absurd (omega arith)
+
+pub inSet-or : (x y s : ℕ) → inSet (bitOr x y) s ≡ (inSet x s or inSet y s)
+unfolding inSet
+inSet-or x y s = rw (or-shr x y s, or-mod (x / 2 ^ s) (y / 2 ^ s) 1) (or-digit (x / 2 ^ s % 2) (y / 2 ^ s % 2) (omega arith) (omega arith))
+
+pub inSet-and : (x y s : ℕ) → inSet (bitAnd x y) s ≡ (inSet x s and inSet y s)
+unfolding inSet
+inSet-and x y s = rw (and-shr x y s, and-mod (x / 2 ^ s) (y / 2 ^ s) 1) (and-digit (x / 2 ^ s % 2) (y / 2 ^ s % 2) (omega arith) (omega arith))
+
+pub inSet-pow : (t s : ℕ) → inSet (2 ^ t) s ≡ eqb t s
+inSet-pow zero zero = member-first 1
+inSet-pow zero (suc s) = member-next 1 s ∙ inSet-zero s ∙ sym (eqb·zero-suc s)
+inSet-pow (suc t) zero =
+    let even : 2 ^ suc t % 2 ≡ 0 = omega (arith, pow-suc 2 t) in
+    member-first (2 ^ suc t) ∙ rw (even, eqb·suc-zero t)
+inSet-pow (suc t) (suc s) =
+    let half : 2 ^ suc t / 2 ≡ 2 ^ t = omega (arith, pow-suc 2 t) in
+    member-next (2 ^ suc t) s ∙ rw (half, eqb·suc-suc t s) (inSet-pow t s)
+
+odd : (x : ℕ) → inSet x 0 ≡ true → x % 2 ≡ 1
+odd x e = eqb-true (x % 2) 1 (sym (member-first x) ∙ e)
+
+even : (x : ℕ) → inSet x 0 ≡ false → x % 2 ≡ 0
+even x e = let n = eqb-false (x % 2) 1 (sym (member-first x) ∙ e) in omega arith
+
+-- two sets are one number where state 0 and all states after it are alike
+alike : (x y : ℕ) → inSet x 0 ≡ inSet y 0 → x / 2 ≡ y / 2 → x ≡ y
+alike x y first rest = go (inSet y 0) refl
+  where
+    go : (b : Bool) → inSet y 0 ≡ b → x ≡ y
+    go true e = omega (arith, odd x (first ∙ e), odd y e)
+    go false e = omega (arith, even x (first ∙ e), even y e)
+
+same-rest : (x y : ℕ) → ((s : ℕ) → inSet x s ≡ inSet y s) → (s : ℕ) → inSet (x / 2) s ≡ inSet (y / 2) s
+same-rest x y same s = sym (member-next x s) ∙ same (suc s) ∙ member-next y s
+
+no-members : (y : ℕ) → ((s : ℕ) → inSet 0 s ≡ inSet y s) → 0 ≡ y
+no-members =
+    bin-ind (λ (y : ℕ). ((s : ℕ) → inSet 0 s ≡ inSet y s) → 0 ≡ y) (λ same. refl)
+    (λ y ih same. alike 0 y (same 0) (ih (same-rest 0 y same)))
+
+pub same-members : (x y : ℕ) → ((s : ℕ) → inSet x s ≡ inSet y s) → x ≡ y
+same-members =
+    bin-ind (λ (x : ℕ). (y : ℕ) → ((s : ℕ) → inSet x s ≡ inSet y s) → x ≡ y) no-members
+    (λ x ih y same. alike x y (same 0) (ih (y / 2) (same-rest x y same)))
+
+-- a number that is not 0 has a member: state 0, or one of the states after it
+some-member : (x : ℕ) → (x ≡ 0 → ⊥) → (s : ℕ) × (inSet x s ≡ true)
+some-member =
+    bin-ind (λ (x : ℕ). (x ≡ 0 → ⊥) → (s : ℕ) × (inSet x s ≡ true)) (λ h. absurd (h refl))
+    (λ x ih h. go x ih h (inSet x 0) refl)
+  where
+    go : (x : ℕ) → ((x / 2 ≡ 0 → ⊥) → (s : ℕ) × (inSet (x / 2) s ≡ true)) → (x ≡ 0 → ⊥) → (b : Bool) → inSet x 0 ≡ b
+        → (s : ℕ) × (inSet x s ≡ true)
+    go x ih h true e = (0, e)
+    go x ih h false e =
+        let rest = ih (λ z. h (omega (arith, even x e))) in
+        (suc (rest .0), member-next x (rest .0) ∙ rest .1)
+
+-- two sets meet exactly where some state is in both
+pub meets-common : (x y : ℕ) → meets x y ≡ true → (s : ℕ) × (inSet x s ≡ true) × (inSet y s ≡ true)
+unfolding meets
+meets-common x y h =
+    let both = some-member (bitAnd x y) (eqb-false (bitAnd x y) 0 (not-true _ h)) in
+    let e = sym (inSet-and x y (both .0)) ∙ both .1 in
+    (both .0, and-first _ _ e, and-second _ _ e)
+
+pub meets-shown : (x y s : ℕ) → inSet x s ≡ true → inSet y s ≡ true → meets x y ≡ true
+unfolding meets _and_
+meets-shown x y s h l =
+    ap not (ne-eqb (bitAnd x y) 0 (λ z.
+    let e : inSet (bitAnd x y) s ≡ true = inSet-and x y s ∙ rw (h, l) in
+    false-true (sym (inSet-zero s) ∙ (rw z at e))))
+
+-- tests whose second part is known
+or-false : (b : Bool) → (b or false) ≡ b
+unfolding _or_
+or-false true = refl
+or-false false = refl
+
+and-true : (b : Bool) → (b and true) ≡ b
+unfolding _and_
+and-true true = refl
+and-true false = refl
+
+pub and-false : (b : Bool) → (b and false) ≡ false
+unfolding _and_
+and-false true = refl
+and-false false = refl
+
+-- a set that takes in one state more where a test passes
+pub inSet-pick : (b : Bool) (x t s : ℕ) → inSet (pick b (bitOr x (2 ^ t)) x) s ≡ (inSet x s or (b and eqb t s))
+unfolding pick _and_
+inSet-pick true x t s = rw (inSet-or x (2 ^ t) s, inSet-pow t s)
+inSet-pick false x t s = sym (or-false (inSet x s))
+
+-- one number more below, other than k, leaves it where it was
+ltb-next : (k n : ℕ) → (n ≡ k → ⊥) → ltb k n ≡ ltb k (suc n)
+ltb-next k n h = go (ltb k n) refl
+  where
+    go : (b : Bool) → ltb k n ≡ b → ltb k n ≡ ltb k (suc n)
+    go true e = e ∙ sym (lt-ltb k (suc n) (omega (arith, ltb-true k n e)))
+    go false e = e ∙ sym (le-ltb k (suc n) (omega (arith, ltb-false k n e)))
+
+-- a set by a test has just those below n that pass
+pub setOf-members : (p : ℕ → Bool) (n k : ℕ) → inSet (setOf p n) k ≡ (ltb k n and p k)
+unfolding setOf _and_ _or_
+setOf-members p zero k = inSet-zero k ∙ rw (le-ltb k 0 (omega arith))
+setOf-members p (suc n) k = inSet-pick (p n) (setOf p n) n k ∙ rw (setOf-members p n k) (go (ℕ-discrete n k))
+  where
+    go : Dec (n ≡ k) → ((ltb k n and p k) or (p n and eqb n k)) ≡ (ltb k (suc n) and p k)
+    go (yes e) = rw (← e, le-ltb n n (omega arith), eq-eqb n n refl, lt-ltb n (suc n) (omega arith), and-true)
+    go (no e) = rw (ne-eqb n k e, and-false, or-false, ltb-next k n e)

@@ -1,0 +1,128 @@
+-- What is in a moved set, for any number of states and of edges: state s is in it exactly where some edge of the automaton,
+-- from a state in the set before and matching the role, leads to s. So an empty set stays empty, and unions stay unions.
+use mathlib.Core.Path.{_≡_, refl, sym, _∙_}
+use mathlib.Core.List.{List, [], _∷_}
+use mathlib.Core.Bool.{Bool, true, false}
+use mathlib.Core.Logic.{⊎-elim}
+use Prim.Native.Nat.{ℕ, zero, suc}
+use native.Mathlib.Omega.{arith}
+use native.Mathlib.Nat.{eq-or-lt-of-le}
+use lib.Bits.{bitOr}
+use lib.Dec.{eqb}
+use borrow.Author.Tests.{eqb-true, eq-eqb}
+use Rattle.table.specs.Logic.{_and_, _or_, pick}
+use Rattle.table.specs.Layout.{Numbered, edge, edges}
+use Rattle.table.specs.declared.Role.{Role}
+use Rattle.table.specs.declared.Edge.{Edge}
+use Rattle.table.proofs.Tests.{and-first, and-second, or-either, false-true}
+use Rattle.automata.specs.Sets.{inSet}
+use Rattle.automata.specs.Automata.{leads, matches, moved, movedBy, run}
+use Rattle.automata.proofs.Members.{inSet-zero, inSet-or, inSet-pick, same-members, and-false}
+
+-- a disjunction by one part, a conjunction by both
+or-first : {a : Bool} (b : Bool) → a ≡ true → (a or b) ≡ true
+unfolding _or_
+or-first b h = rw h
+
+or-second : (a : Bool) {b : Bool} → b ≡ true → (a or b) ≡ true
+unfolding _or_
+or-second true h = refl
+or-second false h = h
+
+and-both : {a b : Bool} → a ≡ true → b ≡ true → (a and b) ≡ true
+unfolding _and_
+and-both h l = rw (h, l)
+
+module _ (t : List ℕ) (k : ℕ) (r : Role) where
+  -- edge n + 1 adds its `to` state where it leads on
+  moved-next : (x n s : ℕ)
+      → inSet (movedBy t k r x (suc n)) s ≡ (inSet (movedBy t k r x n) s or (leads k r x (edge t (suc n)) and eqb (edge t (suc n) .to) s))
+  unfolding movedBy
+  moved-next x n s = inSet-pick (leads k r x (edge t (suc n))) (movedBy t k r x n) (edge t (suc n) .to) s
+
+  -- a state in the moved set has an edge that leads to it
+  pub moved-shows : (x n s : ℕ) → inSet (movedBy t k r x n) s ≡ true → (i : ℕ) × Numbered n i × (leads k r x (edge t i) ≡ true) × (edge t i .to ≡ s)
+  unfolding movedBy
+  moved-shows x zero s h = absurd (false-true (sym (inSet-zero s) ∙ h))
+  moved-shows x (suc n) s h =
+      or-either
+      (λ before.
+      let found = moved-shows x n s before in
+      (found .0, record { first = found .1 .first; last = omega (arith, found .1 .last) }, found .2, found .3))
+      (λ here. (suc n, record { first = omega arith; last = omega arith }, and-first _ _ here, eqb-true _ _ (and-second _ _ here)))
+      (sym (moved-next x n s) ∙ h)
+
+  -- and the state that such an edge leads to is in it
+  pub moved-reached : (x n s i : ℕ) → Numbered n i → leads k r x (edge t i) ≡ true → edge t i .to ≡ s → inSet (movedBy t k r x n) s ≡ true
+  moved-reached x zero s i h l e = absurd (omega arith)
+  moved-reached x (suc n) s i h l e =
+      moved-next x n s
+      ∙ ⊎-elim
+      (λ same. or-second _ (and-both (rw same at l) (eq-eqb _ _ (rw same at e))))
+      (λ less. or-first _ (moved-reached x n s i (record { first = h .first; last = omega arith }) l e))
+      (eq-or-lt-of-le (h .last))
+
+  -- over all edges of the table
+  pub all-moved-shows : (x s : ℕ) → inSet (moved t k r x) s ≡ true → (i : ℕ) × Numbered (edges t) i × (leads k r x (edge t i) ≡ true) × (edge t i .to ≡ s)
+  unfolding moved
+  all-moved-shows x s h = moved-shows x (edges t) s h
+
+  pub all-moved-reached : (x s i : ℕ) → Numbered (edges t) i → leads k r x (edge t i) ≡ true → edge t i .to ≡ s → inSet (moved t k r x) s ≡ true
+  unfolding moved
+  all-moved-reached x s i h l e = moved-reached x (edges t) s i h l e
+
+  -- no edge leads on from no state
+  leads-from-none : (e : Edge) → leads k r 0 e ≡ false
+  unfolding leads _and_
+  leads-from-none e = rw (inSet-zero (e .from), and-false)
+
+  moved-from-none : (n : ℕ) → movedBy t k r 0 n ≡ 0
+  unfolding movedBy pick
+  moved-from-none zero = refl
+  moved-from-none (suc n) = rw (leads-from-none (edge t (suc n))) (moved-from-none n)
+
+  pub moved-empty : moved t k r 0 ≡ 0
+  unfolding moved
+  moved-empty = moved-from-none (edges t)
+
+pub run-empty : (t : List ℕ) (k : ℕ) (word : List Role) → run t k 0 word ≡ 0
+unfolding run
+run-empty t k [] = refl
+run-empty t k (r ∷ word) = rw (moved-empty t k r) (run-empty t k word)
+
+-- "and" spreads over "or", and the parts of a disjunction change places
+or-and : (b c m : Bool) → ((b or c) and m) ≡ ((b and m) or (c and m))
+unfolding _and_ _or_
+or-and false c m = refl
+or-and true c true = refl
+or-and true c false = sym (and-false c)
+
+and-or-and : (a b c m : Bool) → (a and (b or c) and m) ≡ ((a and b and m) or (a and c and m))
+unfolding _and_ _or_
+and-or-and false b c m = refl
+and-or-and true b c m = or-and b c m
+
+or-exchange : (a b c d : Bool) → ((a or b) or (c or d)) ≡ ((a or c) or (b or d))
+unfolding _or_
+or-exchange true b c d = refl
+or-exchange false b false d = refl
+or-exchange false true true d = refl
+or-exchange false false true d = refl
+
+module _ (t : List ℕ) (k : ℕ) (r : Role) (x y : ℕ) where
+  -- an edge leads on from a union where it leads on from one of its parts
+  leads-from-union : (e : Edge) → leads k r (bitOr x y) e ≡ (leads k r x e or leads k r y e)
+  unfolding leads
+  leads-from-union e = rw (inSet-or x y (e .from)) (and-or-and (eqb (e .automaton) k) (inSet x (e .from)) (inSet y (e .from)) (matches e r))
+
+  moved-from-union : (n s : ℕ) → inSet (movedBy t k r (bitOr x y) n) s ≡ (inSet (movedBy t k r x n) s or inSet (movedBy t k r y n) s)
+  unfolding movedBy _or_
+  moved-from-union zero s = rw (inSet-zero s)
+  moved-from-union (suc n) s =
+      rw (moved-next t k r (bitOr x y) n s, moved-next t k r x n s, moved-next t k r y n s)
+      (rw (moved-from-union n s, leads-from-union (edge t (suc n)), or-and)
+      (or-exchange (inSet (movedBy t k r x n) s) (inSet (movedBy t k r y n) s) _ _))
+
+  pub moved-union : moved t k r (bitOr x y) ≡ bitOr (moved t k r x) (moved t k r y)
+  unfolding moved
+  moved-union = same-members _ _ (λ s. moved-from-union (edges t) s ∙ sym (inSet-or _ _ s))

@@ -1,0 +1,37 @@
+-- Document 01, "Derivations and words": derivations as forests, each node with its children and its later siblings, and what
+-- it means that a forest derives a list of goals.
+use Prim.Native.Nat.{ℕ, suc, _-_, _^_}
+use mathlib.Core.Path.{_≡_}
+use mathlib.Core.List.{List, [], _∷_, _++_}
+use mathlib.Core.Bool.{Bool, true}
+use mathlib.Core.Option.{Option, some}
+use lib.Bits.{bitOr}
+use Rattle.table.specs.declared.Goal.{Goal}
+use Rattle.derivation.specs.Rules.{fresh, premises}
+
+pub data Forest : Type 0 where
+  end : Forest
+  node : (credential middle : ℕ) (children siblings : Forest) → Forest
+
+-- with so many levels left, below a branch: one tree for each goal, by the rules, level and roles included
+pub data Derives (t : List ℕ) : ℕ → List Goal → List Goal → Forest → Type 0 where
+  done : {levels : ℕ} {branch : List Goal} → Derives t levels branch [] end
+  step : {levels c m : ℕ} {branch goals rest : List Goal} {g : Goal} {children siblings : Forest} → premises t g c m ≡ some goals → fresh branch g ≡ true → Derives t levels (g ∷ branch) goals children → Derives t (suc levels) branch rest siblings → Derives t (suc levels) branch (g ∷ rest) (node c m children siblings)
+
+-- the record: two numbers for each node, in preorder
+unfoldable pub written : Forest → List ℕ
+written end = []
+written (node c m children siblings) = c ∷ m ∷ (written children ++ written siblings)
+
+-- so many nodes, and those of the forest
+unfoldable pub countFrom : ℕ → Forest → ℕ
+countFrom n end = n
+countFrom n (node c m children siblings) = countFrom (countFrom (suc n) children) siblings
+
+-- the used set: credential i counts 2^(i-1), however often the record names it
+unfoldable pub usedFrom : ℕ → Forest → ℕ
+usedFrom used end = used
+usedFrom used (node c m children siblings) = usedFrom (usedFrom (bitOr used (2 ^ (c - 1))) children) siblings
+
+unfoldable pub usedSet : Forest → ℕ
+usedSet f = usedFrom 0 f

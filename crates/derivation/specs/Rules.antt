@@ -1,0 +1,46 @@
+-- Document 01, "Derivations and words": which goals a credential asks for a goal, the four inference rules of document 001,
+-- Figure 1, as one function; and what may not repeat on a branch.
+use Prim.Native.Nat.{ℕ}
+use mathlib.Core.List.{List, [], _∷_, map}
+use mathlib.Core.Bool.{Bool, true, not}
+use mathlib.Core.Option.{Option, none, some}
+use lib.Dec.{eqb}
+use Rattle.table.specs.Logic.{_and_, pick}
+use Rattle.table.specs.Layout.{credential, credentials, name, parts, principal, role, sameRole}
+use Rattle.table.specs.Checks.{isPrincipal, within}
+use Rattle.table.specs.declared.Principal.{Principal}
+use Rattle.table.specs.declared.Role.{Role}
+use Rattle.table.specs.declared.Goal.{Goal}
+use Rattle.table.specs.declared.Query.{Query}
+use Rattle.table.specs.declared.Credential.{Credential}
+
+-- the principal in the role
+abbrev pub goal : Principal → Role → Goal
+goal p r = record { principal = p; role = r }
+
+-- the goal of a query is its principal in its role
+abbrev pub goalOf : Query → Goal
+goalOf q = goal (q .principal) (record { owner = q .owner; name = q .name })
+
+abbrev pub when : Bool → List Goal → Option (List Goal)
+when test goals = pick test (some goals) none
+
+-- what credential c with middle m asks for goal g, by its kind; the middle is 0 for every kind but 3
+unfoldable pub asks : List ℕ → Goal → Credential → ℕ → Option (List Goal)
+asks t g c m =
+    pick (eqb (c .kind) 1) (when (eqb (c .first) (g .principal .0) and eqb m 0) [])
+    (pick (eqb (c .kind) 2) (when (eqb m 0) (goal (g .principal) (role (c .first) (c .second)) ∷ []))
+    (pick (eqb (c .kind) 3)
+      (when (isPrincipal (principal m))
+        (goal (principal m) (record { owner = c .role .owner; name = name (c .first) }) ∷ goal (g .principal) (role m (c .second)) ∷ []))
+    (pick (eqb (c .kind) 4) (when (eqb m 0) (map (λ (r : Role). goal (g .principal) r) (parts t (c .first)))) none)))
+
+-- the premises of goal g through credential number c, which must define the goal's role; none where it does not apply
+unfoldable pub premises : List ℕ → Goal → ℕ → ℕ → Option (List Goal)
+premises t g c m =
+    pick (within 1 (credentials t) c and sameRole (credential t c .role) (g .role)) (asks t g (credential t c) m) none
+
+-- no role occurs twice on the way from the goal to a node: the goal's role is none of those above it
+unfoldable pub fresh : List Goal → Goal → Bool
+fresh [] g = true
+fresh (above ∷ branch) g = not (sameRole (above .role) (g .role)) and fresh branch g

@@ -1,0 +1,32 @@
+-- Document 01, "Derivations and words": the words of a derivation, and whether it complies with every used automaton.
+use Prim.Native.Nat.{ℕ}
+use mathlib.Core.List.{List, [], _∷_, _++_}
+use mathlib.Core.Bool.{Bool, true, false, not}
+use lib.Dec.{eqb}
+use Rattle.table.specs.Logic.{_and_, _or_, pick}
+use Rattle.table.specs.Layout.{credential}
+use Rattle.table.specs.declared.Role.{Role}
+use Rattle.automata.specs.Automata.{accepts}
+use Rattle.derivation.specs.Forest.{Forest}
+use Rattle.derivation.specs.Forest.Forest.{end, node}
+
+-- a word is the list of roles from the goal down to a kind 1 node; `above` are the roles on the way to the forest
+unfoldable pub words : List ℕ → List Role → Forest → List (List Role)
+words t above end = []
+words t above (node c m children siblings) =
+    let word = above ++ (credential t c .role ∷ []) in
+    pick (eqb (credential t c .kind) 1) (word ∷ []) (words t word children) ++ words t above siblings
+
+-- a used automaton is one attached to a used credential, whichever branch uses it
+unfoldable pub usesAutomaton : List ℕ → Forest → ℕ → Bool
+usesAutomaton t end k = false
+usesAutomaton t (node c m children siblings) k =
+    eqb (credential t c .automaton) k or usesAutomaton t children k or usesAutomaton t siblings k
+
+unfoldable pub acceptsAll : List ℕ → ℕ → List (List Role) → Bool
+acceptsAll t k [] = true
+acceptsAll t k (word ∷ more) = accepts t k word and acceptsAll t k more
+
+-- the automaton is not used, or it accepts every word
+unfoldable pub met : List ℕ → Forest → ℕ → Bool
+met t f k = not (usesAutomaton t f k) or acceptsAll t k (words t [] f)
