@@ -2,4 +2,5 @@ pub mod Rules
 pub mod Forest
 pub mod Words
 pub mod Reading
+pub mod Tally
 pub mod Verdict

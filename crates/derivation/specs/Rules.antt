@@ -31,8 +31,8 @@ asks t g c m =
     pick (eqb (c .kind) 1) (when (eqb (c .first) (g .principal .0) and eqb m 0) [])
     (pick (eqb (c .kind) 2) (when (eqb m 0) (goal (g .principal) (role (c .first) (c .second)) ∷ []))
     (pick (eqb (c .kind) 3)
-      (when (isPrincipal (principal m))
-        (goal (principal m) (record { owner = c .role .owner; name = name (c .first) }) ∷ goal (g .principal) (role m (c .second)) ∷ []))
+    (when (isPrincipal (principal m))
+    (goal (principal m) (record { owner = c .role .owner; name = name (c .first) }) ∷ goal (g .principal) (role m (c .second)) ∷ []))
     (pick (eqb (c .kind) 4) (when (eqb m 0) (map (λ (r : Role). goal (g .principal) r) (parts t (c .first)))) none)))
 
 -- the premises of goal g through credential number c, which must define the goal's role; none where it does not apply

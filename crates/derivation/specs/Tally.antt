@@ -1,0 +1,55 @@
+-- What the verifier keeps while it reads a record: the used set, the number of nodes, and the set of automata that have accepted
+-- every word so far (automaton k counts 2^(k-1)). proofs/ show that these say of a whole record what its forest says.
+use Prim.Native.Nat.{ℕ, zero, suc, _-_, _^_}
+use mathlib.Core.List.{List}
+use mathlib.Core.Bool.{Bool, not}
+use lib.Bits.{bitAnd, bitOr}
+use lib.Dec.{eqb}
+use Rattle.table.specs.Logic.{_and_, _or_, pick}
+use Rattle.table.specs.Layout.{credential, credentials}
+use Rattle.automata.specs.Sets.{inSet}
+use Rattle.automata.specs.Automata.{acceptingSet, movedSets}
+use Rattle.automata.specs.declared.StateSets.{StateSets}
+use Rattle.derivation.specs.Forest.{Forest, countFrom, usedFrom}
+use Rattle.derivation.specs.Forest.Forest.{end, node}
+use Rattle.derivation.specs.Reading.{Reading}
+use Rattle.derivation.specs.Reading.Reading.{read, stop}
+
+-- the automata of `every` that accept each word of the forest, which is read from the state sets s on
+unfoldable pub everyFrom : List ℕ → StateSets → ℕ → Forest → ℕ
+everyFrom t s every end = every
+everyFrom t s every (node c m children siblings) =
+    let below = movedSets t (credential t c .role) s in
+    everyFrom t s (pick (eqb (credential t c .kind) 1) (bitAnd every (acceptingSet t below)) (everyFrom t below every children)) siblings
+
+-- all eight automata
+abbrev pub allAutomata : ℕ
+allAutomata = 255
+
+pub data Told : Type 0 where
+  passed : (rest : List ℕ) (used nodes every : ℕ) → Told
+  stopped : (number node : ℕ) → Told
+
+-- what is kept after a reading, on top of what was kept before
+unfoldable pub tally : List ℕ → StateSets → ℕ → ℕ → ℕ → Reading → Told
+tally t s used nodes every (read rest f) = passed rest (usedFrom used f) (countFrom nodes f) (everyFrom t s every f)
+tally t s used nodes every (stop number at) = stopped number at
+
+-- the same from the code's numbers: no refusal is 0
+unfoldable pub numbersTold : List ℕ → ℕ → ℕ → ℕ → ℕ → Told
+numbersTold rest used nodes every refusal = pick (eqb refusal 0) (passed rest used nodes every) (stopped refusal nodes)
+
+-- the automata attached to those of the first n credentials that are in the set
+unfoldable pub automataUpTo : List ℕ → ℕ → ℕ → ℕ
+automataUpTo t S zero = 0
+automataUpTo t S (suc n) =
+    pick (inSet S n and not (eqb (credential t (suc n) .automaton) 0))
+    (bitOr (automataUpTo t S n) (2 ^ (credential t (suc n) .automaton - 1)))
+    (automataUpTo t S n)
+
+unfoldable pub automataOf : List ℕ → ℕ → ℕ
+automataOf t S = automataUpTo t S (credentials t)
+
+-- automaton k is attached to no credential of the used set, or it has accepted every word
+unfoldable pub keeps : List ℕ → ℕ → ℕ → ℕ → Bool
+keeps t used every k = not (inSet (automataOf t used) (k - 1)) or inSet every (k - 1)
