@@ -25,15 +25,27 @@ goalOf q = goal (q .principal) (record { owner = q .owner; name = q .name })
 abbrev pub when : Bool → List Goal → Option (List Goal)
 when test goals = pick test (some goals) none
 
--- what credential c with middle m asks for goal g, by its kind; the middle is 0 for every kind but 3
+-- the rules, by kind: what credential c with middle m asks for goal g; the middle is 0 for every kind but 3
+abbrev pub membershipAsks : Goal → Credential → ℕ → Option (List Goal)
+membershipAsks g c m = when (eqb (c .first) (g .principal .0) and eqb m 0) []
+
+abbrev pub containmentAsks : Goal → Credential → ℕ → Option (List Goal)
+containmentAsks g c m = when (eqb m 0) (goal (g .principal) (role (c .first) (c .second)) ∷ [])
+
+abbrev pub linkingAsks : Goal → Credential → ℕ → Option (List Goal)
+linkingAsks g c m =
+    when (isPrincipal (principal m))
+    (goal (principal m) (record { owner = c .role .owner; name = name (c .first) }) ∷ goal (g .principal) (role m (c .second)) ∷ [])
+
+abbrev pub intersectionAsks : Goal → List Role → ℕ → Option (List Goal)
+intersectionAsks g roles m = when (eqb m 0) (map (λ (r : Role). goal (g .principal) r) roles)
+
 unfoldable pub asks : List ℕ → Goal → Credential → ℕ → Option (List Goal)
 asks t g c m =
-    pick (eqb (c .kind) 1) (when (eqb (c .first) (g .principal .0) and eqb m 0) [])
-    (pick (eqb (c .kind) 2) (when (eqb m 0) (goal (g .principal) (role (c .first) (c .second)) ∷ []))
-    (pick (eqb (c .kind) 3)
-    (when (isPrincipal (principal m))
-    (goal (principal m) (record { owner = c .role .owner; name = name (c .first) }) ∷ goal (g .principal) (role m (c .second)) ∷ []))
-    (pick (eqb (c .kind) 4) (when (eqb m 0) (map (λ (r : Role). goal (g .principal) r) (parts t (c .first)))) none)))
+    pick (eqb (c .kind) 1) (membershipAsks g c m)
+    (pick (eqb (c .kind) 2) (containmentAsks g c m)
+    (pick (eqb (c .kind) 3) (linkingAsks g c m)
+    (pick (eqb (c .kind) 4) (intersectionAsks g (parts t (c .first)) m) none)))
 
 -- the premises of goal g through credential number c, which must define the goal's role; none where it does not apply
 unfoldable pub premises : List ℕ → Goal → ℕ → ℕ → Option (List Goal)

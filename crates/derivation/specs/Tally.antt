@@ -1,18 +1,21 @@
 -- What the verifier keeps while it reads a record: the used set, the number of nodes, and the set of automata that have accepted
 -- every word so far (automaton k counts 2^(k-1)). proofs/ show that these say of a whole record what its forest says.
-use Prim.Native.Nat.{ℕ, zero, suc, _-_, _^_}
-use mathlib.Core.List.{List}
+use Prim.Native.Nat.{ℕ, zero, suc, _+_, _-_, _^_, _≤_}
+use mathlib.Core.Path.{_≡_}
+use lib.ListN.{length}
+use mathlib.Core.List.{List, [], _∷_}
 use mathlib.Core.Bool.{Bool, not}
 use lib.Bits.{bitAnd, bitOr}
 use lib.Dec.{eqb}
 use Rattle.table.specs.Logic.{_and_, _or_, pick}
 use Rattle.table.specs.Layout.{credential, credentials}
+use Rattle.table.specs.declared.Goal.{Goal}
 use Rattle.automata.specs.Sets.{inSet}
 use Rattle.automata.specs.Automata.{acceptingSet, movedSets}
 use Rattle.automata.specs.declared.StateSets.{StateSets}
 use Rattle.derivation.specs.Forest.{Forest, countFrom, usedFrom}
 use Rattle.derivation.specs.Forest.Forest.{end, node}
-use Rattle.derivation.specs.Reading.{Reading}
+use Rattle.derivation.specs.Reading.{Reading, reader}
 use Rattle.derivation.specs.Reading.Reading.{read, stop}
 
 -- the automata of `every` that accept each word of the forest, which is read from the state sets s on
@@ -38,6 +41,15 @@ tally t s used nodes every (stop number at) = stopped number at
 -- the same from the code's numbers: no refusal is 0
 unfoldable pub numbersTold : List ℕ → ℕ → ℕ → ℕ → ℕ → Told
 numbersTold rest used nodes every refusal = pick (eqb refusal 0) (passed rest used nodes every) (stopped refusal nodes)
+
+-- reading goals on, from what is kept so far
+unfoldable pub tallyOn : List ℕ → ℕ → List Goal → List Goal → StateSets → List ℕ → ℕ → ℕ → ℕ → Told
+tallyOn t levels branch goals s rec used nodes every = tally t s used nodes every (reader t levels branch goals rec (suc nodes))
+
+-- what the code's reader of one goal gives: the numbers tell the reading, and where it passed each node has taken two numbers
+pub record ReadOn (t : List ℕ) (levels : ℕ) (branch : List Goal) (g : Goal) (s : StateSets) (rec : List ℕ) (used nodes every : ℕ) (rest : List ℕ) (used′ nodes′ every′ refusal : ℕ) : Type 0 where
+  pub told : numbersTold rest used′ nodes′ every′ refusal ≡ tallyOn t levels branch (g ∷ []) s rec used nodes every
+  pub room : refusal ≡ 0 → nodes′ + length rest ≤ nodes + length rec
 
 -- the automata attached to those of the first n credentials that are in the set
 unfoldable pub automataUpTo : List ℕ → ℕ → ℕ → ℕ

@@ -81,11 +81,16 @@ module _ (t : List ℕ) (wf : WellFormed t) where
   pub wf-edge : (k : ℕ) → Numbered (edges t) k → EdgeRange (automata t) (edge t k)
   wf-edge k h = edges-in-range t _ (then-second (chainsOutcome t) _ 0 after-cells) k h
 
+  pub wf-chain-ok : (i : ℕ) → Numbered (credentials t) i → credential t i .kind ≡ 4 → chainOk t (credential t i .first) ≡ true
+  unfolding chainsOutcome
+  wf-chain-ok i h four =
+      sym (chain-of-kind-4 t i (credential t i) refl four)
+      ∙ each-ok (goodChain t) 6 (credentials t) _ (then-first (chainsOutcome t) _ 0 after-cells .1) i h
+
   pub wf-chain : (i : ℕ) → Numbered (credentials t) i → credential t i .kind ≡ 4 → ChainRange t (credential t i .first)
-  unfolding chainsOutcome chainOk within
+  unfolding chainOk within
   wf-chain i h four =
-      let passed = each-ok (goodChain t) 6 (credentials t) _ (then-first (chainsOutcome t) _ 0 after-cells .1) i h in
-      let ok = sym (chain-of-kind-4 t i (credential t i) refl four) ∙ passed in
+      let ok = wf-chain-ok i h four in
       let there = wf-credential i h .intersection four .0 in
       record {
         least = leb-true _ _ (and-first _ _ ok);

@@ -4,7 +4,7 @@ use Prim.Native.Nat.{ℕ, zero, suc, _+_, _-_, _*_, _≤_}
 use mathlib.Core.Path.{_≡_}
 use mathlib.Core.List.{List, [], _∷_, map}
 use mathlib.Core.Bool.{Bool}
-use lib.ListN.{length, getD}
+use lib.ListN.{length, getD, take}
 use lib.Dec.{eqb}
 use Rattle.table.specs.Logic.{_and_, pick}
 use Rattle.table.specs.Limits.{mostCredentials, mostCells, mostAutomata, mostEdges, mostParts}
@@ -13,6 +13,7 @@ use Rattle.table.specs.declared.Name.{Name}
 use Rattle.table.specs.declared.Role.{Role}
 use Rattle.table.specs.declared.Credential.{Credential}
 use Rattle.table.specs.declared.Cell.{Cell}
+use Rattle.table.specs.declared.Chain.{Chain}
 use Rattle.table.specs.declared.Automaton.{Automaton}
 use Rattle.table.specs.declared.Edge.{Edge}
 
@@ -131,6 +132,12 @@ chain t j = cellsFrom t (suc mostParts) j
 -- the roles of its parts, in chain order
 unfoldable pub parts : List ℕ → ℕ → List Role
 parts t j = map (λ (k : ℕ). cell t k .role) (chain t j)
+
+-- a chain held in an array: the first `len` of its four roles are the parts
+pub record Holds (t : List ℕ) (first : ℕ) (held : Chain) : Type 0 where
+  pub few : held .len ≤ mostParts
+  pub room : length (held .roles) ≡ mostParts
+  pub roles : take (held .len) (held .roles) ≡ parts t first
 
 -- the head is there, with each count inside its limit
 pub record Counted (t : List ℕ) : Type 0 where

@@ -12,11 +12,10 @@ use crate::Role;
 ghost use mathlib.Core.Path.{_≡_};
 ghost use Prim.Native.Nat.{_+_, _≤_};
 ghost use mathlib.Core.Bool.{true};
-ghost use lib.ListN.{length, take};
-ghost use Rattle.table.specs.Limits.{mostParts};
+ghost use lib.ListN.{length};
 ghost use Rattle.table.specs.Checks.{WellFormed, chainOk};
 ghost use Rattle.table.specs.Layout;
-ghost use Rattle.table.specs.Layout.{Counted, Numbered, Sized, parts, automata, automatonSize, cellSize, cells, credentialSize, credentials, edgeSize, edges};
+ghost use Rattle.table.specs.Layout.{Counted, Holds, Numbered, Sized, automata, automatonSize, cellSize, cells, credentialSize, credentials, edgeSize, edges};
 
 pub const MOST_CREDENTIALS: Number = 20;
 
@@ -107,7 +106,7 @@ pub fn chain(table: &[Number], first: Number) -> Chain
     requires { ⌜ WellFormed (now table) ⌝ }
     requires { ⌜ Numbered (cells (now table)) first ⌝ }
     requires { ⌜ chainOk (now table) first ≡ true ⌝ }
-    ensures { λ r. ⌜ (r .len ≤ mostParts) × (take (r .len) (r .roles) ≡ parts (now (table .entry)) first) ⌝ }
+    ensures { λ r. ⌜ Holds (now (table .entry)) first r ⌝ }
 {
     let mut roles = [Role {
         owner: Principal(0),

@@ -68,7 +68,12 @@ loop-again c =
 
 returns : tie.Need-returns Inv-loop μ-loop
 returns c =
-    (c .before .loop .inv .walked .few, gather-ends _ _ _ _ _ (c .before .loop .inv) (c .loop-test .left))
+    record {
+      few = c .before .loop .inv .walked .few;
+      room = c .before .loop .inv .room;
+      roles = gather-ends _ _ _
+          _ _ (c .before .loop .inv) (c .loop-test .left);
+    }
 
 pub chain-spec : {M : Type 1} → statement M
 chain-spec =

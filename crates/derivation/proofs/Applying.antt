@@ -1,0 +1,91 @@
+-- What it means that a credential applies to a goal: it is there, it defines the goal's role, and it asks nothing exactly for kind 1.
+use mathlib.Core.Path.{_≡_, refl, sym, ap, ap₂, _∙_}
+use mathlib.Core.List.{List, [], _∷_, map}
+use mathlib.Core.Bool.{Bool, true, false}
+use mathlib.Core.Option.{Option, none, some}
+use Prim.Native.Nat.{ℕ, zero, suc, _≤_, _<_}
+use native.Mathlib.Omega.{arith}
+use native.Mathlib.Decide.{ℕ-discrete}
+use lib.ListN.{length}
+use lib.Dec.{eqb}
+use borrow.Author.Tests.{eqb-true}
+use Rattle.table.specs.Logic.{_and_, pick}
+use Rattle.table.specs.Layout.{Numbered, cell, chain, credential, credentials, parts, role, sameRole}
+use Rattle.table.specs.Checks.{WellFormed, within}
+use Rattle.table.specs.declared.Role.{Role}
+use Rattle.table.specs.declared.Goal.{Goal}
+use Rattle.table.specs.declared.Credential.{Credential}
+use Rattle.table.proofs.Tests.{and-first, and-second}
+use Rattle.table.proofs.Fields.{within-range}
+use Rattle.table.proofs.WellFormed.{wf-chain, wf-credential}
+use Rattle.derivation.specs.Rules.{asks, goal, premises, when}
+use Rattle.derivation.proofs.Asking.{asks-1, asks-2, asks-3, asks-4, asks-none}
+
+pub same-role : (r s : Role) → sameRole r s ≡ true → r ≡ s
+unfolding sameRole
+same-role r s h = ap₂ role (eqb-true _ _ (and-first _ _ h)) (eqb-true _ _ (and-second _ _ h))
+
+none-some : {goals : List Goal} → none ≡ some goals → ⊥
+none-some e = let z : _≡_ {A = ℕ} 0 1 = cc in omega arith
+
+picked : (test : Bool) (asked : Option (List Goal)) (goals : List Goal) → pick test asked none ≡ some goals → (test ≡ true) × (asked ≡ some goals)
+unfolding pick
+picked true asked goals h = (refl, h)
+picked false asked goals h = absurd (none-some h)
+
+when-some : (test : Bool) (asked goals : List Goal) → when test asked ≡ some goals → asked ≡ goals
+unfolding pick
+when-some true asked goals h = cc
+when-some false asked goals h = absurd (none-some h)
+
+module _ (t : List ℕ) (g : Goal) (c m : ℕ) (goals : List Goal) (applies : premises t g c m ≡ some goals) where
+  both : ((within 1 (credentials t) c and sameRole (credential t c .role) (g .role)) ≡ true) × (asks t g (credential t c) m ≡ some goals)
+  unfolding premises
+  both = picked _ _ goals applies
+
+  pub applies-numbered : Numbered (credentials t) c
+  applies-numbered = within-range (credentials t) c (and-first _ _ (both .0))
+
+  pub applies-role : credential t c .role ≡ g .role
+  applies-role = same-role (credential t c .role) (g .role) (and-second _ _ (both .0))
+
+  pub applies-asks : asks t g (credential t c) m ≡ some goals
+  applies-asks = both .1
+
+cons-nil : {A : Type 0} {x : A} {xs : List A} → x ∷ xs ≡ [] → ⊥
+cons-nil e = let z : _≡_ {A = ℕ} 0 1 = cc in omega arith
+
+-- a chain has parts
+some-parts : (t : List ℕ) (f : Role → Goal) (first : ℕ) → 2 ≤ length (chain t first) → map f (parts t first) ≡ [] → ⊥
+unfolding parts length
+some-parts t f first long e = go (chain t first) long e
+  where
+    go : (cells : List ℕ) → 2 ≤ length cells → map f (map (λ (k : ℕ). cell t k .role) cells) ≡ [] → ⊥
+    go [] few e = omega arith
+    go (j ∷ more) few e = cons-nil e
+
+-- something is asked, so the kind is not 1
+pub asks-more : (t : List ℕ) (g : Goal) (c m : ℕ) (h : Goal) (goals : List Goal) → premises t g c m ≡ some (h ∷ goals) → credential t c .kind ≡ 1 → ⊥
+asks-more t g c m h goals applies one =
+    cons-nil (sym (when-some _ [] (h ∷ goals) (asks-1 t g (credential t c) m one ∙ applies-asks t g c m (h ∷ goals) applies)))
+
+-- nothing is asked, so the kind is 1
+pub asks-nothing : (t : List ℕ) → WellFormed t → (g : Goal) (c m : ℕ) → premises t g c m ≡ some [] → credential t c .kind ≡ 1
+asks-nothing t wf g c m applies = go (ℕ-discrete kind 1) (ℕ-discrete kind 2) (ℕ-discrete kind 3) (ℕ-discrete kind 4)
+  where
+    kind : ℕ
+    kind = credential t c .kind
+
+    asked : asks t g (credential t c) m ≡ some []
+    asked = applies-asks t g c m [] applies
+
+    there : Numbered (credentials t) c
+    there = applies-numbered t g c m [] applies
+
+    go : Dec (kind ≡ 1) → Dec (kind ≡ 2) → Dec (kind ≡ 3) → Dec (kind ≡ 4) → credential t c .kind ≡ 1
+    go (yes h) d2 d3 d4 = h
+    go (no n1) (yes h) d3 d4 = absurd (cons-nil (when-some _ _ [] (asks-2 t g (credential t c) m h ∙ asked)))
+    go (no n1) (no n2) (yes h) d4 = absurd (cons-nil (when-some _ _ [] (asks-3 t g (credential t c) m h ∙ asked)))
+    go (no n1) (no n2) (no n3) (yes h) =
+        absurd (some-parts t _ (credential t c .first) (wf-chain t wf c there h .least) (when-some _ _ [] (asks-4 t g (credential t c) m h ∙ asked)))
+    go (no n1) (no n2) (no n3) (no n4) = absurd (none-some (asks-none t g (credential t c) m n1 n2 n3 n4 ∙ asked))

@@ -1,0 +1,122 @@
+-- The rules, case by case: what a credential asks once the code's tests are known.
+use mathlib.Core.Path.{_≡_, refl, sym, ap, _∙_}
+use mathlib.Core.List.{List, [], _∷_, _++_, map, map-append}
+use mathlib.Core.Bool.{Bool, true, false}
+use mathlib.Core.Option.{Option, none, some}
+use Prim.Native.Nat.{ℕ, suc, _+_, _≤_, _<_}
+use native.Mathlib.Omega.{arith}
+use native.Mathlib.Numerals.{add-one}
+use lib.ListN.{getD, length, set, take, length-set}
+use lib.Seq.{take-suc, take-suc-set}
+use lib.Dec.{eqb, leb}
+use borrow.Author.Tests.{eq-eqb, ne-eqb, le-leb, lt-leb}
+use Rattle.table.specs.Logic.{_and_, pick}
+use Rattle.table.specs.Limits.{mostParts, mostPrincipals}
+use Rattle.table.specs.Layout.{Numbered, cells, credential, credentials, parts, principal, sameRole}
+use Rattle.table.specs.Checks.{WellFormed, chainOk, isPrincipal, within}
+use Rattle.table.proofs.WellFormed.{wf-chain-ok, wf-credential}
+use Rattle.table.specs.declared.Role.{Role}
+use Rattle.table.specs.declared.Goal.{Goal}
+use Rattle.table.specs.declared.Credential.{Credential}
+use Rattle.derivation.specs.Rules.{asks, containmentAsks, goal, intersectionAsks, linkingAsks, membershipAsks, premises, when}
+
+pub when-off : {test : Bool} (goals : List Goal) → test ≡ false → none ≡ when test goals
+unfolding pick
+when-off goals h = rw h
+
+pub when-on : {test : Bool} (goals : List Goal) → test ≡ true → some goals ≡ when test goals
+unfolding pick
+when-on goals h = rw h
+
+pub and-is-off : {a : Bool} (b : Bool) → a ≡ false → (a and b) ≡ false
+unfolding _and_
+and-is-off b h = rw h
+
+pub and-is : {a b x : Bool} → a ≡ true → b ≡ x → (a and b) ≡ x
+unfolding _and_
+and-is h e = rw h e
+
+pub principal-none : (m : ℕ) → m ≡ 0 → isPrincipal (principal m) ≡ false
+unfolding isPrincipal within _and_
+principal-none m h = rw h
+
+pub principal-over : (m : ℕ) → mostPrincipals < m → isPrincipal (principal m) ≡ false
+unfolding isPrincipal within
+principal-over m h = and-is (le-leb 1 m (omega arith)) (lt-leb m mostPrincipals h)
+
+pub principal-there : (m : ℕ) → (m ≡ 0 → ⊥) → m ≤ mostPrincipals → isPrincipal (principal m) ≡ true
+unfolding isPrincipal within
+principal-there m nz h = and-is (le-leb 1 m (omega arith)) (le-leb m mostPrincipals h)
+
+-- by kind, for a credential that defines the goal's role
+module _ (t : List ℕ) (g : Goal) (c : Credential) (m : ℕ) where
+  pub asks-1 : c .kind ≡ 1 → membershipAsks g c m ≡ asks t g c m
+  unfolding asks pick
+  asks-1 h = rw h
+
+  pub asks-2 : c .kind ≡ 2 → containmentAsks g c m ≡ asks t g c m
+  unfolding asks pick
+  asks-2 h = rw h
+
+  pub asks-3 : c .kind ≡ 3 → linkingAsks g c m ≡ asks t g c m
+  unfolding asks pick
+  asks-3 h = rw h
+
+  pub asks-4 : c .kind ≡ 4 → intersectionAsks g (parts t (c .first)) m ≡ asks t g c m
+  unfolding asks pick
+  asks-4 h = rw h
+
+  pub asks-none : (c .kind ≡ 1 → ⊥) → (c .kind ≡ 2 → ⊥) → (c .kind ≡ 3 → ⊥) → (c .kind ≡ 4 → ⊥) → none ≡ asks t g c m
+  unfolding asks pick
+  asks-none h1 h2 h3 h4 = rw (ne-eqb (c .kind) 1 h1, ne-eqb (c .kind) 2 h2, ne-eqb (c .kind) 3 h3, ne-eqb (c .kind) 4 h4)
+
+-- credential number c
+module _ (t : List ℕ) (g : Goal) (c m : ℕ) where
+  pub no-credential : c ≡ 0 → none ≡ premises t g c m
+  unfolding premises within _and_ pick
+  no-credential h = rw h
+
+  pub credential-over : credentials t < c → none ≡ premises t g c m
+  unfolding premises within pick
+  credential-over h = rw (and-is-off (sameRole (credential t c .role) (g .role)) (and-is (le-leb 1 c (omega arith)) (lt-leb c (credentials t) h)))
+
+  within-all : Numbered (credentials t) c → within 1 (credentials t) c ≡ true
+  unfolding within
+  within-all h = and-is (le-leb 1 c (h .first)) (le-leb c (credentials t) (h .last))
+
+  -- which the code has read as x
+  module _ (there : Numbered (credentials t) c) (x : Credential) (read : x ≡ credential t c) where
+    pub other-role : sameRole (x .role) (g .role) ≡ false → none ≡ premises t g c m
+    unfolding premises pick
+    other-role h = rw (and-is (within-all there) (rw read at h))
+
+    pub own-role : sameRole (x .role) (g .role) ≡ true → asks t g x m ≡ premises t g c m
+    unfolding premises pick
+    own-role h = rw (and-is (within-all there) (rw read at h), read)
+
+-- the goals of an intersection, gathered part by part
+pub record Asked (g : Goal) (roles : List Role) (goals : List Goal) (i : ℕ) : Type 0 where
+  pub size : length goals ≡ mostParts
+  pub so-far : take i goals ≡ map (λ (r : Role). goal (g .principal) r) (take i roles)
+
+-- one part more: role r of the chain stands at i
+pub asked-more : (g : Goal) (roles : List Role) (goals : List Goal) (i : ℕ) (d : Role) → Asked g roles goals i → i < mostParts → i < length roles → Asked g roles (set goals i (goal (g .principal) (getD roles i d))) (i + 1)
+asked-more g roles goals i d a room there =
+    record {
+      size = simp length-set (a .size);
+      so-far =
+          rw (add-one i, take-suc-set goals i (goal (g .principal) (getD roles i d)) (omega (arith, a .size)), take-suc roles i d there, map-append, ← a .so-far);
+    }
+
+pub asked-none : (g : Goal) (roles : List Role) (goals : List Goal) → length goals ≡ mostParts → Asked g roles goals 0
+unfolding take
+asked-none g roles goals size = record { size = size; so-far = refl }
+
+pub asked-all : (g : Goal) (roles : List Role) (goals : List Goal) (i len : ℕ) → i ≡ len → Asked g roles goals i → take len goals ≡ map (λ (r : Role). goal (g .principal) r) (take len roles)
+asked-all g roles goals i len all a = rw all at (a .so-far)
+
+-- an intersection's first cell is there, and its chain has 2 to 4 cells; the code has read credential c as x
+pub chain-there : (t : List ℕ) → WellFormed t → (c : ℕ) → Numbered (credentials t) c → (x : Credential) → x ≡ credential t c → x .kind ≡ 4 → Numbered (cells t) (x .first) × (chainOk t (x .first) ≡ true)
+chain-there t wf c there x read four =
+    let kind = ap (λ (y : Credential). y .kind) (sym read) ∙ four in
+    rw read (wf-credential t wf c there .intersection kind .0, wf-chain-ok t wf c there kind)

@@ -1,0 +1,28 @@
+-- `derivation::Branch::with` meets its contract: the goal is the nearest of those above. Assumes nothing.
+use mathlib.Core.Path.{refl}
+use borrow.Author.Needs.{needs}
+use Rattle.derivation.proofs.Above.{above-with, room-with}
+use Rattle.derivation.proofs.Branch.with.Statement.{statement}
+use Rattle.derivation.proofs.Branch.with.Tie as tie
+
+mul-goals : tie.Need-mul-goals
+mul-goals c = search needs
+
+array-set-from-goals : tie.Need-array-set-from-goals
+array-set-from-goals c = search needs
+
+add-t5 : tie.Need-add-t5
+add-t5 c = search needs
+
+returns : tie.Need-returns
+returns c = (
+  room-with _ _ (c .before .pre .0) (c .before .pre .1),
+  (
+    refl,
+    above-with _ _ (c .before .pre .0)
+        (c .before .pre .1),
+  ),
+)
+
+pub with-spec : {M : Type 1} → statement M
+with-spec = tie.close (tie.spec mul-goals array-set-from-goals add-t5 returns)

@@ -1,0 +1,65 @@
+-- A node's entry, test by test: rows 11, 12 and 13, and what the code's step says of them.
+use mathlib.Core.Path.{_≡_, refl, sym, ap, _∙_}
+use mathlib.Core.List.{List, [], _∷_}
+use mathlib.Core.Bool.{Bool, true, false}
+use mathlib.Core.Option.{Option, none, some}
+use Prim.Native.Nat.{ℕ, zero, suc, _≤_, _<_}
+use native.Mathlib.Omega.{arith}
+use lib.ListN.{drop, getD, length, take}
+use lib.Dec.{eqb}
+use borrow.Author.Tests.{ne-eqb}
+use Rattle.table.specs.Logic.{pick}
+use Rattle.table.specs.declared.Goal.{Goal}
+use Rattle.derivation.specs.Rules.{fresh, premises}
+use Rattle.derivation.specs.Reading.{Entry, admitted, entry}
+use Rattle.derivation.specs.Reading.Entry.{ask, halt}
+use Rattle.derivation.specs.Held.{given, may, stepped}
+use Rattle.derivation.specs.declared.Premises.{Premises}
+use Rattle.derivation.specs.declared.Step.{Step}
+
+pub may-none : (levels : ℕ) (branch : List Goal) (g : Goal) → levels ≡ 0 → may levels branch g ≡ false
+unfolding may
+may-none levels branch g h = rw h
+
+pub may-fresh : (levels : ℕ) (branch : List Goal) (g : Goal) → (levels ≡ 0 → ⊥) → may levels branch g ≡ fresh branch g
+unfolding may
+may-fresh zero branch g h = absurd (h refl)
+may-fresh (suc levels) branch g h = refl
+
+pub given-none : (p : Premises) → p .applies ≡ false → given p ≡ none
+unfolding given pick
+given-none p h = rw h
+
+pub given-some : (p : Premises) → p .applies ≡ true → given p ≡ some (take (p .len) (p .goals))
+unfolding given pick
+given-some p h = rw h
+
+pub halted-tells : (s : Step) (number : ℕ) (rec : List ℕ) → 0 < number → s .refusal ≡ number → stepped s rec ≡ halt number
+unfolding stepped pick
+halted-tells s number rec some-number h = rw (h, ne-eqb number 0 (omega arith))
+
+module _ (t : List ℕ) (open′ : Bool) (g : Goal) where
+  pub entry-short : (rec : List ℕ) → length rec < 2 → halt 11 ≡ entry t open′ g rec
+  unfolding entry length
+  entry-short [] h = refl
+  entry-short (c ∷ []) h = refl
+  entry-short (c ∷ m ∷ rest) h = absurd (omega arith)
+
+  entry-two : (rec : List ℕ) → 2 ≤ length rec → entry t open′ g rec ≡ admitted open′ (getD rec 0 0) (getD rec 1 0) (drop 2 rec) (premises t g (getD rec 0 0) (getD rec 1 0))
+  unfolding entry length getD drop
+  entry-two [] h = absurd (omega arith)
+  entry-two (c ∷ []) h = absurd (omega arith)
+  entry-two (c ∷ m ∷ rest) h = refl
+
+  module _ (rec : List ℕ) (long : 2 ≤ length rec) where
+    pub entry-unfit : premises t g (getD rec 0 0) (getD rec 1 0) ≡ none → halt 12 ≡ entry t open′ g rec
+    unfolding admitted
+    entry-unfit h = rw (entry-two rec long, h)
+
+    pub entry-closed : {goals : List Goal} → premises t g (getD rec 0 0) (getD rec 1 0) ≡ some goals → open′ ≡ false → halt 13 ≡ entry t open′ g rec
+    unfolding admitted pick
+    entry-closed h shut = rw (entry-two rec long, h, shut)
+
+    pub entry-asks : {goals : List Goal} → premises t g (getD rec 0 0) (getD rec 1 0) ≡ some goals → open′ ≡ true → ask (getD rec 0 0) (getD rec 1 0) goals (drop 2 rec) ≡ entry t open′ g rec
+    unfolding admitted pick
+    entry-asks h free = rw (entry-two rec long, h, free)

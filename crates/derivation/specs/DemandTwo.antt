@@ -1,0 +1,48 @@
+-- Demand 2 on the verifier: on an accepted table and a valid query it accepts a record, with a set, exactly when the record derives
+-- the queried membership, complies, and uses that set; and where it stops reading, what it tells is the first thing that applies.
+use Prim.Native.Nat.{ℕ, suc, _<_}
+use mathlib.Core.Path.{_≡_}
+use mathlib.Core.List.{List, _∷_, _++_}
+use mathlib.Core.Bool.{true, false}
+use mathlib.Core.Option.{none, some}
+use mathlib.Core.Logic.{_↔_}
+use lib.ListN.{length}
+use Rattle.table.specs.Outcome.Outcome.{accepted}
+use Rattle.table.specs.Checks.{Valid, WellFormed}
+use Rattle.table.specs.declared.Goal.{Goal}
+use Rattle.table.specs.declared.Query.{Query}
+use Rattle.derivation.specs.Rules.{fresh, premises}
+use Rattle.derivation.specs.Forest.{Derives, Forest, countFrom, written}
+use Rattle.derivation.specs.Reading.{reader}
+use Rattle.derivation.specs.Reading.Reading.{stop}
+use Rattle.derivation.specs.Verdict.{Accepted, verdict}
+
+-- the verifier accepts exactly the records that derive and comply, and tells their used set
+abbrev pub DemandTwo : Type 0
+DemandTwo =
+    (t : List ℕ) (q : Query) (rec : List ℕ) (S : ℕ) → WellFormed t → Valid q → ((verdict t q rec ≡ accepted S) ↔ Accepted t q rec S)
+
+-- a record has at most one derivation
+abbrev pub OneDerivation : Type 0
+OneDerivation =
+    (t : List ℕ) (levels : ℕ) (branch goals : List Goal) (f f′ : Forest) → Derives t levels branch goals f → Derives t levels branch goals f′ → written f ≡ written f′ → f ≡ f′
+
+-- where reading stops: with so many levels left, below a branch, for these goals, from node `at` on, this number at this node
+pub data Stops (t : List ℕ) : ℕ → List Goal → List Goal → List ℕ → ℕ → ℕ → ℕ → Type 0 where
+  -- 11: fewer than two numbers remain for the node
+  short : {levels at : ℕ} {branch later : List Goal} {g : Goal} {rec : List ℕ} → length rec < 2 → Stops t levels branch (g ∷ later) rec at 11 at
+  -- 12: the credential does not apply to the goal, or not with this middle
+  unfit : {levels at c m : ℕ} {branch later : List Goal} {g : Goal} {rec : List ℕ} → premises t g c m ≡ none → Stops t levels branch (g ∷ later) (c ∷ m ∷ rec) at 12 at
+  -- 13: it applies, and no level is left
+  deep : {at c m : ℕ} {branch goals later : List Goal} {g : Goal} {rec : List ℕ} → premises t g c m ≡ some goals → Stops t 0 branch (g ∷ later) (c ∷ m ∷ rec) at 13 at
+  -- 13: it applies, and the goal's role is already on the branch
+  again : {levels at c m : ℕ} {branch goals later : List Goal} {g : Goal} {rec : List ℕ} → premises t g c m ≡ some goals → fresh branch g ≡ false → Stops t (suc levels) branch (g ∷ later) (c ∷ m ∷ rec) at 13 at
+  -- the node passes, and reading stops among its children
+  below : {levels at c m number position : ℕ} {branch goals later : List Goal} {g : Goal} {rec : List ℕ} → premises t g c m ≡ some goals → fresh branch g ≡ true → Stops t levels (g ∷ branch) goals rec (suc at) number position → Stops t (suc levels) branch (g ∷ later) (c ∷ m ∷ rec) at number position
+  -- the node passes with all its children, and reading stops behind them
+  behind : {levels at c m number position : ℕ} {branch goals later : List Goal} {g : Goal} {rec : List ℕ} {children : Forest} → premises t g c m ≡ some goals → fresh branch g ≡ true → Derives t levels (g ∷ branch) goals children → Stops t (suc levels) branch later rec (countFrom (suc at) children) number position → Stops t (suc levels) branch (g ∷ later) (c ∷ m ∷ (written children ++ rec)) at number position
+
+-- the reader stops with that number at that node, and only there
+abbrev pub FirstRefusal : Type 0
+FirstRefusal =
+    (t : List ℕ) (levels : ℕ) (branch goals : List Goal) (rec : List ℕ) (at number position : ℕ) → ((reader t levels branch goals rec at ≡ stop number position) ↔ Stops t levels branch goals rec at number position)

@@ -1,0 +1,62 @@
+// The goals on the way from the query to a node. What may not repeat there is known here alone.
+use crate::Branch;
+use table::Goal;
+use table::Name;
+use table::Principal;
+use table::Role;
+ghost use mathlib.Core.Path.{_≡_};
+ghost use mathlib.Core.List.{[], _∷_};
+ghost use Prim.Native.Nat.{_+_, _<_};
+ghost use Rattle.table.specs.Limits.{mostDepth};
+ghost use Rattle.derivation.specs.Rules.{fresh};
+ghost use Rattle.derivation.specs.Held.{Room, above};
+
+impl Branch {
+    // Nothing stands above the query's goal.
+    pub fn empty() -> Branch
+        ensures { λ r. ⌜ Room mostDepth (r .len) (r .goals) × ((r .len ≡ 0) × (above r ≡ [])) ⌝ }
+    {
+        let none = Goal {
+            principal: Principal(0),
+            role: Role {
+                owner: Principal(0),
+                name: Name(0),
+            },
+        };
+        Branch {
+            len: 0,
+            goals: [none; 16],
+        }
+    }
+
+    pub fn with(self, goal: Goal) -> Branch
+        requires { ⌜ Room mostDepth (self .len) (self .goals) ⌝ }
+        requires { ⌜ self .len < mostDepth ⌝ }
+        ensures { λ r. ⌜ Room mostDepth (r .len) (r .goals) × ((r .len ≡ self .len + 1) × (above r ≡ goal ∷ above self)) ⌝ }
+    {
+        let len = self.len;
+        let mut goals = self.goals;
+        goals[len] = goal;
+        Branch {
+            len: len + 1,
+            goals: goals,
+        }
+    }
+
+    // Whether the goal's role is none of those above it.
+    pub fn is_fresh(self, goal: Goal) -> bool
+        requires { ⌜ Room mostDepth (self .len) (self .goals) ⌝ }
+        ensures { λ r. ⌜ r ≡ fresh (above self) goal ⌝ }
+    {
+        let len = self.len;
+        let mut i = 0;
+        while i < len {
+            let other = self.goals[i];
+            if other.role.same(goal.role) {
+                return false;
+            }
+            i += 1;
+        }
+        true
+    }
+}
