@@ -9,4 +9,5 @@ pub mod Readings
 pub mod Using
 pub mod Judging
 pub mod DemandTwo
+pub mod Judged
 pub mod Shop

@@ -4,8 +4,24 @@
 mod branches; // branches.rt: the goals above a node
 mod reader; // reader.rt: a record, node by node
 mod rules; // rules.rt: which goals a credential asks
+mod words; // words.rt: row 14
 
+use automata::StateSets;
+use table::Goal;
+use table::Number;
+use table::Query;
+use table::QueryCheck;
 use table::Refusal;
+use table::Role;
+use table::layout;
+ghost use mathlib.Core.Path.{_≡_};
+ghost use mathlib.Core.List.{[], _∷_};
+ghost use Prim.Native.Nat.{_≤_};
+ghost use Rattle.table.specs.Outcome.{Outcome};
+ghost use Rattle.table.specs.Checks.{Valid, WellFormed, told};
+ghost use Rattle.derivation.specs.Rules.{goalOf};
+ghost use Rattle.derivation.specs.Reading.{reader};
+ghost use Rattle.derivation.specs.Verdict.{judged, verdict, verdictTold};
 
 // Accepted, with the used set: credential i counts 2^(i-1).
 pub enum Verdict {
@@ -17,20 +33,87 @@ pub enum Verdict {
 pub struct Premises {
     pub applies: bool,
     pub len: usize,
-    pub goals: [table::Goal; table::layout::MOST_PARTS],
+    pub goals: [Goal; layout::MOST_PARTS],
 }
 
 // The goals above a node: the first `len`.
 pub struct Branch {
     pub len: usize,
-    pub goals: [table::Goal; 16],
+    pub goals: [Goal; 16],
 }
 
 // A node's entry: a refusal's number, or 0 and what the node asks.
 pub struct Step {
     pub refusal: u32,
-    pub credential: table::Number,
-    pub middle: table::Number,
+    pub credential: Number,
+    pub middle: Number,
     pub len: usize,
-    pub goals: [table::Goal; table::layout::MOST_PARTS],
+    pub goals: [Goal; layout::MOST_PARTS],
+}
+
+// Whether the record derives the queried membership and complies: rows 1 to 8, then 11 to 14, for any three inputs.
+pub fn verify(table: &[Number], query: Query, rec: &[Number]) -> Verdict
+    ensures { λ r. ⌜ verdictTold r ≡ verdict (now (table .entry)) query (now (rec .entry)) ⌝ }
+{
+    match table::check_request(table, query) {
+        QueryCheck::Valid => judge(table, query, rec),
+        QueryCheck::Refused(why) => Verdict::Refused(why),
+    }
+}
+
+// Rows 11 to 14. The goal is at level 1, with nothing above it.
+fn judge(table: &[Number], query: Query, rec: &[Number]) -> Verdict
+    requires { ⌜ WellFormed (now table) ⌝ }
+    requires { ⌜ Valid query ⌝ }
+    ensures { λ r. ⌜ verdictTold r ≡ judged (now (table .entry)) (reader (now (table .entry)) (query .depth) [] (goalOf query ∷ []) (now (rec .entry)) 1) ⌝ }
+{
+    let mut used = 0;
+    let mut nodes = 0;
+    let mut every = words::ALL_AUTOMATA;
+    let mut refusal = 0;
+    let principal = query.principal;
+    let owner = query.owner;
+    let name = query.name;
+    let goal = Goal {
+        principal: principal,
+        role: Role {
+            owner: owner,
+            name: name,
+        },
+    };
+    let levels = layout::wide(query.depth);
+    let start = StateSets::start(table);
+    let rest = reader::read(
+        table,
+        rec,
+        goal,
+        levels,
+        start,
+        Branch::empty(),
+        &mut used,
+        &mut nodes,
+        &mut every,
+        &mut refusal,
+    );
+    if refusal != 0 {
+        return Verdict::Refused(reason(refusal, nodes));
+    }
+    if rest.len() != 0 {
+        return Verdict::Refused(Refusal::RecordLength(nodes + 1));
+    }
+    words::judge_words(table, used, every)
+}
+
+// The reason with which reading stops at a node.
+fn reason(refusal: u32, node: usize) -> Refusal
+    requires { ⌜ (11 ≤ refusal) × (refusal ≤ 13) ⌝ }
+    ensures { λ r. ⌜ told r ≡ Outcome.refused refusal node ⌝ }
+{
+    if refusal == 11 {
+        return Refusal::RecordLength(node);
+    }
+    if refusal == 12 {
+        return Refusal::Node(node);
+    }
+    Refusal::Branch(node)
 }

@@ -92,6 +92,17 @@ module _ (ok : ℕ → Bool) (number : ℕ) where
       (λ less. each-ok n _ (then-first (demandEach ok n number) _ v e .1) i (record { first = h .first; last = omega arith }))
       (eq-or-lt-of-le (h .last))
 
+-- what passes has the value 0
+demand-value : (p : Bool) (number position v : ℕ) → demand p number position ≡ accepted v → v ≡ 0
+unfolding demand
+demand-value true number position v e = cc
+demand-value false number position v e = absurd (refused-accepted e)
+
+pub each-value : (ok : ℕ → Bool) (n number v : ℕ) → demandEach ok n number ≡ accepted v → v ≡ 0
+unfolding demandEach
+each-value ok zero number v e = cc
+each-value ok (suc n) number v e = demand-value (ok (suc n)) number (suc n) v (then-second (demandEach ok n number) _ v e)
+
 -- a call that makes one stage: what its answer says of the stage's outcome
 module _ (answer : TableCheck) (stage : Outcome) (meets : tableTold answer ≡ stage) where
   pub stage-passed : answer ≡ table.Accepted → stage ≡ accepted 0

@@ -12,9 +12,10 @@ use Rattle.table.specs.Outcome.{_andThen_}
 use Rattle.table.specs.Outcome.Outcome.{accepted}
 use Rattle.table.specs.Limits.{leastParts, mostParts}
 use Rattle.table.specs.Layout.{Numbered, Sized, automata, cell, cells, cellsFrom, chain, credential, credentials, edge, edges}
-use Rattle.table.specs.Checks.{WellFormed, within, chainOk, goodChain, tableOutcome, headOutcome, credentialsOutcome, cellsOutcome, chainsOutcome, edgesOutcome}
+use Rattle.table.specs.Checks.{Valid, WellFormed, within, chainOk, goodChain, goodEdge, queryOutcome, requestOutcome, tableOutcome, headOutcome, credentialsOutcome, cellsOutcome, chainsOutcome, edgesOutcome}
 use Rattle.table.proofs.Tests.{and-first, and-second}
-use Rattle.table.proofs.Stages.{then-first, then-second, each-ok}
+use Rattle.table.proofs.Stages.{then-first, then-second, each-ok, each-value}
+use Rattle.table.specs.declared.Query.{Query}
 use Rattle.table.proofs.Sizes.{sized}
 use Rattle.table.proofs.Fields.{CredentialRange, CellRange, EdgeRange}
 use Rattle.table.proofs.Accepted.{credentials-in-range, cells-in-range, edges-in-range}
@@ -103,3 +104,16 @@ module _ (t : List ℕ) (wf : WellFormed t) where
   wf-chain-whole i h four big le =
       let few = wf-chain i h four .most in
       cells-settled t (suc mostParts) big (credential t i .first) (omega arith) le
+
+-- where rows 1 to 8 find nothing, the table is accepted and the query valid
+table-value : (t : List ℕ) (v : ℕ) → tableOutcome t ≡ accepted v → v ≡ 0
+unfolding tableOutcome edgesOutcome
+table-value t v e =
+    each-value (goodEdge t) (edges t) 7 v
+    (then-second (chainsOutcome t) _ v (then-second (cellsOutcome t) _ v (then-second (credentialsOutcome t) _ v (then-second (headOutcome t) _ v e))))
+
+pub request-accepted : (t : List ℕ) (q : Query) → requestOutcome t q ≡ accepted 0 → WellFormed t × Valid q
+unfolding requestOutcome
+request-accepted t q e =
+    let table = then-first (tableOutcome t) (queryOutcome q) 0 e in
+    (table .1 ∙ ap accepted (table-value t (table .0) (table .1)), then-second (tableOutcome t) (queryOutcome q) 0 e)

@@ -1,0 +1,142 @@
+-- The verdict from what is kept: the automata of the used set, the first that rejects some word, and what was read.
+use mathlib.Core.Path.{_≡_, refl, sym, ap, _∙_}
+use mathlib.Core.List.{List, [], _∷_}
+use mathlib.Core.Bool.{Bool, true, false, not}
+use Prim.Native.Nat.{ℕ, zero, suc, _+_, _-_, _/_, _%_, _^_, _≤_, _<_}
+use native.Mathlib.Omega.{arith}
+use native.Mathlib.Numerals.{add-one}
+use lib.ListN.{length}
+use lib.Bits.{bitOr}
+use lib.Dec.{eqb}
+use Rattle.table.specs.Logic.{_and_, _or_, pick}
+use Rattle.table.specs.Limits.{mostAutomata, mostDepth}
+use Rattle.table.specs.Outcome.{Outcome, _andThen_, demandEach}
+use Rattle.table.specs.Outcome.Outcome.{accepted, refused}
+use Rattle.table.specs.Layout.{Numbered, automata, credential, credentials}
+use Rattle.table.specs.Checks.{Valid, WellFormed, queryOutcome, within}
+use Rattle.table.specs.declared.Credential.{Credential}
+use Rattle.table.specs.declared.Query.{Query}
+use Rattle.table.specs.declared.Goal.{Goal}
+use Rattle.table.proofs.Tests.{and-second}
+use Rattle.table.proofs.Stages.{demand-true, then-second}
+use Rattle.table.proofs.WellFormed.{wf-credential, wf-sized}
+use borrow.Author.Tests.{leb-true, ne-eqb}
+use Rattle.automata.specs.Sets.{inSet}
+use Rattle.automata.specs.Automata.{startingSets}
+use Rattle.automata.specs.declared.StateSets.{StateSets}
+use Rattle.derivation.specs.Rules.{goalOf}
+use Rattle.derivation.specs.Forest.{Forest, countFrom, usedFrom, usedSet}
+use Rattle.derivation.specs.Reading.{Reading, reader}
+use Rattle.derivation.specs.Reading.Reading.{read, stop}
+use Rattle.derivation.specs.Tally.{Told, allAutomata, automataOf, automataUpTo, everyFrom, keeps, numbersTold, tally, tallyOn}
+use Rattle.derivation.specs.Tally.Told.{passed, stopped}
+use Rattle.derivation.specs.Verdict.{judged}
+use Rattle.derivation.specs.DemandTwo.{Stops}
+use Rattle.derivation.specs.DemandTwo.Stops.{short, unfit, deep, again, below, behind}
+use Rattle.derivation.proofs.DemandTwo.{first-refusal}
+use Rattle.derivation.proofs.Readings.{reader-sound}
+use Rattle.derivation.proofs.Keeping.{count-next}
+use Rattle.derivation.proofs.Judging.{words-judged}
+
+pub automaton-few : (t : List ℕ) → WellFormed t → (i : ℕ) → Numbered (credentials t) i → (x : Credential) → x ≡ credential t i → x .automaton ≤ mostAutomata
+automaton-few t wf i there x found =
+    let own = wf-credential t wf i there .automaton in
+    let few = wf-sized t wf .counted .fewAutomata in
+    rw found (omega arith)
+
+-- one credential more, which the code has read as x
+pub automata-next : (t : List ℕ) (S i mask : ℕ) (x : Credential) → x ≡ credential t (i + 1) → mask ≡ automataUpTo t S i → pick (eqb (S / 2 ^ i % 2) 1 and not (eqb (x .automaton) 0)) (bitOr mask (2 ^ (x .automaton - 1))) mask ≡ automataUpTo t S (i + 1)
+unfolding automataUpTo inSet
+automata-next t S i mask x found so-far = rw (found, so-far, add-one i)
+
+pub refused-then : {o : Outcome} {number position : ℕ} (later : Outcome) → refused number position ≡ o → refused number position ≡ (o andThen later)
+unfolding _andThen_
+refused-then later h = rw (← h)
+
+pub kept-flag : (t : List ℕ) (used every imposed k : ℕ) → imposed ≡ automataOf t used → (not (inSet imposed (k - 1)) or inSet every (k - 1)) ≡ keeps t used every k
+unfolding keeps
+kept-flag t used every imposed k h = rw h
+
+pub depth-fits : (q : Query) → Valid q → q .depth ≤ mostDepth
+unfolding queryOutcome within
+depth-fits q valid =
+    let e1 = then-second _ _ 0 valid in
+    let e2 = then-second _ _ 0 e1 in
+    let e3 = then-second _ _ 0 e2 in
+    leb-true _ _ (and-second _ _ (demand-true _ 8 4 0 e3))
+
+passed-stopped : {rest : List ℕ} {used nodes every number at : ℕ} → passed rest used nodes every ≡ stopped number at → ⊥
+passed-stopped e = let z : _≡_ {A = ℕ} 0 1 = cc in omega arith
+
+-- the code's numbers after the whole record
+module _ (t : List ℕ) (s : StateSets) (rest : List ℕ) (used nodes every refusal : ℕ) where
+  pub told-stop : (after : Reading) → numbersTold rest used nodes every refusal ≡ tally t s 0 0 allAutomata after → (refusal ≡ 0 → ⊥) → after ≡ stop refusal nodes
+  unfolding numbersTold tally pick
+  told-stop (read more f) told h = absurd (passed-stopped (sym (rw (ne-eqb refusal 0 h) at told)))
+  told-stop (stop number at) told h = let e = rw (ne-eqb refusal 0 h) at told in cc
+
+  pub record Whole (after : Reading) : Type 0 where
+    pub forest : Forest
+    pub reads : after ≡ read rest forest
+    pub uses : used ≡ usedFrom 0 forest
+    pub counts : nodes ≡ countFrom 0 forest
+    pub judges : every ≡ everyFrom t s allAutomata forest
+
+  pub told-read : (after : Reading) → numbersTold rest used nodes every refusal ≡ tally t s 0 0 allAutomata after → refusal ≡ 0 → Whole after
+  unfolding numbersTold tally pick
+  told-read (read more f) told h =
+      let e = rw h at told in
+      let same : more ≡ rest = cc in
+      record { forest = f; reads = ap (λ (x : List ℕ). read x f) same; uses = cc; counts = cc; judges = cc }
+  told-read (stop number at) told h = absurd (passed-stopped (rw h at told))
+
+no-numbers : (rest : List ℕ) → length rest ≡ 0 → rest ≡ []
+unfolding length
+no-numbers [] h = refl
+no-numbers (x ∷ rest) h = absurd (omega arith)
+
+-- the query's goal, read from the start
+pub whole-told : (t : List ℕ) (q : Query) (rec : List ℕ) (levels : ℕ) (branch : List Goal) (s : StateSets) → levels ≡ q .depth → branch ≡ [] → s ≡ startingSets t → tallyOn t levels branch (goalOf q ∷ []) s rec 0 0 allAutomata ≡ tally t (startingSets t) 0 0 allAutomata (reader t (q .depth) [] (goalOf q ∷ []) rec 1)
+unfolding tallyOn
+whole-told t q rec levels branch s all-levels nothing starts = rw (all-levels, nothing, starts)
+
+-- reading stops with 11, 12 or 13 alone
+stop-number : {t : List ℕ} {levels at number position : ℕ} {branch goals : List Goal} {rec : List ℕ} → Stops t levels branch goals rec at number position → (11 ≤ number) × (number ≤ 13)
+stop-number (short h) = (omega arith, omega arith)
+stop-number (unfit h) = (omega arith, omega arith)
+stop-number (deep h) = (omega arith, omega arith)
+stop-number (again h f) = (omega arith, omega arith)
+stop-number (below h f more) = stop-number more
+stop-number (behind h f d more) = stop-number more
+
+words-verdict : (t : List ℕ) → WellFormed t → (q : Query) (rec : List ℕ) (f : Forest) (used every : ℕ) → reader t (q .depth) [] (goalOf q ∷ []) rec 1 ≡ read [] f → used ≡ usedFrom 0 f → every ≡ everyFrom t (startingSets t) allAutomata f → (demandEach (keeps t used every) (automata t) 14 andThen accepted used) ≡ judged t (reader t (q .depth) [] (goalOf q ∷ []) rec 1)
+unfolding judged usedSet
+words-verdict t wf q rec f used every whole uses judges =
+    let derives = reader-sound t (q .depth) [] (goalOf q ∷ []) rec 1 whole .0 in
+    rw (whole, uses, judges)
+    (ap (λ (o : Outcome). o andThen accepted (usedFrom 0 f)) (words-judged t (q .depth) [] (goalOf q ∷ []) f wf derives))
+
+module _ (t : List ℕ) (wf : WellFormed t) (q : Query) (rec rest : List ℕ) (used nodes every refusal : ℕ) (told : numbersTold rest used nodes every refusal ≡ tally t (startingSets t) 0 0 allAutomata (reader t (q .depth) [] (goalOf q ∷ []) rec 1)) where
+  pub stops-number : (refusal ≡ 0 → ⊥) → (11 ≤ refusal) × (refusal ≤ 13)
+  stops-number h =
+      stop-number (first-refusal t (q .depth) [] (goalOf q ∷ []) rec 1 refusal nodes .0 (told-stop t (startingSets t) rest used nodes every refusal _ told h))
+
+  pub verdict-stops : (refusal ≡ 0 → ⊥) → refused refusal nodes ≡ judged t (reader t (q .depth) [] (goalOf q ∷ []) rec 1)
+  unfolding judged
+  verdict-stops h = rw (told-stop t (startingSets t) rest used nodes every refusal _ told h)
+
+  pub verdict-leftover : refusal ≡ 0 → (length rest ≡ 0 → ⊥) → refused 11 (nodes + 1) ≡ judged t (reader t (q .depth) [] (goalOf q ∷ []) rec 1)
+  unfolding judged
+  verdict-leftover h more =
+      let w = told-read t (startingSets t) rest used nodes every refusal _ told h in
+      rw (w .reads, w .counts, add-one (countFrom 0 (w .forest)), ← count-next 0 (w .forest)) (leftover rest (w .forest) more)
+    where
+      leftover : (rest : List ℕ) (f : Forest) → (length rest ≡ 0 → ⊥) → refused 11 (countFrom 1 f) ≡ judged t (read rest f)
+      leftover [] f some-left = absurd (some-left refl)
+      leftover (x ∷ xs) f some-left = refl
+
+  pub verdict-words : refusal ≡ 0 → length rest ≡ 0 → (demandEach (keeps t used every) (automata t) 14 andThen accepted used) ≡ judged t (reader t (q .depth) [] (goalOf q ∷ []) rec 1)
+  verdict-words h nothing =
+      let w = told-read t (startingSets t) rest used nodes every refusal _ told h in
+      let whole : reader t (q .depth) [] (goalOf q ∷ []) rec 1 ≡ read [] (w .forest) = w .reads ∙ ap (λ (x : List ℕ). read x (w .forest)) (no-numbers rest nothing) in
+      words-verdict t wf q rec (w .forest) used every whole (w .uses) (w .judges)

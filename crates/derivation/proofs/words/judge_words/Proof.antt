@@ -1,0 +1,95 @@
+-- `derivation::words::judge_words` meets its contract: the first k automata are kept, and the first that is not is told. Assumes nothing.
+use mathlib.Core.Path.{_∙_, _≡_, refl, sym}
+use Prim.Native.Nat.{_-_, _≤_}
+use native.Mathlib.Omega.{arith}
+use borrow.Author.Needs.{needs}
+use denote.Ref.{now}
+use Rattle.derivation.proofs.Judged.{kept-flag, refused-then}
+use Rattle.derivation.specs.Tally.{keeps}
+use Rattle.derivation.specs.Verdict.{verdictTold}
+use Rattle.table.proofs.Sizes.{counted}
+use Rattle.table.proofs.Stages.{each-passes, each-stops, each-through, then-on}
+use Rattle.table.proofs.Tests.{failed, passed}
+use Rattle.table.proofs.WellFormed.{wf-sized}
+use Rattle.table.specs.Checks.{told}
+use Rattle.table.specs.Layout.{automata}
+use Rattle.table.specs.Outcome.{demandEach}
+use Rattle.table.specs.Outcome.Outcome.{accepted}
+use Rattle.derivation.proofs.words.judge_words.Statement.{statement}
+use Rattle.derivation.proofs.words.judge_words.Tie as tie
+
+abbrev Inv-loop : tie.InvT-loop
+Inv-loop table used every imposed a k₀ k = (k ≤ a) × (demandEach (keeps table used every) k 14 ≡ accepted 0)
+
+abbrev μ-loop : tie.MeasureT-loop
+μ-loop table used every imposed a k₀ k = a - k
+
+automata-of-requires : tie.Need-automata-of-requires Inv-loop μ-loop
+automata-of-requires c κs = c .before .pre
+
+shared-slice-read-wide : tie.Need-shared-slice-read-wide Inv-loop μ-loop
+shared-slice-read-wide c =
+    let pre = c .before .before .before .pre in
+    omega (arith, wf-sized _ pre .counted .head)
+
+wide-requires : tie.Need-wide-requires Inv-loop μ-loop
+wide-requires c κs = search needs
+
+loop-holds : tie.Need-loop-holds Inv-loop μ-loop
+unfolding demandEach
+loop-holds c = (omega arith, refl)
+
+add-k : tie.Need-add-k Inv-loop μ-loop
+add-k c = search needs
+
+is-kept-requires : tie.Need-is-kept-requires Inv-loop μ-loop
+is-kept-requires c κs =
+    let pre = c .before .before .before .before .before .before .pre in
+    record { first = omega arith; last = omega (arith, wf-sized _ pre .counted .fewAutomata) }
+
+returns : tie.Need-returns Inv-loop μ-loop
+unfolding verdictTold told
+returns c =
+    let args = c .before .before .before .before .before .before .before .before .args in
+    let loop = c .before .before .before .loop in
+    let automata-of = c .before .before .before .before .before .before .automata-of in
+    refused-then _ (each-stops (keeps (now (args .table)) (args .used) (args .every)) 14 (loop .k) (automata (now
+    (args .table))) (omega arith) (loop .inv .1) (failed (c .before .is-kept .ensures ∙ kept-flag _ _ _ _ _
+    (automata-of .ensures)) (c .if1 .taken)))
+
+loop-less : tie.Need-loop-less Inv-loop μ-loop
+loop-less c = search needs
+
+loop-again : tie.Need-loop-again Inv-loop μ-loop
+loop-again c =
+    let args = c .before .before .before .before .before .before .before .before .args in
+    let loop = c .before .before .before .loop in
+    let automata-of = c .before .before .before .before .before .before .automata-of in (
+      omega arith,
+      each-passes (keeps (now (args .table)) (args .used) (args .every)) 14 _ (loop .inv .1) (passed
+          (c .before .is-kept .ensures ∙ kept-flag _ _ _ _ _ (automata-of .ensures)) (c .if1 .left)),
+    )
+
+returns-2 : tie.Need-returns-2 Inv-loop μ-loop
+unfolding verdictTold
+returns-2 c =
+    let args = c .before .before .before .before .before .before .args in
+    then-on (sym (each-through (keeps (now (args .table)) (args .used) (args .every)) 14 (c .before .loop .k)
+    (automata (now (args .table))) (omega arith) (c .before .loop .inv .1)))
+
+pub judge-words-spec : {M : Type 1} → statement M
+judge-words-spec =
+    tie.close
+    (tie.spec
+    Inv-loop
+    μ-loop
+    automata-of-requires
+    shared-slice-read-wide
+    wide-requires
+    loop-holds
+    add-k
+    is-kept-requires
+    returns
+    loop-less
+    loop-again
+    returns-2)
