@@ -1,5 +1,6 @@
 // The C interface. A slice is a pointer and a length. Each call returns 0 or document 01's refusal number, and writes the
 // position, or on 0 the value that the call returns: 0 where there is none. bindings/c/bwlchareg.h has the promises in words.
+use derivation::Verdict;
 use table::Name;
 use table::Principal;
 use table::Query;
@@ -9,6 +10,7 @@ use table::TableCheck;
 ghost use mathlib.Core.Path.{_≡_};
 ghost use Rattle.table.specs.Outcome.{Outcome};
 ghost use Rattle.table.specs.Checks.{tableOutcome, requestOutcome, told};
+ghost use Rattle.derivation.specs.Verdict.{verdict};
 ghost use Rattle.bwlchareg.specs.Answer.{answered, asQuery};
 
 // Rows 1 to 7: whether the table is accepted.
@@ -43,6 +45,31 @@ pub extern "C" fn bwlchareg_check_query(
     match table::check_request(table, query) {
         QueryCheck::Valid => accept(0, position),
         QueryCheck::Refused(why) => refuse(why, position),
+    }
+}
+
+// The verifier's end: whether the record derives the queried membership and complies. The value is its used set.
+#[no_mangle]
+pub extern "C" fn bwlchareg_verify(
+    table: &[u16],
+    principal: u16,
+    owner: u16,
+    name: u16,
+    depth: u16,
+    rec: &[u16],
+    value: &mut u64,
+) -> u32
+    ensures { λ r. ⌜ answered r (now (value .exit)) ≡ verdict (now (table .entry)) (asQuery principal owner name depth) (now (rec .entry)) ⌝ }
+{
+    let query = Query {
+        principal: Principal(principal),
+        owner: Principal(owner),
+        name: Name(name),
+        depth: depth,
+    };
+    match derivation::verify(table, query, rec) {
+        Verdict::Accepted(used) => accept(used as u64, value),
+        Verdict::Refused(why) => refuse(why, value),
     }
 }
 

@@ -1,0 +1,52 @@
+-- `bwlchareg::bwlchareg_verify` meets its contract: it tells what `verify` answers. Assumes nothing.
+use mathlib.Core.Path.{_∙_, ap, sym}
+use borrow.Author.Needs.{needs}
+use Rattle.derivation.specs.Held.{given}
+use Rattle.derivation.specs.Verdict.{verdictTold}
+use Rattle.bwlchareg.proofs.bwlchareg_verify.Statement.{statement}
+use Rattle.bwlchareg.proofs.bwlchareg_verify.Tie as tie
+
+verify-requires : tie.Need-verify-requires
+verify-requires c κs = search needs
+
+enum-known-used : tie.Need-enum-known-used
+enum-known-used c = search needs
+
+cast-accept : tie.Need-cast-accept
+cast-accept c = search needs
+
+accept-requires : tie.Need-accept-requires
+accept-requires c κs = search needs
+
+enum-known-why : tie.Need-enum-known-why
+enum-known-why c = search needs
+
+refuse-requires : tie.Need-refuse-requires
+refuse-requires c κs = search needs
+
+returns : tie.Need-returns
+unfolding verdictTold
+returns c =
+    let used = c .before .before .before .used in
+    let verify = c .before .before .before .before .before .verify in
+    c .accept .ensures ∙ ap verdictTold (sym (used .given .1)) ∙ verify .ensures
+
+returns-2 : tie.Need-returns-2
+unfolding verdictTold
+returns-2 c =
+    let why = c .before .before .before .why in
+    let verify = c .before .before .before .before .before .verify in
+    c .refuse .ensures ∙ ap verdictTold (sym (why .given .1)) ∙ verify .ensures
+
+pub bwlchareg-verify-spec : {M : Type 1} → statement M
+bwlchareg-verify-spec =
+    tie.close
+    (tie.spec
+    verify-requires
+    enum-known-used
+    cast-accept
+    accept-requires
+    enum-known-why
+    refuse-requires
+    returns
+    returns-2)
