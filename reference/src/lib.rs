@@ -7,16 +7,21 @@
 //! subject:
 //!
 //! - [`refusal`]: why and where an input is refused
-//! - [`sorts`]: principals, role names and roles
+//! - [`sorts`]: principals, role names, roles and goals
 //! - [`records`]: the head and the layout of a table (refusals 1 to 3)
 //! - [`table`]: what the records mean (refusals 4 to 7)
 //! - [`query`]: what is asked of a table (refusal 8)
+//! - [`derivation`]: the tree that a proof record writes down (refusals 11 to
+//!   13)
+//! - [`words`]: the branches of that tree, and the automata that judge them
+//!   (refusal 14)
 //! - [`shop`]: the worked example
 //! - [`random`] and [`generate`]: made-up inputs, valid and damaged
 
 #![forbid(unsafe_code)]
 #![warn(missing_docs)]
 
+pub mod derivation;
 pub mod generate;
 pub mod query;
 pub mod random;
@@ -25,6 +30,7 @@ pub mod refusal;
 pub mod shop;
 pub mod sorts;
 pub mod table;
+pub mod words;
 
 pub use query::Query;
 pub use refusal::Refusal;
@@ -40,4 +46,14 @@ pub fn check_query(table: &[u16], query: Query) -> Result<(), Refusal> {
     table::Table::read(table)?;
     query.read()?;
     Ok(())
+}
+
+/// Verifies a proof record: refusals 1 to 8, then 11 to 14. An accepted
+/// record is answered with its used set.
+pub fn verify(table: &[u16], query: Query, record: &[u16]) -> Result<u32, Refusal> {
+    let table = table::Table::read(table)?;
+    let asked = query.read()?;
+    let derivation = derivation::Derivation::read(&table, asked, record)?;
+    words::comply(&table, &derivation)?;
+    Ok(derivation.used_set())
 }

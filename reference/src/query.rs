@@ -1,7 +1,7 @@
 //! What is asked of a table: refusal 8.
 
 use crate::refusal::Refusal;
-use crate::sorts::{one_to, Name, Principal, Role, HIGHEST};
+use crate::sorts::{one_to, Goal, Name, Principal, Role, HIGHEST};
 
 /// The greatest depth limit; the smallest is 1.
 pub const DEEPEST: u16 = 16;
@@ -22,11 +22,9 @@ pub struct Query {
 /// What a valid query stands for: the goal, and how deep a derivation of it
 /// may go.
 #[derive(Clone, Copy, Debug, PartialEq, Eq)]
-pub struct Goal {
-    /// Who is to be in the role.
-    pub principal: Principal,
-    /// The role.
-    pub role: Role,
+pub struct Asked {
+    /// The goal.
+    pub goal: Goal,
     /// The highest level that a node may have.
     pub depth: u16,
 }
@@ -51,15 +49,15 @@ impl Query {
     }
 
     /// Reads a query, or refuses it at the first field that fails.
-    pub fn read(self) -> Result<Goal, Refusal> {
+    pub fn read(self) -> Result<Asked, Refusal> {
         let at = |position: u32| Refusal::new(8, position);
         let principal = Principal::read(self.principal).ok_or(at(1))?;
         let owner = Principal::read(self.owner).ok_or(at(2))?;
         let name = Name::read(self.name).ok_or(at(3))?;
         let depth = one_to(DEEPEST, self.depth).ok_or(at(4))?;
-        Ok(Goal {
-            principal,
-            role: Role { owner, name },
+        let role = Role { owner, name };
+        Ok(Asked {
+            goal: Goal { principal, role },
             depth,
         })
     }

@@ -6,7 +6,8 @@
 pub struct Refusal {
     /// The number of the condition.
     pub number: u32,
-    /// The record or query field, counted from 1; 0 for the head.
+    /// The record of the table, query field, node or automaton, counted from
+    /// 1; 0 for the head.
     pub position: u64,
 }
 

@@ -35,3 +35,7 @@ pub const Q: Query = Query {
     name: 1,
     depth: 2,
 };
+
+/// Record R: Ann has the discount as a student of School, which Shop
+/// accredits. Its words are discount, accredited and discount, student.
+pub const R: [u16; 6] = [1, 2, 2, 0, 3, 0];

@@ -1,4 +1,4 @@
-//! Principals, role names and roles.
+//! Principals, role names, roles and goals.
 //!
 //! Principals and role names are numbers alike, but separate sorts: neither
 //! can stand for the other.
@@ -7,15 +7,15 @@
 pub const HIGHEST: u16 = 64;
 
 /// A principal, numbered 1 to 64.
-#[derive(Clone, Copy, Debug, PartialEq, Eq)]
+#[derive(Clone, Copy, Debug, PartialEq, Eq, PartialOrd, Ord)]
 pub struct Principal(u16);
 
 /// A role name, numbered 1 to 64.
-#[derive(Clone, Copy, Debug, PartialEq, Eq)]
+#[derive(Clone, Copy, Debug, PartialEq, Eq, PartialOrd, Ord)]
 pub struct Name(u16);
 
 /// A role: its owner and its name.
-#[derive(Clone, Copy, Debug, PartialEq, Eq)]
+#[derive(Clone, Copy, Debug, PartialEq, Eq, PartialOrd, Ord)]
 pub struct Role {
     /// Who owns the role.
     pub owner: Principal,
@@ -23,10 +23,24 @@ pub struct Role {
     pub name: Name,
 }
 
+/// A goal: that a principal is in a role.
+#[derive(Clone, Copy, Debug, PartialEq, Eq, PartialOrd, Ord)]
+pub struct Goal {
+    /// Who is to be in the role.
+    pub principal: Principal,
+    /// The role.
+    pub role: Role,
+}
+
 impl Principal {
     /// The principal with this number, if there is one.
     pub fn read(number: u16) -> Option<Principal> {
         one_to(HIGHEST, number).map(Principal)
+    }
+
+    /// The principal's number.
+    pub fn number(self) -> u16 {
+        self.0
     }
 }
 
@@ -35,9 +49,19 @@ impl Name {
     pub fn read(number: u16) -> Option<Name> {
         one_to(HIGHEST, number).map(Name)
     }
+
+    /// The role name's number.
+    pub fn number(self) -> u16 {
+        self.0
+    }
 }
 
 impl Role {
+    /// The owner's role with this name.
+    pub fn new(owner: Principal, name: Name) -> Role {
+        Role { owner, name }
+    }
+
     /// The role with these numbers, if there is one.
     pub fn read(owner: u16, name: u16) -> Option<Role> {
         Some(Role {

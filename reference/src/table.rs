@@ -7,7 +7,7 @@ use std::iter::successors;
 
 use crate::records::{AutomatonRecord, CellRecord, CredentialRecord, EdgeRecord, Head, Records};
 use crate::refusal::Refusal;
-use crate::sorts::{one_to, Name, Principal, Role};
+use crate::sorts::{one_to, Goal, Name, Principal, Role};
 
 /// The highest state; the lowest is 0.
 pub const LAST_STATE: u16 = 15;
@@ -118,6 +118,45 @@ impl Table {
             edges,
         })
     }
+
+    /// The credential with this number, if there is one.
+    pub fn credential(&self, number: u16) -> Option<&Credential> {
+        let index = usize::from(number).checked_sub(1)?;
+        self.credentials.get(index)
+    }
+
+    /// The goals on which a goal rests if it is proved through the credential
+    /// with this number, by way of this middle. There is no such list if it
+    /// cannot be proved so, and an empty one under kind 1.
+    ///
+    /// Only kind 3 has a middle; for the others it is 0.
+    pub fn premises(&self, goal: Goal, credential: u16, middle: u16) -> Option<Vec<Goal>> {
+        let credential = self.credential(credential)?;
+        if credential.role != goal.role {
+            return None;
+        }
+        let Goal { principal, role } = goal;
+        let same_in = |role| Goal { principal, role };
+        match (&credential.members, middle) {
+            (&Members::One(member), 0) if member == principal => Some(Vec::new()),
+            (&Members::AllOf(role), 0) => Some(vec![same_in(role)]),
+            (&Members::Linked(first, second), middle) => {
+                let middle = Principal::read(middle)?;
+                let linking = Role::new(role.owner, first);
+                let linked = Role::new(middle, second);
+                let member = Goal {
+                    principal: middle,
+                    role: linking,
+                };
+                Some(vec![member, same_in(linked)])
+            }
+            (&Members::InEvery(first), 0) => {
+                let parts = chain(first, &self.cells);
+                Some(parts.map(|cell| same_in(cell.role)).collect())
+            }
+            _ => None,
+        }
+    }
 }
 
 /// Reads the records of one sort, each with its number. The first one for
@@ -174,6 +213,17 @@ impl Credential {
 pub fn chain(first: u16, cells: &[Cell]) -> impl Iterator<Item = &Cell> {
     let cell = |number: u16| cells.get(usize::from(number) - 1);
     successors(cell(first), move |last| last.next.and_then(cell))
+}
+
+impl Label {
+    /// Whether an edge with this label is taken on a role.
+    pub fn matches(&self, role: Role) -> bool {
+        match *self {
+            Label::Exactly(this) => role == this,
+            Label::Every => true,
+            Label::AllBut(this) => role != this,
+        }
+    }
 }
 
 impl Cell {

@@ -1,4 +1,5 @@
-//! Made-up inputs: valid tables, damaged ones, noise, and queries.
+//! Made-up inputs: valid tables, damaged ones, noise, queries, and records of
+//! very many nodes.
 
 pub mod chains;
 pub mod damage;
@@ -6,5 +7,6 @@ pub mod noise;
 pub mod places;
 pub mod queries;
 pub mod valid;
+pub mod wide;
 
 pub use places::Place;

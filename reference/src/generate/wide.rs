@@ -1,0 +1,58 @@
+//! Derivations of very many nodes: every goal above the last level rests on
+//! the same goal four times over.
+
+use crate::query::{Query, DEEPEST};
+use crate::records::{CellRecord, CredentialRecord, Records};
+
+/// The principal that is derived to be in every role, and who owns them all.
+const MEMBER: u16 = 64;
+const OWNER: u16 = 1;
+
+/// The table with a role for each of so many levels, 1 to 16, whose name is
+/// the level's number. Level and credential have the same number too.
+pub fn records(levels: u16) -> Records {
+    let chains = (1..levels).map(|level| [OWNER, level, 4, first_cell(level), 0, 0]);
+    let last = [OWNER, levels, 1, MEMBER, 0, 0];
+    let credentials: Vec<CredentialRecord> = chains.chain([last]).collect();
+    Records {
+        credentials,
+        cells: (1..levels).flat_map(cells).collect(),
+        automata: Vec::new(),
+        edges: Vec::new(),
+    }
+}
+
+/// The first cell of a level's chain.
+fn first_cell(level: u16) -> u16 {
+    4 * (level - 1) + 1
+}
+
+/// The cells of a level's chain: four times the role of the next level.
+fn cells(level: u16) -> [CellRecord; 4] {
+    let first = first_cell(level);
+    [first + 1, first + 2, first + 3, 0].map(|next| [OWNER, level + 1, next])
+}
+
+/// The record of the table's one derivation of level 1.
+pub fn record(levels: u16) -> Vec<u16> {
+    let mut record = vec![levels, 0];
+    for level in (1..levels).rev() {
+        record = [vec![level, 0], record.repeat(4)].concat();
+    }
+    record
+}
+
+/// How many nodes it has: 1 + 4 + 16 and so on.
+pub fn nodes(levels: u16) -> u64 {
+    (4u64.pow(u32::from(levels)) - 1) / 3
+}
+
+/// The query for level 1 with a depth limit of so many levels.
+pub fn query(levels: u16) -> Query {
+    Query {
+        principal: MEMBER,
+        owner: OWNER,
+        name: 1,
+        depth: levels.min(DEEPEST),
+    }
+}

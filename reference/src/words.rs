@@ -1,0 +1,98 @@
+//! The words of a derivation, and the automata that judge them: refusal 14.
+//!
+//! A word is the list of roles from the goal down to a kind 1 node. Every word
+//! is put before every used automaton, from its starting states on. So an
+//! automaton does not depend on where its credential stands in the tree.
+
+use crate::derivation::Derivation;
+use crate::refusal::Refusal;
+use crate::sorts::Role;
+use crate::table::{Table, LAST_STATE};
+
+/// Judges all words of a derivation, or names the lowest used automaton that
+/// rejects one.
+pub fn comply(table: &Table, derivation: &Derivation) -> Result<(), Refusal> {
+    let used_set = derivation.used_set();
+    for number in (1u16..).take(table.automata.len()) {
+        let accepted = |word: &[Role]| accepts(table, number, word);
+        if is_used(table, number, used_set) && !every_word(derivation, accepted) {
+            return Err(Refusal::new(14, number));
+        }
+    }
+    Ok(())
+}
+
+/// Whether an automaton is attached to one of the used credentials.
+fn is_used(table: &Table, automaton: u16, used_set: u32) -> bool {
+    let numbered = table.credentials.iter().enumerate();
+    let mut used = numbered.filter(|(index, _)| (used_set >> index) & 1 == 1);
+    used.any(|(_, credential)| credential.automaton == Some(automaton))
+}
+
+/// Whether something holds of every word of a derivation. A record may have
+/// millions of words, so they are made one at a time.
+pub fn every_word(derivation: &Derivation, mut holds: impl FnMut(&[Role]) -> bool) -> bool {
+    every_word_below(&mut Vec::new(), derivation, &mut holds)
+}
+
+/// The same for a part of a derivation, which stands below these roles.
+fn every_word_below(
+    above: &mut Vec<Role>,
+    derivation: &Derivation,
+    holds: &mut impl FnMut(&[Role]) -> bool,
+) -> bool {
+    above.push(derivation.goal.role);
+    let held = if derivation.premises.is_empty() {
+        holds(above)
+    } else {
+        let mut premises = derivation.premises.iter();
+        premises.all(|premise| every_word_below(above, premise, holds))
+    };
+    above.pop();
+    held
+}
+
+/// The words of a derivation, from left to right.
+pub fn words(derivation: &Derivation) -> Vec<Vec<Role>> {
+    let mut words = Vec::new();
+    every_word(derivation, |word| {
+        words.push(word.to_vec());
+        true
+    });
+    words
+}
+
+/// A set of states: whether it has state 0, state 1, and so on.
+type States = [bool; LAST_STATE as usize + 1];
+
+/// The states of a set in which state s counts 2^s.
+fn states(set: u16) -> States {
+    std::array::from_fn(|state| (set >> state) & 1 == 1)
+}
+
+/// Whether the automaton with this number accepts a word: whether it can end
+/// in an accepting state.
+pub fn accepts(table: &Table, number: u16, word: &[Role]) -> bool {
+    let automaton = &table.automata[usize::from(number) - 1];
+    let mut reached = states(automaton.starting);
+    for &role in word {
+        reached = step(table, number, reached, role);
+    }
+    let accepting = states(automaton.accepting);
+    reached
+        .iter()
+        .zip(accepting)
+        .any(|(&one, other)| one && other)
+}
+
+/// Where an automaton can be after a role, given where it can be before.
+fn step(table: &Table, number: u16, before: States, role: Role) -> States {
+    let mut after = states(0);
+    let own = table.edges.iter().filter(|edge| edge.automaton == number);
+    for edge in own {
+        if before[usize::from(edge.from)] && edge.label.matches(role) {
+            after[usize::from(edge.to)] = true;
+        }
+    }
+    after
+}
