@@ -42,6 +42,15 @@ impl Random {
     pub fn pick<'a, Value>(&mut self, values: &'a [Value]) -> &'a Value {
         &values[self.below(values.len())]
     }
+
+    /// Puts some values into a random order, by exchanging each with itself
+    /// or with one that comes before it.
+    pub fn shuffle<Value>(&mut self, values: &mut [Value]) {
+        for index in 1..values.len() {
+            let other = self.below(index + 1);
+            values.swap(index, other);
+        }
+    }
 }
 
 #[cfg(test)]
@@ -63,5 +72,17 @@ mod tests {
         let drawn: Vec<u16> = (0..200).map(|_| random.between(3, 6)).collect();
         assert!((3..=6).all(|number| drawn.contains(&number)));
         assert!(drawn.iter().all(|number| (3..=6).contains(number)));
+    }
+
+    #[test]
+    fn every_order_comes_out() {
+        let mut random = Random::new(1);
+        let mut orders = std::collections::BTreeSet::new();
+        for _ in 0..200 {
+            let mut values = [1, 2, 3];
+            random.shuffle(&mut values);
+            orders.insert(values);
+        }
+        assert_eq!(orders.len(), 6);
     }
 }

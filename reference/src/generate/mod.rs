@@ -1,12 +1,27 @@
-//! Made-up inputs: valid tables, damaged ones, noise, queries, and records of
-//! very many nodes.
+//! Made-up inputs: tables, queries and records, right ones and wrong ones.
+//!
+//! - [`valid`], [`damage`], [`noise`]: tables, valid, damaged and blind
+//! - [`queries`]: queries, valid and damaged
+//! - [`policies`], [`constraints`]: tables in which goals can be derived
+//! - [`growth`], [`claims`]: right records, grown from such tables
+//! - [`wrongs`], [`spoil`], [`misfits`], [`every`]: wrong ones
+//! - [`wide`]: records of very many nodes
+//! - [`chains`], [`places`]: what the others need
 
 pub mod chains;
+pub mod claims;
+pub mod constraints;
 pub mod damage;
+pub mod every;
+pub mod growth;
+pub mod misfits;
 pub mod noise;
 pub mod places;
+pub mod policies;
 pub mod queries;
+pub mod spoil;
 pub mod valid;
 pub mod wide;
+pub mod wrongs;
 
 pub use places::Place;

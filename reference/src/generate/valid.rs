@@ -89,7 +89,7 @@ fn repeating<Record: Copy>(
 
 /// A principal or a role name; the ends of the range and small numbers, which
 /// often meet, come more often than the rest.
-fn one_to_highest(random: &mut Random) -> u16 {
+pub fn one_to_highest(random: &mut Random) -> u16 {
     match random.below(4) {
         0 => *random.pick(&[1, HIGHEST]),
         1 | 2 => random.between(1, 4),

@@ -1,21 +1,23 @@
 //! Derivations of very many nodes: every goal above the last level rests on
-//! the same goal four times over.
+//! the next level's goal four times over.
 
 use crate::query::{Query, DEEPEST};
-use crate::records::{CellRecord, CredentialRecord, Records};
+use crate::random::Random;
+use crate::records::{CellRecord, Head, Records};
+use crate::sorts::HIGHEST;
 
 /// The principal that is derived to be in every role, and who owns them all.
-const MEMBER: u16 = 64;
+const MEMBER: u16 = HIGHEST;
 const OWNER: u16 = 1;
 
 /// The table with a role for each of so many levels, 1 to 16, whose name is
-/// the level's number. Level and credential have the same number too.
+/// the level's number. Each but the last is a chain of four times the next.
+/// Level and credential have the same number too.
 pub fn records(levels: u16) -> Records {
     let chains = (1..levels).map(|level| [OWNER, level, 4, first_cell(level), 0, 0]);
     let last = [OWNER, levels, 1, MEMBER, 0, 0];
-    let credentials: Vec<CredentialRecord> = chains.chain([last]).collect();
     Records {
-        credentials,
+        credentials: chains.chain([last]).collect(),
         cells: (1..levels).flat_map(cells).collect(),
         automata: Vec::new(),
         edges: Vec::new(),
@@ -33,7 +35,23 @@ fn cells(level: u16) -> [CellRecord; 4] {
     [first + 1, first + 2, first + 3, 0].map(|next| [OWNER, level + 1, next])
 }
 
-/// The record of the table's one derivation of level 1.
+/// The table of nine levels, with equal credentials to choose from, and with
+/// a detour at the end of the first chain: only the last branches, behind
+/// more than 65,535 nodes, have ten levels.
+pub fn made_up(random: &mut Random) -> Records {
+    const DETOUR: u16 = HIGHEST;
+    let mut records = records(9);
+    records.cells[3][1] = DETOUR;
+    records.credentials.push([OWNER, DETOUR, 2, OWNER, 2, 0]);
+    while records.head().credentials < Head::LIMITS.credentials {
+        let again = *random.pick(&records.credentials);
+        records.credentials.push(again);
+    }
+    random.shuffle(&mut records.credentials);
+    records
+}
+
+/// The record of the one derivation of level 1 in the table of so many levels.
 pub fn record(levels: u16) -> Vec<u16> {
     let mut record = vec![levels, 0];
     for level in (1..levels).rev() {

@@ -1,0 +1,211 @@
+//! Automata that accept some words and reject others, and the credentials
+//! to which they are attached.
+
+use crate::random::Random;
+use crate::records::{EdgeRecord, Head, Records};
+use crate::table::LAST_STATE;
+
+/// A role's owner and name, as written.
+pub type Role = (u16, u16);
+
+/// An automaton with its edges: from, label, owner, name, to.
+#[derive(Clone, Debug, PartialEq, Eq)]
+pub struct Constraint {
+    starting: u16,
+    accepting: u16,
+    edges: Vec<[u16; 5]>,
+}
+
+/// An edge on every role, on one role, on every role but one.
+fn every(from: u16, to: u16) -> [u16; 5] {
+    [from, 2, 0, 0, to]
+}
+
+fn exactly(from: u16, (owner, name): Role, to: u16) -> [u16; 5] {
+    [from, 1, owner, name, to]
+}
+
+fn all_but(from: u16, (owner, name): Role, to: u16) -> [u16; 5] {
+    [from, 3, owner, name, to]
+}
+
+impl Constraint {
+    /// An automaton that starts in state 0.
+    fn new(accepting: u16, edges: Vec<[u16; 5]>) -> Constraint {
+        Constraint {
+            starting: 1,
+            accepting,
+            edges,
+        }
+    }
+
+    /// Every word is accepted.
+    pub fn everything() -> Constraint {
+        Constraint::new(1, vec![every(0, 0)])
+    }
+
+    /// No word is accepted.
+    pub fn nothing(random: &mut Random) -> Constraint {
+        let mut constraint = Constraint::everything();
+        match random.below(3) {
+            0 => constraint.starting = 0,
+            1 => constraint.accepting = 0,
+            _ => constraint.edges.clear(),
+        }
+        constraint
+    }
+
+    /// The word begins with a role.
+    pub fn first(role: Role) -> Constraint {
+        Constraint::new(2, vec![exactly(0, role, 1), every(1, 1)])
+    }
+
+    /// The word ends with a role.
+    pub fn last(role: Role) -> Constraint {
+        Constraint::new(2, vec![every(0, 0), exactly(0, role, 1)])
+    }
+
+    /// A role is somewhere in the word.
+    pub fn somewhere(role: Role) -> Constraint {
+        Constraint::new(2, vec![every(0, 0), exactly(0, role, 1), every(1, 1)])
+    }
+
+    /// A role is nowhere in the word.
+    pub fn nowhere(role: Role) -> Constraint {
+        Constraint::new(1, vec![all_but(0, role, 0)])
+    }
+
+    /// The second role of the word, if there is one, is not this one.
+    pub fn not_second(role: Role) -> Constraint {
+        let edges = vec![every(0, 1), all_but(1, role, 2), every(2, 2)];
+        Constraint::new(2 + 4, edges)
+    }
+
+    /// Somewhere in the word a role comes right after another.
+    pub fn right_after(role: Role, next: Role) -> Constraint {
+        let found = [exactly(0, role, 1), exactly(1, next, 2)];
+        let edges = [vec![every(0, 0), every(2, 2)], found.to_vec()].concat();
+        Constraint::new(4, edges)
+    }
+
+    /// The word has at most so many roles, 15 at the very most.
+    pub fn at_most(roles: u16) -> Constraint {
+        let edges = (0..roles).map(|state| every(state, state + 1));
+        Constraint::new(u16::MAX, edges.collect())
+    }
+
+    /// The word has an even number of roles, or an odd one.
+    pub fn even_or_odd(random: &mut Random) -> Constraint {
+        Constraint::new(*random.pick(&[1, 2]), vec![every(0, 1), every(1, 0)])
+    }
+
+    /// A few states, and edges as they come.
+    pub fn haphazard(random: &mut Random, roles: &[Role]) -> Constraint {
+        let last = random.between(1, 3);
+        let mut edges = Vec::new();
+        for _ in 0..random.between(2, 10) {
+            let (from, to) = (random.between(0, last), random.between(0, last));
+            let role = *random.pick(roles);
+            edges.push(match random.below(4) {
+                0 => exactly(from, role, to),
+                1 => all_but(from, role, to),
+                _ => every(from, to),
+            });
+        }
+        Constraint {
+            starting: random.between(1, 15),
+            accepting: random.between(1, 15),
+            edges,
+        }
+    }
+
+    /// One of the above, about some of these roles; there is at least one.
+    pub fn any(random: &mut Random, roles: &[Role]) -> Constraint {
+        let [role, next] = [*random.pick(roles), *random.pick(roles)];
+        let constraint = match random.below(16) {
+            0 | 1 => Constraint::everything(),
+            2 => Constraint::nothing(random),
+            3 => Constraint::first(role),
+            4 => Constraint::last(role),
+            5 => Constraint::somewhere(role),
+            6 | 7 => Constraint::nowhere(role),
+            8 | 9 => Constraint::not_second(role),
+            10 => Constraint::right_after(role, next),
+            11 | 12 => Constraint::at_most(random.between(1, LAST_STATE)),
+            13 => Constraint::even_or_odd(random),
+            _ => Constraint::haphazard(random, roles),
+        };
+        constraint.renamed(random)
+    }
+
+    /// The same automaton with other states in the place of its own.
+    fn renamed(&self, random: &mut Random) -> Constraint {
+        let mut names: Vec<u16> = (0..=LAST_STATE).collect();
+        random.shuffle(&mut names);
+        let name = |state: u16| names[usize::from(state)];
+        let set = |states: u16| {
+            let named = (0..=LAST_STATE).filter(|state| (states >> state) & 1 == 1);
+            named.map(|state| 1 << name(state)).sum()
+        };
+        let edges = self.edges.iter();
+        Constraint {
+            starting: set(self.starting),
+            accepting: set(self.accepting),
+            edges: edges
+                .map(|&[from, label, owner, role, to]| [name(from), label, owner, role, name(to)])
+                .collect(),
+        }
+    }
+}
+
+/// Adds an automaton to a table and tells its number, if there is room. Its
+/// edges come to stand among those of the others.
+pub fn add(random: &mut Random, records: &mut Records, constraint: &Constraint) -> Option<u16> {
+    let edges = records.edges.len() + constraint.edges.len();
+    let limits = Head::LIMITS;
+    if records.head().automata >= limits.automata || edges > usize::from(limits.edges) {
+        return None;
+    }
+    let sets = [constraint.starting, constraint.accepting];
+    records.automata.push(sets);
+    let number = records.automata.len() as u16;
+    for &[from, label, owner, name, to] in &constraint.edges {
+        let edge: EdgeRecord = [number, from, label, owner, name, to];
+        let place = random.below(records.edges.len() + 1);
+        records.edges.insert(place, edge);
+    }
+    Some(number)
+}
+
+/// Gives a table automata, or none, and attaches them to some of its
+/// credentials, of which there is at least one.
+pub fn attach(random: &mut Random, records: &mut Records) {
+    let roles = defined(records);
+    let count = match random.below(8) {
+        0 | 1 => 0,
+        2..=5 => random.between(1, 3),
+        6 => random.between(4, 7),
+        _ => Head::LIMITS.automata,
+    };
+    for _ in 0..count {
+        let constraint = Constraint::any(random, &roles);
+        add(random, records, &constraint);
+    }
+    let seldom = *random.pick(&[1, 3, 6, 12]);
+    let head = records.head();
+    if head.automata > 0 {
+        for credential in &mut records.credentials {
+            if random.one_in(seldom) {
+                credential[5] = random.between(1, head.automata);
+            }
+        }
+    }
+}
+
+/// The roles that the credentials of a table define: words have no others.
+pub fn defined(records: &Records) -> Vec<Role> {
+    let credentials = records.credentials.iter();
+    credentials
+        .map(|&[owner, name, ..]| (owner, name))
+        .collect()
+}
