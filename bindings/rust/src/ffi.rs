@@ -16,10 +16,22 @@ extern "C" {
         depth: u16,
         position: *mut u64,
     ) -> u32;
+
+    fn bwlchareg_verify(
+        table: *const u16,
+        table_length: usize,
+        principal: u16,
+        owner: u16,
+        name: u16,
+        depth: u16,
+        record: *const u16,
+        record_length: usize,
+        value: *mut u64,
+    ) -> u32;
 }
 
-/// A position that the library never gives. A call starts with it, so that a
-/// position left unwritten is noticed.
+/// A value that the library never gives, as a position or as a used set. A
+/// call starts with it, so that a value left unwritten is noticed.
 const UNWRITTEN: u64 = u64::MAX;
 
 /// Checks a table: refusals 1 to 7.
@@ -50,6 +62,28 @@ pub fn check_query(table: &[u16], query: Query) -> Result<(), Refusal> {
     answer(number, position)
 }
 
+/// Verifies a proof record: refusals 1 to 8, then 11 to 14. An accepted record
+/// is answered with its used set, in which credential i counts 2^(i-1).
+pub fn verify(table: &[u16], query: Query, record: &[u16]) -> Result<u32, Refusal> {
+    let mut value = UNWRITTEN;
+    // SAFETY: as for `check_query`; the record is a second borrowed slice,
+    // which the library only reads, and only during the call.
+    let number = unsafe {
+        bwlchareg_verify(
+            table.as_ptr(),
+            table.len(),
+            query.principal,
+            query.owner,
+            query.name,
+            query.depth,
+            record.as_ptr(),
+            record.len(),
+            &mut value,
+        )
+    };
+    verdict(number, value)
+}
+
 /// The answer that a result number and a position stand for.
 ///
 /// Accepted is number 0 with position 0 and nothing else, so a library that
@@ -58,5 +92,37 @@ fn answer(number: u32, position: u64) -> Result<(), Refusal> {
     match (number, position) {
         (0, 0) => Ok(()),
         (number, position) => Err(Refusal { number, position }),
+    }
+}
+
+/// The verdict that a result number and a value stand for.
+///
+/// Accepted is number 0 with a used set of 32 bits and nothing else, so a
+/// library that left the value unwritten is never taken to accept.
+fn verdict(number: u32, value: u64) -> Result<u32, Refusal> {
+    match (number, u32::try_from(value)) {
+        (0, Ok(used_set)) => Ok(used_set),
+        (number, _) => Err(Refusal {
+            number,
+            position: value,
+        }),
+    }
+}
+
+#[cfg(test)]
+mod tests {
+    use super::{answer, verdict, UNWRITTEN};
+
+    #[test]
+    fn a_value_left_unwritten_is_never_accepted() {
+        assert!(answer(0, UNWRITTEN).is_err());
+        assert!(verdict(0, UNWRITTEN).is_err());
+    }
+
+    #[test]
+    fn a_refusal_is_never_taken_for_a_used_set() {
+        let refusal = verdict(11, 3).unwrap_err();
+        assert_eq!((refusal.number, refusal.position), (11, 3));
+        assert_eq!(verdict(0, 3), Ok(3));
     }
 }

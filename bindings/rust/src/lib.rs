@@ -3,6 +3,8 @@
 //! A table is a slice of 16-bit numbers: a head of four counts, then the
 //! credentials, part cells, automata and edges. [`check`] says whether it is
 //! accepted; [`check_query`] says the same of a table and a query together.
+//! [`verify`] says whether a proof record, two numbers for each node, derives
+//! what is queried and complies with every automaton that it uses.
 //!
 //! ```
 //! // Shop 1, School 2, Ann 4; discount 1, student 2, accredited 3.
@@ -18,6 +20,10 @@
 //! let query = bwlchareg::Query { principal: 4, owner: 1, name: 1, depth: 0 };
 //! let refusal = bwlchareg::check_query(&table, query).unwrap_err();
 //! assert_eq!((refusal.number, refusal.position), (8, 4));
+//!
+//! // Ann has Shop's discount as a student of School: credentials 1, 2, 3.
+//! let query = bwlchareg::Query { depth: 2, ..query };
+//! assert_eq!(bwlchareg::verify(&table, query, &[1, 2, 2, 0, 3, 0]), Ok(0b111));
 //! ```
 
 #![deny(unsafe_code)]
@@ -26,7 +32,7 @@
 mod ffi;
 mod refusal;
 
-pub use ffi::{check, check_query};
+pub use ffi::{check, check_query, verify};
 pub use refusal::Refusal;
 
 /// What is asked of a table: is the principal in the role `owner.name`, by a

@@ -8,8 +8,8 @@ use std::fmt;
 pub struct Refusal {
     /// The number of the condition that the input meets.
     pub number: u32,
-    /// The record (or query field) that meets it, counted from 1; 0 where
-    /// the condition has no place of its own.
+    /// The record of the table, query field, node or automaton that meets it,
+    /// counted from 1; 0 where the condition has no place of its own.
     pub position: u64,
 }
 
@@ -31,6 +31,19 @@ impl fmt::Display for Refusal {
             ),
             7 => write!(out, "edge {position} has a field out of range"),
             8 => write!(out, "the query's {} is out of range", query_field(position)),
+            11 => write!(
+                out,
+                "the record ends before node {position} does, or goes on after the tree"
+            ),
+            12 => write!(
+                out,
+                "node {position} has a credential or a middle that does not fit its goal"
+            ),
+            13 => write!(
+                out,
+                "node {position} is too deep, or its role is already on the branch"
+            ),
+            14 => write!(out, "automaton {position} rejects a word of the record"),
             number => write!(out, "refusal {number} at {position}"),
         }
     }
@@ -59,11 +72,12 @@ mod tests {
 
     #[test]
     fn every_refusal_has_words_of_its_own() {
-        let mut all: Vec<String> = (1..=8).map(|number| words(number, 1)).collect();
+        let numbers = (1..=8).chain(11..=14);
+        let mut all: Vec<String> = numbers.map(|number| words(number, 1)).collect();
         assert!(all.iter().all(|text| !text.starts_with("refusal")));
         all.sort();
         all.dedup();
-        assert_eq!(all.len(), 8);
+        assert_eq!(all.len(), 12);
     }
 
     #[test]
@@ -71,6 +85,8 @@ mod tests {
         let text = "credential 12 has a field outside what its kind allows";
         assert_eq!(words(4, 12), text);
         assert_eq!(words(8, 4), "the query's depth is out of range");
+        let text = "automaton 8 rejects a word of the record";
+        assert_eq!(words(14, 8), text);
         assert_eq!(words(99, 3), "refusal 99 at 3");
     }
 }

@@ -1,6 +1,6 @@
 //! The calls through the library, on the shop example.
 
-use bwlchareg::{check, check_query, Query, Refusal};
+use bwlchareg::{check, check_query, verify, Query, Refusal};
 
 const T: [u16; 28] = [
     4, 0, 0, 0, //
@@ -10,6 +10,19 @@ const T: [u16; 28] = [
     1, 1, 1, 4, 0, 0, //
 ];
 
+const U: [u16; 42] = [
+    4, 0, 1, 2, //
+    1, 1, 3, 3, 2, 0, //
+    1, 3, 1, 2, 0, 0, //
+    2, 2, 1, 4, 0, 1, //
+    1, 1, 1, 4, 0, 0, //
+    1, 2, //
+    1, 0, 3, 1, 1, 1, //
+    1, 1, 2, 0, 0, 1, //
+];
+
+const R: [u16; 6] = [1, 2, 2, 0, 3, 0];
+
 const Q: Query = Query {
     principal: 4,
     owner: 1,
@@ -17,7 +30,7 @@ const Q: Query = Query {
     depth: 2,
 };
 
-fn refused(number: u32, position: u64) -> Result<(), Refusal> {
+fn refused<Accepted>(number: u32, position: u64) -> Result<Accepted, Refusal> {
     Err(Refusal { number, position })
 }
 
@@ -55,5 +68,32 @@ fn each_query_field_arrives_in_its_place() {
         let mut query = Q;
         change(&mut query);
         assert_eq!(check_query(&T, query), refused(8, position));
+        assert_eq!(verify(&T, query, &R), refused(8, position));
     }
+}
+
+#[test]
+fn records_of_the_shop_are_judged() {
+    let shallow = Query { depth: 1, ..Q };
+    assert_eq!(verify(&T, Q, &R), Ok(7));
+    assert_eq!(verify(&T, Q, &[4, 0]), Ok(8));
+    assert_eq!(verify(&U, Q, &[4, 0]), Ok(8));
+    assert_eq!(verify(&U, Q, &R), refused(14, 1));
+    assert_eq!(verify(&T, shallow, &R), refused(13, 2));
+    assert_eq!(verify(&T, Q, &[1, 2, 2, 0]), refused(11, 3));
+    assert_eq!(verify(&T, Q, &[1, 4, 2, 0, 3, 0]), refused(12, 2));
+    assert_eq!(verify(&T, Q, &[1, 2, 2, 0, 3, 0, 9]), refused(11, 4));
+}
+
+#[test]
+fn empty_slices_are_judged() {
+    assert_eq!(verify(&T, Q, &[]), refused(11, 1));
+    assert_eq!(verify(&[], Q, &[]), refused(1, 0));
+    assert_eq!(verify(&[], Q, &R), refused(1, 0));
+}
+
+#[test]
+fn the_table_is_told_from_the_record() {
+    assert_eq!(verify(&R, Q, &T), refused(3, 0));
+    assert_eq!(verify(&T[..27], Q, &R), refused(3, 0));
 }
