@@ -4,14 +4,19 @@
 const SEED: u64 = 2015;
 /// The number of made-up tables if none is given.
 const COUNT: u64 = 200_000;
+/// The number of made-up records if none is given.
+const RECORDS: u64 = 100_000;
 
-/// The seed of the made-up tables, and how many there are.
+/// The seed of the made-up inputs, and how many there are.
 #[derive(Debug, PartialEq, Eq)]
 pub struct Arguments {
     /// The seed.
     pub seed: u64,
     /// How many tables are made up, beside the fixed ones.
     pub count: u64,
+    /// How many records are grown, beside the fixed ones. Each is compared
+    /// as it is, and then spoiled in several ways.
+    pub records: u64,
 }
 
 impl Arguments {
@@ -20,11 +25,13 @@ impl Arguments {
         let mut arguments = Arguments {
             seed: SEED,
             count: COUNT,
+            records: RECORDS,
         };
         while let Some(word) = words.next() {
             let field = match word.as_str() {
                 "--seed" => &mut arguments.seed,
                 "--count" => &mut arguments.count,
+                "--records" => &mut arguments.records,
                 _ => return Err(format!("unknown argument {word}")),
             };
             let number = words.next().ok_or(format!("{word} lacks its number"))?;
@@ -38,21 +45,26 @@ impl Arguments {
 
 #[cfg(test)]
 mod tests {
-    use super::{Arguments, COUNT, SEED};
+    use super::{Arguments, COUNT, RECORDS, SEED};
 
     fn read(line: &str) -> Result<Arguments, String> {
         Arguments::read(line.split_whitespace().map(String::from))
     }
 
-    fn arguments(seed: u64, count: u64) -> Result<Arguments, String> {
-        Ok(Arguments { seed, count })
+    fn arguments(seed: u64, count: u64, records: u64) -> Result<Arguments, String> {
+        Ok(Arguments {
+            seed,
+            count,
+            records,
+        })
     }
 
     #[test]
     fn arguments_are_read() {
-        assert_eq!(read(""), arguments(SEED, COUNT));
-        assert_eq!(read("--seed 3"), arguments(3, COUNT));
-        assert_eq!(read("--count 9 --seed 3"), arguments(3, 9));
+        assert_eq!(read(""), arguments(SEED, COUNT, RECORDS));
+        assert_eq!(read("--seed 3"), arguments(3, COUNT, RECORDS));
+        assert_eq!(read("--count 9 --seed 3"), arguments(3, 9, RECORDS));
+        assert_eq!(read("--records 9"), arguments(SEED, COUNT, 9));
     }
 
     #[test]

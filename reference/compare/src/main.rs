@@ -1,51 +1,79 @@
 //! Compares the library with the reference on fixed and on made-up inputs.
 //!
-//! `compare [--seed N] [--count N]`: the seed of the made-up tables, and how
-//! many of them there are beside the fixed ones. Every table is given to the
-//! table call, and with a query to the query call. The last line printed is
-//! `N passed, M failed`; the exit status tells whether any failed.
+//! `compare [--seed N] [--count N] [--records N]`: the seed of the made-up
+//! inputs, how many tables are made up, and how many records, beside the fixed
+//! ones. Every table is given to the table call, and with a query to the query
+//! call. Every record, and several spoiled forms of it, is given to the
+//! verifying call. The last line printed is `N passed, M failed`; the exit
+//! status tells whether any failed.
 
 #![forbid(unsafe_code)]
 
 mod arguments;
 mod cases;
+mod claims;
+mod features;
+mod report;
 mod tally;
+mod verdicts;
 
 use std::process::ExitCode;
 
 use arguments::Arguments;
 use cases::Case;
+use claims::Submitted;
 use reference::random::Random;
 use reference::Refusal;
+use report::Outcome;
 use tally::{Call, Tally};
+use verdicts::Verdicts;
 
-/// What a call gives back.
+/// What the table call and the query call give back.
 type Answer = Result<(), Refusal>;
+/// What the verifying call gives back.
+type Verdict = Result<u32, Refusal>;
 
 fn main() -> ExitCode {
     let arguments = match Arguments::read(std::env::args().skip(1)) {
         Ok(arguments) => arguments,
         Err(message) => {
-            eprintln!("{message}\nusage: compare [--seed N] [--count N]");
+            eprintln!("{message}\nusage: compare [--seed N] [--count N] [--records N]");
             return ExitCode::from(2);
         }
     };
     println!("seed {}", arguments.seed);
-    let mut tally = Tally::new(arguments.seed);
-    cases::fixed(&mut |case| compare(&case, &mut tally));
-    let mut random = Random::new(arguments.seed);
-    for _ in 0..arguments.count {
-        compare(&cases::made_up(&mut random), &mut tally);
-    }
-    let failed = tally.report();
-    if failed == 0 {
+    let outcome = compare_tables(&arguments) + compare_records(&arguments);
+    println!("{} passed, {} failed", outcome.passed, outcome.failed);
+    if outcome.failed == 0 {
         ExitCode::SUCCESS
     } else {
         ExitCode::FAILURE
     }
 }
 
-/// Makes both calls on both sides.
+/// Compares the table call and the query call.
+fn compare_tables(arguments: &Arguments) -> Outcome {
+    let mut tally = Tally::new(arguments.seed);
+    cases::fixed(&mut |case| compare(&case, &mut tally));
+    let mut random = Random::new(arguments.seed);
+    for _ in 0..arguments.count {
+        compare(&cases::made_up(&mut random), &mut tally);
+    }
+    tally.report()
+}
+
+/// Compares the verifying call.
+fn compare_records(arguments: &Arguments) -> Outcome {
+    let mut verdicts = Verdicts::new(arguments.seed);
+    claims::fixed(&mut |submitted| compare_verdicts(&submitted, &mut verdicts));
+    let mut random = Random::new(arguments.seed);
+    claims::made_up(&mut random, arguments.records, &mut |submitted| {
+        compare_verdicts(&submitted, &mut verdicts)
+    });
+    verdicts.report()
+}
+
+/// Makes the table call and the query call on both sides.
 fn compare(case: &Case, tally: &mut Tally) {
     tally.tables += 1;
     let library = bwlchareg::check(&case.table).map_err(same_refusal);
@@ -56,6 +84,15 @@ fn compare(case: &Case, tally: &mut Tally) {
     let library = bwlchareg::check_query(&case.table, query).map_err(same_refusal);
     let reference = reference::check_query(&case.table, case.query);
     tally.count(Call::Query, case, library, reference);
+}
+
+/// Makes the verifying call on both sides.
+fn compare_verdicts(submitted: &Submitted, verdicts: &mut Verdicts) {
+    let claim = &submitted.claim;
+    let query = library_query(claim.query);
+    let library = bwlchareg::verify(&claim.table, query, &claim.record).map_err(same_refusal);
+    let reference = reference::verify(&claim.table, claim.query, &claim.record);
+    verdicts.count(submitted, library, reference);
 }
 
 /// The library's refusal as one of the reference.

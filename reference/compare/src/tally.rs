@@ -1,16 +1,12 @@
-//! Counts of what was compared, and the report.
+//! Counts of what the table call and the query call were compared on.
 
 use std::collections::BTreeMap;
 
 use reference::generate::Place;
 
 use crate::cases::Case;
+use crate::report::{line, listed, outcome, Outcome, PRINTED};
 use crate::Answer;
-
-/// So many differences are printed; the others are only counted.
-const PRINTED: u64 = 10;
-/// So many numbers of a table are printed: all, unless it is far too long.
-const NUMBERS_PRINTED: usize = 2_000;
 
 /// One of the two calls.
 #[derive(Clone, Copy, Debug, PartialEq, Eq, PartialOrd, Ord)]
@@ -79,12 +75,9 @@ impl Tally {
 
     /// Prints what is needed to look into a difference.
     fn print_difference(&self, call: Call, case: &Case, library: Answer, reference: Answer) {
-        let length = case.table.len();
-        let shown = &case.table[..length.min(NUMBERS_PRINTED)];
-        let numbers: Vec<String> = shown.iter().map(u16::to_string).collect();
         println!("difference, {}:", call.described().0);
         println!("  seed {}, table {} of the run", self.seed, self.tables);
-        println!("  table of {length} numbers: {}", numbers.join(" "));
+        println!("  table of {}", listed(&case.table));
         if call == Call::Query {
             println!("  query: {:?}", case.query);
         }
@@ -92,8 +85,8 @@ impl Tally {
         println!("  reference: {}", words(reference));
     }
 
-    /// Prints the counts and the last line; tells how many failed.
-    pub fn report(&self) -> u64 {
+    /// Prints the counts; tells how many passed and failed.
+    pub fn report(&self) -> Outcome {
         println!("tables {}", self.tables);
         let zeros = self.report_answers(Call::Table)
             + self.report_answers(Call::Query)
@@ -101,10 +94,10 @@ impl Tally {
         let tests = self.tests();
         println!("counts that are zero {zeros} of {tests}");
         println!("differences {}", self.differed);
-        let passed = self.agreed + tests - zeros;
-        let failed = self.differed + zeros;
-        println!("{passed} passed, {failed} failed");
-        failed
+        Outcome {
+            passed: self.agreed + tests - zeros,
+            failed: self.differed + zeros,
+        }
     }
 
     /// How many counts must not be zero.
@@ -121,7 +114,7 @@ impl Tally {
         let mut zeros = 0;
         for number in 0..=greatest {
             let count = self.answers.get(&(call, number)).copied();
-            zeros += line(&outcome(number), count);
+            zeros += line(&outcome(number), count, 1);
         }
         zeros
     }
@@ -133,7 +126,7 @@ impl Tally {
         for place in Place::all() {
             for &number in expected(place) {
                 let count = self.places.get(&(place, number)).copied();
-                zeros += line(&format!("{place}: {}", outcome(number)), count);
+                zeros += line(&format!("{place}: {}", outcome(number)), count, 1);
             }
         }
         zeros
@@ -149,25 +142,9 @@ fn expected(place: Place) -> &'static [u32] {
     }
 }
 
-/// Prints one count; tells 1 if it is zero, else 0.
-fn line(what: &str, count: Option<u64>) -> u64 {
-    let count = count.unwrap_or(0);
-    let remark = if count == 0 { "  ZERO" } else { "" };
-    println!("  {what:<38} {count:>9}{remark}");
-    u64::from(count == 0)
-}
-
 /// 0 for an accepted input, else the refusal's number.
 fn number(answer: Answer) -> u32 {
     answer.err().map_or(0, |refusal| refusal.number)
-}
-
-/// An answer's number in words.
-fn outcome(number: u32) -> String {
-    match number {
-        0 => "accepted".into(),
-        _ => format!("refused {number}"),
-    }
 }
 
 /// An answer in words.

@@ -1,0 +1,148 @@
+//! What accepted records are like.
+
+use std::collections::BTreeSet;
+use std::fmt;
+
+use reference::derivation::Derivation;
+use reference::generate::claims::Claim;
+use reference::query::DEEPEST;
+use reference::table::{Members, Table};
+use reference::words::every_word;
+
+/// Something that an accepted record can be or have.
+#[derive(Clone, Copy, Debug, PartialEq, Eq, PartialOrd, Ord)]
+pub enum Feature {
+    /// A used credential has an automaton.
+    Automaton,
+    /// So have several, and the automata are not the same.
+    Automata,
+    /// There is an automaton, and there are several words.
+    AutomatonAndWords,
+    /// A credential that is not used has an automaton that is not used.
+    UnusedAutomaton,
+    /// A credential of this kind is used.
+    Kind(u16),
+    /// The deepest node is as deep as the query allows.
+    AtTheLimit,
+    /// There are sixteen levels.
+    SixteenLevels,
+    /// There are more than 65,535 nodes.
+    ManyNodes,
+}
+
+impl Feature {
+    /// Every feature that there is.
+    pub fn all() -> Vec<Feature> {
+        let mut features = vec![Feature::Automaton, Feature::Automata];
+        features.extend([Feature::AutomatonAndWords, Feature::UnusedAutomaton]);
+        features.extend([1, 2, 3, 4].map(Feature::Kind));
+        features.extend([Feature::AtTheLimit, Feature::SixteenLevels]);
+        features.push(Feature::ManyNodes);
+        features
+    }
+
+    /// How many accepted records must have it at the least.
+    pub fn least(self) -> u64 {
+        match self {
+            Feature::Automaton => 5_000,
+            _ => 1,
+        }
+    }
+
+    /// The features of an accepted claim.
+    pub fn of(claim: &Claim) -> Vec<Feature> {
+        let table = Table::read(&claim.table).expect("an accepted table");
+        let asked = claim.query.read().expect("a valid query");
+        let derivation = Derivation::read(&table, asked, &claim.record);
+        let derivation = derivation.expect("an accepted record");
+        let uses = Uses::of(&table, derivation.used_set());
+        let shape = Shape::of(&derivation);
+        let has = |feature: Feature| match feature {
+            Feature::Automaton => !uses.automata.is_empty(),
+            Feature::Automata => uses.automata.len() > 1,
+            Feature::AutomatonAndWords => !uses.automata.is_empty() && shape.words > 1,
+            Feature::UnusedAutomaton => !uses.other_automata.is_empty(),
+            Feature::Kind(kind) => uses.kinds.contains(&kind),
+            Feature::AtTheLimit => shape.levels == usize::from(asked.depth),
+            Feature::SixteenLevels => shape.levels == usize::from(DEEPEST),
+            Feature::ManyNodes => claim.record.len() > 2 * usize::from(u16::MAX),
+        };
+        let all = Feature::all().into_iter();
+        all.filter(|&feature| has(feature)).collect()
+    }
+}
+
+/// What a record uses of its table.
+#[derive(Default)]
+struct Uses {
+    /// The kinds of its credentials.
+    kinds: BTreeSet<u16>,
+    /// The automata attached to its credentials.
+    automata: BTreeSet<u16>,
+    /// The automata attached only to other credentials.
+    other_automata: BTreeSet<u16>,
+}
+
+impl Uses {
+    /// What is used by a record with this used set.
+    fn of(table: &Table, used_set: u32) -> Uses {
+        let mut uses = Uses::default();
+        for (index, credential) in table.credentials.iter().enumerate() {
+            if (used_set >> index) & 1 == 1 {
+                uses.kinds.insert(kind(&credential.members));
+                uses.automata.extend(credential.automaton);
+            } else {
+                uses.other_automata.extend(credential.automaton);
+            }
+        }
+        uses.other_automata = &uses.other_automata - &uses.automata;
+        uses
+    }
+}
+
+/// The number of a credential's kind.
+fn kind(members: &Members) -> u16 {
+    match members {
+        Members::One(_) => 1,
+        Members::AllOf(_) => 2,
+        Members::Linked(..) => 3,
+        Members::InEvery(_) => 4,
+    }
+}
+
+/// How many words a derivation has, and how many levels.
+#[derive(Default)]
+struct Shape {
+    words: u64,
+    levels: usize,
+}
+
+impl Shape {
+    /// The shape of a derivation: a word has as many roles as its last node
+    /// is deep.
+    fn of(derivation: &Derivation) -> Shape {
+        let mut shape = Shape::default();
+        every_word(derivation, |word| {
+            shape.words += 1;
+            shape.levels = shape.levels.max(word.len());
+            true
+        });
+        shape
+    }
+}
+
+impl fmt::Display for Feature {
+    fn fmt(&self, out: &mut fmt::Formatter<'_>) -> fmt::Result {
+        let words = match self {
+            Feature::Automaton => "uses an automaton".into(),
+            Feature::Automata => "uses several automata".into(),
+            Feature::AutomatonAndWords => "uses an automaton, has several words".into(),
+            Feature::UnusedAutomaton => "leaves an automaton unused".into(),
+            Feature::Kind(kind) => format!("uses a credential of kind {kind}"),
+            Feature::AtTheLimit => "as deep as the query allows".into(),
+            Feature::SixteenLevels => "sixteen levels".into(),
+            Feature::ManyNodes => "more than 65,535 nodes".into(),
+        };
+        out.pad(&words)
+    }
+}
