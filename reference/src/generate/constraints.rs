@@ -191,14 +191,35 @@ pub fn attach(random: &mut Random, records: &mut Records) {
         let constraint = Constraint::any(random, &roles);
         add(random, records, &constraint);
     }
-    let seldom = *random.pick(&[1, 3, 6, 12]);
     let head = records.head();
-    if head.automata > 0 {
-        for credential in &mut records.credentials {
-            if random.one_in(seldom) {
-                credential[5] = random.between(1, head.automata);
-            }
+    if head.automata == 0 {
+        return;
+    }
+    let seldom = *random.pick(&[1, 3, 6, 12]);
+    for credential in &mut records.credentials {
+        if random.one_in(seldom) {
+            credential[5] = random.between(1, head.automata);
         }
+    }
+    if random.one_in(8) {
+        let least = *random.pick(&[head.edges, Head::LIMITS.edges]);
+        let edges = random.between(least, Head::LIMITS.edges);
+        fill(random, records, &roles, edges);
+    }
+}
+
+/// Adds edges between any two states until there are so many. Most of them
+/// are never taken, but they give the others higher numbers.
+fn fill(random: &mut Random, records: &mut Records, roles: &[Role], edges: u16) {
+    let automata = records.head().automata;
+    while records.head().edges < edges {
+        let automaton = random.between(1, automata);
+        let (owner, name) = *random.pick(roles);
+        let label = *random.pick(&[1, 3]);
+        let [from, to] = [0; 2].map(|_| random.between(0, LAST_STATE));
+        let place = random.below(records.edges.len() + 1);
+        let edge = [automaton, from, label, owner, name, to];
+        records.edges.insert(place, edge);
     }
 }
 

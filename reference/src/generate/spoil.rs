@@ -44,6 +44,7 @@ pub fn spoil(random: &mut Random, grown: &Grown, wrong: Wrong) -> Option<Claim> 
         Wrong::LikelyNoise => Some(likely_noise(random, grown)),
         Wrong::Table => Some(with_table(random, grown)),
         Wrong::Query => Some(with_query(random, grown)),
+        Wrong::Everything => Some(everything(random, grown)),
     }
 }
 
@@ -138,7 +139,7 @@ fn cut_and_changed(random: &mut Random, grown: &Grown) -> Claim {
     claim
 }
 
-/// A few numbers changed, and the depth limit now and then.
+/// A few numbers changed, and now and then the depth limit, or the length.
 fn several(random: &mut Random, grown: &Grown) -> Claim {
     let mut claim = grown.claim();
     for _ in 0..random.between(1, 4) {
@@ -148,6 +149,10 @@ fn several(random: &mut Random, grown: &Grown) -> Claim {
     }
     if random.one_in(4) {
         claim.query.depth = random.between(1, DEEPEST);
+    }
+    if random.one_in(4) {
+        let length = random.below(claim.record.len() + 4);
+        claim.record.resize(length, 0);
     }
     claim
 }
@@ -238,4 +243,13 @@ fn with_query(random: &mut Random, grown: &Grown) -> Claim {
         }
     };
     claim
+}
+
+/// A damaged table with a damaged query, and a record of noise.
+fn everything(random: &mut Random, grown: &Grown) -> Claim {
+    Claim {
+        table: with_table(random, grown).table,
+        query: with_query(random, grown).query,
+        record: noise(random, grown).record,
+    }
 }

@@ -65,7 +65,7 @@ pub enum Wrong {
     CutAndChanged,
     /// Words are rejected, and numbers are left over.
     BrokenAndLonger,
-    /// Several numbers are others.
+    /// Several numbers are others, and perhaps the depth limit or the length.
     Several,
     /// The record is noise.
     Noise,
@@ -75,6 +75,8 @@ pub enum Wrong {
     Table,
     /// The query is damaged.
     Query,
+    /// The table and the query are damaged, and the record is noise.
+    Everything,
 }
 
 impl Wrong {
@@ -103,7 +105,7 @@ impl Wrong {
         wrongs.extend([Wrong::TooDeepAndCut, Wrong::RepeatedAndChanged]);
         wrongs.extend([Wrong::CutAndChanged, Wrong::BrokenAndLonger]);
         wrongs.extend([Wrong::Several, Wrong::Noise, Wrong::LikelyNoise]);
-        wrongs.extend([Wrong::Table, Wrong::Query]);
+        wrongs.extend([Wrong::Table, Wrong::Query, Wrong::Everything]);
         wrongs
     }
 
@@ -119,7 +121,8 @@ impl Wrong {
             Wrong::Repeated | Wrong::TooDeep => Some(13),
             Wrong::BrokenElsewhere => Some(14),
             Wrong::Changed(..) | Wrong::OtherGoal | Wrong::Several => None,
-            Wrong::Noise | Wrong::LikelyNoise | Wrong::Table | Wrong::Query => None,
+            Wrong::Noise | Wrong::LikelyNoise => None,
+            Wrong::Table | Wrong::Query | Wrong::Everything => None,
         }
     }
 
@@ -132,6 +135,7 @@ impl Wrong {
             Wrong::Noise => vec![11, 12],
             Wrong::Table => vec![0, 1, 2, 3, 4, 5, 6, 7, 12, 14],
             Wrong::Query => vec![8],
+            Wrong::Everything => (1..=8).collect(),
             other => vec![other.refusal().unwrap_or(12)],
         }
     }
@@ -163,6 +167,7 @@ impl fmt::Display for Wrong {
             Wrong::LikelyNoise => "likely noise".into(),
             Wrong::Table => "damaged table".into(),
             Wrong::Query => "damaged query".into(),
+            Wrong::Everything => "table, query and record".into(),
         };
         out.pad(&words)
     }
