@@ -1,40 +1,58 @@
-//! Times the checks of the library and of the reference, side by side.
+//! Times the calls of the library and of the reference, side by side.
 //!
 //! Prints the time of one check, as the median of several rounds, for the
 //! shop's table, for the largest table, and for 1,000 valid tables made up at
-//! random. It says how long things take and judges nothing.
+//! random; the time of one verdict for the shop's records and for 1,000 grown
+//! ones; and the nodes per second for records of very many nodes. It says how
+//! long things take and judges nothing.
 
 #![forbid(unsafe_code)]
 
-use std::hint::black_box;
-use std::time::{Duration, Instant};
+mod timing;
 
-use reference::generate::valid;
+use reference::generate::claims::{Claim, Grown};
+use reference::generate::constraints::{self, Constraint};
+use reference::generate::growth::Policy;
+use reference::generate::{policies, valid, wide};
 use reference::random::Random;
-use reference::records::Head;
+use reference::records::{Head, Records};
 use reference::shop;
 
-/// The seed of the tables.
+use timing::medians;
+
+/// The seed of the tables and records.
 const SEED: u64 = 2015;
 /// How many rounds there are; the median is taken over them.
 const ROUNDS: usize = 15;
-/// How long a round should last at least.
-const ROUND: Duration = Duration::from_millis(20);
+/// How many rounds there are for a record of very many nodes.
+const WIDE_ROUNDS: usize = 5;
 
 fn main() {
-    println!("median of {ROUNDS} rounds, time of one check in nanoseconds");
-    let header = ["tables", "library", "reference", "reference / library"];
-    let [tables, library, reference, ratio] = header;
-    println!("{tables:<32} {library:>12} {reference:>12} {ratio:>20}");
     let mut random = Random::new(SEED);
-    let largest = valid::records(&mut random, Head::LIMITS).numbers();
-    report("the shop's table T", &[shop::T.to_vec()]);
-    report("the largest table", &[largest]);
-    report("1,000 made-up valid tables", &made_up(&mut random));
+    time_checks(&mut random);
+    time_verdicts(&mut random);
+    time_nodes();
+}
+
+/// Prints the header of some lines.
+fn header(title: &str, inputs: &str, ratio: &str) {
+    println!("{title}");
+    let [library, reference] = ["library", "reference"];
+    println!("{inputs:<38} {library:>12} {reference:>12} {ratio:>20}");
+}
+
+/// Times the table call.
+fn time_checks(random: &mut Random) {
+    let title = format!("median of {ROUNDS} rounds, time of one check in nanoseconds");
+    header(&title, "tables", "reference / library");
+    let largest = valid::records(random, Head::LIMITS).numbers();
+    report_checks("the shop's table T", &[shop::T.to_vec()]);
+    report_checks("the largest table", &[largest]);
+    report_checks("1,000 made-up valid tables", &tables(random));
 }
 
 /// A thousand valid tables of every size.
-fn made_up(random: &mut Random) -> Vec<Vec<u16>> {
+fn tables(random: &mut Random) -> Vec<Vec<u16>> {
     let mut table = || {
         let head = valid::head(random);
         valid::records(random, head).numbers()
@@ -42,60 +60,107 @@ fn made_up(random: &mut Random) -> Vec<Vec<u16>> {
     (0..1_000).map(|_| table()).collect()
 }
 
-/// Times both sides on some tables and prints a line.
-fn report(what: &str, tables: &[Vec<u16>]) {
-    let library = |table: &[u16]| bwlchareg::check(table).is_ok();
-    let reference = |table: &[u16]| reference::check(table).is_ok();
-    let (library, reference) = medians(tables, library, reference);
+/// Times the table call on some tables and prints a line.
+fn report_checks(what: &str, tables: &[Vec<u16>]) {
+    let library = |table: &Vec<u16>| bwlchareg::check(table).is_ok();
+    let reference = |table: &Vec<u16>| reference::check(table).is_ok();
+    let (library, reference) = medians(ROUNDS, tables, library, reference);
     let ratio = reference / library;
-    println!("{what:<32} {library:>12.1} {reference:>12.1} {ratio:>20.2}");
+    println!("{what:<38} {library:>12.1} {reference:>12.1} {ratio:>20.2}");
 }
 
-/// The median times of one check on either side. The rounds of the two sides
-/// take turns, so that whatever slows the machine slows both.
-fn medians(
-    tables: &[Vec<u16>],
-    one: impl Fn(&[u16]) -> bool,
-    other: impl Fn(&[u16]) -> bool,
-) -> (f64, f64) {
-    let times = (passes(tables, &one), passes(tables, &other));
-    let mut ones = Vec::new();
-    let mut others = Vec::new();
-    for _ in 0..ROUNDS {
-        ones.push(round(tables, times.0, &one));
-        others.push(round(tables, times.1, &other));
+/// Times the verifying call on small records.
+fn time_verdicts(random: &mut Random) {
+    let title = format!("median of {ROUNDS} rounds, time of one verdict in nanoseconds");
+    header(&title, "records", "reference / library");
+    let claim = |table: &[u16], record: &[u16]| Claim {
+        table: table.to_vec(),
+        query: shop::Q,
+        record: record.to_vec(),
+    };
+    report_verdicts(
+        "the shop's R with T, accepted",
+        &[claim(&shop::T, &shop::R)],
+    );
+    report_verdicts("the shop's R with U, refused", &[claim(&shop::U, &shop::R)]);
+    report_verdicts(
+        "the shop's 4 0 with U, accepted",
+        &[claim(&shop::U, &[4, 0])],
+    );
+    report_verdicts("1,000 grown records, accepted", &grown(random));
+}
+
+/// A thousand grown records that are accepted and use an automaton.
+fn grown(random: &mut Random) -> Vec<Claim> {
+    let mut claims = Vec::new();
+    while claims.len() < 1_000 {
+        let policy = Policy::new(policies::records(random));
+        let grown = Grown::new(random, &policy);
+        let kept = grown.and_then(|grown| grown.kept(random));
+        claims.extend(kept.map(|grown| grown.claim()));
     }
-    (median(ones), median(others))
+    claims
 }
 
-/// How many passes over the tables fill a round.
-fn passes(tables: &[Vec<u16>], check: &impl Fn(&[u16]) -> bool) -> u32 {
-    let mut passes = 1;
-    while time(tables, passes, check) < ROUND {
-        passes *= 2;
+/// Times the verifying call on some claims and prints a line.
+fn report_verdicts(what: &str, claims: &[Claim]) {
+    let (library, reference) = medians(ROUNDS, claims, library_verdict, reference_verdict);
+    let ratio = reference / library;
+    println!("{what:<38} {library:>12.1} {reference:>12.1} {ratio:>20.2}");
+}
+
+/// Whether the library accepts a claim.
+fn library_verdict(claim: &Claim) -> bool {
+    let query = bwlchareg::Query {
+        principal: claim.query.principal,
+        owner: claim.query.owner,
+        name: claim.query.name,
+        depth: claim.query.depth,
+    };
+    bwlchareg::verify(&claim.table, query, &claim.record).is_ok()
+}
+
+/// Whether the reference accepts a claim.
+fn reference_verdict(claim: &Claim) -> bool {
+    reference::verify(&claim.table, claim.query, &claim.record).is_ok()
+}
+
+/// Times the verifying call on records of very many nodes.
+fn time_nodes() {
+    let title = format!("median of {WIDE_ROUNDS} rounds, nodes per second, all accepted");
+    header(&title, "records", "library / reference");
+    report_nodes(11, 0);
+    report_nodes(11, 1);
+    report_nodes(9, 8);
+}
+
+/// Times the verifying call on the record of so many levels, whose credentials
+/// have so many automata, and prints a line.
+fn report_nodes(levels: u16, automata: u16) {
+    let records = constrained(wide::records(levels), automata);
+    let nodes = wide::nodes(levels);
+    let edges = records.head().edges;
+    let claim = Claim {
+        table: records.numbers(),
+        query: wide::query(levels),
+        record: wide::record(levels),
+    };
+    let (library, reference) = medians(WIDE_ROUNDS, &[claim], library_verdict, reference_verdict);
+    let per_second = |time: f64| nodes as f64 / time * 1e9;
+    let (library, reference) = (per_second(library), per_second(reference));
+    let what = format!("{nodes} nodes, automata {automata}, edges {edges}");
+    let ratio = library / reference;
+    println!("{what:<38} {library:>12.0} {reference:>12.0} {ratio:>20.2}");
+}
+
+/// The table with an automaton attached to each of so many credentials, from
+/// the first on. Each accepts words of at most 15 roles.
+fn constrained(mut records: Records, automata: u16) -> Records {
+    let mut random = Random::new(SEED);
+    for index in 0..usize::from(automata) {
+        let constraint = Constraint::at_most(15);
+        let number = constraints::add(&mut random, &mut records, &constraint);
+        records.credentials[index][5] = number.expect("there is room for an automaton");
     }
-    passes
-}
-
-/// The time of one check, in nanoseconds, over so many passes.
-fn round(tables: &[Vec<u16>], passes: u32, check: &impl Fn(&[u16]) -> bool) -> f64 {
-    let checks = f64::from(passes) * tables.len() as f64;
-    time(tables, passes, check).as_nanos() as f64 / checks
-}
-
-/// How long so many passes over the tables take.
-fn time(tables: &[Vec<u16>], passes: u32, check: &impl Fn(&[u16]) -> bool) -> Duration {
-    let start = Instant::now();
-    for _ in 0..passes {
-        for table in tables {
-            black_box(check(black_box(table)));
-        }
-    }
-    start.elapsed()
-}
-
-/// The middle one of an odd number of values.
-fn median(mut values: Vec<f64>) -> f64 {
-    values.sort_by(f64::total_cmp);
-    values[values.len() / 2]
+    records
 }
