@@ -47,7 +47,7 @@ struct Draft {
 }
 
 impl Draft {
-    /// A draft with somebody in a role or two.
+    /// A draft with somebody in a role.
     fn new(random: &mut Random) -> Draft {
         let tall = random.one_in(3);
         let (principals, names) = if tall {

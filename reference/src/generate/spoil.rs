@@ -78,14 +78,14 @@ fn new_value(random: &mut Random, own: u16, value: Value) -> u16 {
     }
 }
 
-/// The record up to some node, which is not there.
+/// The record without the nodes from some node on.
 fn cut_between(random: &mut Random, grown: &Grown) -> Claim {
     let mut claim = grown.claim();
     claim.record.truncate(2 * random.below(grown.nodes.len()));
     claim
 }
 
-/// The record up to the middle of some node, which is not there.
+/// The record up to the first number of some node.
 fn cut_inside(random: &mut Random, grown: &Grown) -> Claim {
     let mut claim = grown.claim();
     claim
@@ -94,7 +94,7 @@ fn cut_inside(random: &mut Random, grown: &Grown) -> Claim {
     claim
 }
 
-/// So many numbers after the record: a record once more, or any.
+/// So many numbers after the record: its own once more, or any.
 fn longer(random: &mut Random, grown: &Grown, count: usize) -> Claim {
     let mut claim = grown.claim();
     let length = claim.record.len() + count;
@@ -130,7 +130,7 @@ fn cut_at(random: &mut Random, mut claim: Claim, node: usize) -> Claim {
     claim
 }
 
-/// The record up to the middle of a node, with a wrong credential number.
+/// The record up to the first number of some node, which is a wrong one.
 fn cut_and_changed(random: &mut Random, grown: &Grown) -> Claim {
     let mut claim = grown.claim();
     let node = random.below(grown.nodes.len());
