@@ -36,12 +36,7 @@ pub extern "C" fn bwlchareg_check_query(
 ) -> u32
     ensures { λ r. ⌜ answered r (now (position .exit)) ≡ requestOutcome (now (table .entry)) (asQuery principal owner name depth) ⌝ }
 {
-    let query = Query {
-        principal: Principal(principal),
-        owner: Principal(owner),
-        name: Name(name),
-        depth: depth,
-    };
+    let query = query_of(principal, owner, name, depth);
     match table::check_request(table, query) {
         QueryCheck::Valid => accept(0, position),
         QueryCheck::Refused(why) => refuse(why, position),
@@ -61,15 +56,22 @@ pub extern "C" fn bwlchareg_verify(
 ) -> u32
     ensures { λ r. ⌜ answered r (now (value .exit)) ≡ verdict (now (table .entry)) (asQuery principal owner name depth) (now (rec .entry)) ⌝ }
 {
-    let query = Query {
+    let query = query_of(principal, owner, name, depth);
+    match derivation::verify(table, query, rec) {
+        Verdict::Accepted(used) => accept(used as u64, value),
+        Verdict::Refused(why) => refuse(why, value),
+    }
+}
+
+// A query's four numbers, in document 01's order.
+fn query_of(principal: u16, owner: u16, name: u16, depth: u16) -> Query
+    ensures { λ r. ⌜ r ≡ asQuery principal owner name depth ⌝ }
+{
+    Query {
         principal: Principal(principal),
         owner: Principal(owner),
         name: Name(name),
         depth: depth,
-    };
-    match derivation::verify(table, query, rec) {
-        Verdict::Accepted(used) => accept(used as u64, value),
-        Verdict::Refused(why) => refuse(why, value),
     }
 }
 

@@ -1,6 +1,7 @@
 -- `bwlchareg::bwlchareg_check` meets its contract: it tells what `check_table` answers. Assumes nothing.
 use mathlib.Core.Path.{_∙_, ap, sym}
 use borrow.Author.Needs.{needs}
+use Rattle.derivation.specs.Held.{given}
 use Rattle.table.specs.Checks.{tableTold}
 use Rattle.bwlchareg.proofs.bwlchareg_check.Statement.{statement}
 use Rattle.bwlchareg.proofs.bwlchareg_check.Tie as tie

@@ -1,10 +1,15 @@
 -- `bwlchareg::bwlchareg_verify` meets its contract: it tells what `verify` answers. Assumes nothing.
 use mathlib.Core.Path.{_∙_, ap, sym}
 use borrow.Author.Needs.{needs}
+use denote.Ref.{now}
 use Rattle.derivation.specs.Held.{given}
-use Rattle.derivation.specs.Verdict.{verdictTold}
+use Rattle.derivation.specs.Verdict.{verdict, verdictTold}
+use Rattle.table.specs.declared.Query.{Query}
 use Rattle.bwlchareg.proofs.bwlchareg_verify.Statement.{statement}
 use Rattle.bwlchareg.proofs.bwlchareg_verify.Tie as tie
+
+query-of-requires : tie.Need-query-of-requires
+query-of-requires c κs = search needs
 
 verify-requires : tie.Need-verify-requires
 verify-requires c κs = search needs
@@ -29,19 +34,26 @@ unfolding verdictTold
 returns c =
     let used = c .before .before .before .used in
     let verify = c .before .before .before .before .before .verify in
-    c .accept .ensures ∙ ap verdictTold (sym (used .given .1)) ∙ verify .ensures
+    let args = c .before .before .before .before .before .before .before .before .before .args in
+    let query-of = c .before .before .before .before .before .before .query-of in
+    c .accept .ensures ∙ ap verdictTold (sym (used .given .1)) ∙ verify .ensures ∙ ap (λ (q : Query). verdict (now
+    (args .table)) q (now (args .rec))) (query-of .ensures)
 
 returns-2 : tie.Need-returns-2
 unfolding verdictTold
 returns-2 c =
     let why = c .before .before .before .why in
     let verify = c .before .before .before .before .before .verify in
-    c .refuse .ensures ∙ ap verdictTold (sym (why .given .1)) ∙ verify .ensures
+    let args = c .before .before .before .before .before .before .before .before .before .args in
+    let query-of = c .before .before .before .before .before .before .query-of in
+    c .refuse .ensures ∙ ap verdictTold (sym (why .given .1)) ∙ verify .ensures ∙ ap (λ (q : Query). verdict (now
+    (args .table)) q (now (args .rec))) (query-of .ensures)
 
 pub bwlchareg-verify-spec : {M : Type 1} → statement M
 bwlchareg-verify-spec =
     tie.close
     (tie.spec
+    query-of-requires
     verify-requires
     enum-known-used
     cast-accept
