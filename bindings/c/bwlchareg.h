@@ -2,7 +2,7 @@
  *
  * Link with target/staticlib/libbwlchareg.a (x86-64 Linux), which `rt staticlib bwlchareg` proves and writes.
  *
- * What holds of every call, for every input of every length, and is proved (crates/bwlchareg, crates/table):
+ * What holds of every call, for every input of every length, and is proved (crates/bwlchareg and the crates it is over):
  *
  *   - The call ends. It reads nothing but the numbers of the slices it is lent, and writes nothing but what is named here.
  *   - The result is 0, accepted, or the refusal's number in the table "Where each input is stopped" of document 01.
@@ -43,6 +43,25 @@ uint32_t bwlchareg_check(const uint16_t *table, size_t length, uint64_t *positio
 uint32_t bwlchareg_check_query(const uint16_t *table, size_t length,
                                uint16_t principal, uint16_t owner, uint16_t name, uint16_t depth,
                                uint64_t *position);
+
+/* Verifies a proof record: rows 1 to 8, then the record node by node. On 0 the value is the used set: credential i counts 2^(i-1).
+ *
+ *  11  fewer than two numbers remain for a node; or numbers remain after the tree      the node, or the number of nodes + 1
+ *  12  the credential is not 1 to n, does not define the goal's role, is kind 1 of
+ *      another principal, or has a wrong middle                                        the node
+ *  13  level above the depth limit, or role already on the branch                      the node
+ *  14  a used automaton rejects some word                                              the lowest such automaton
+ *
+ * Nodes count from 1 in preorder; at each node 11, 12 and 13 are tested in that order before its children, numbers left over
+ * after the last node, and 14 last. On an accepted table and a valid query the result is 0 exactly when the record derives the
+ * queried membership by the rules of RT0, within the depth limit and with no role twice on a branch, and every word of it is
+ * accepted by every automaton attached to a credential that it uses. The stack is bounded by the depth limit, whatever the
+ * record's length.
+ */
+uint32_t bwlchareg_verify(const uint16_t *table, size_t table_length,
+                          uint16_t principal, uint16_t owner, uint16_t name, uint16_t depth,
+                          const uint16_t *record, size_t record_length,
+                          uint64_t *value);
 
 #ifdef __cplusplus
 }

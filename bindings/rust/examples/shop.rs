@@ -1,6 +1,9 @@
-//! Checks the two tables of document 01's shop example, and one with a mistake in it.
+//! The shop example of document 01 through the static library: its two tables are
+//! checked, with one that has a mistake in it, and a proof record is verified.
 
-use bwlchareg::{check, check_query, Query};
+use std::fmt::Debug;
+
+use bwlchareg::{check, check_query, verify, Query, Refusal};
 
 /// Principals Shop 1, School 2, Ann 4; names discount 1, student 2, accredited 3.
 const T: [u16; 28] = [
@@ -32,19 +35,26 @@ const Q: Query = Query {
     depth: 2,
 };
 
-fn tell(what: &str, answer: Result<(), bwlchareg::Refusal>) {
+/// Ann is in Shop.discount by credential 1, since School, the middle, is in
+/// Shop.accredited by credential 2 and Ann in School.student by credential 3.
+const R: [u16; 6] = [1, 2, 2, 0, 3, 0];
+
+fn tell<Value: Debug>(what: &str, answer: Result<Value, Refusal>) {
     match answer {
-        Ok(()) => println!("{what}: accepted"),
-        Err(refusal) => println!("{what}: {refusal}"),
+        Ok(value) => println!("{what}: accepted {value:?}"),
+        Err(refusal) => println!(
+            "{what}: refused {} {}: {refusal}",
+            refusal.number, refusal.position
+        ),
     }
 }
 
 fn main() {
     tell("table T", check(&T));
     tell("table U", check(&U));
-    tell("table T, query Q", check_query(&T, Q));
+    tell("query Q", check_query(&T, Q));
     tell(
-        "table T, query Q with depth 17",
+        "query Q with depth 17",
         check_query(&T, Query { depth: 17, ..Q }),
     );
 
@@ -53,5 +63,12 @@ fn main() {
     tell(
         "table T with principal 65 in credential 3",
         check(&mistaken),
+    );
+
+    tell("record R with table T", verify(&T, Q, &R));
+    tell("record R with table U", verify(&U, Q, &R));
+    tell(
+        "record R with table T, depth 1",
+        verify(&T, Query { depth: 1, ..Q }, &R),
     );
 }
