@@ -11,7 +11,7 @@ use lib.Bits.{bitAnd, bitOr, and-shr, and-mod, or-shr, or-mod}
 use lib.Dec.{eqb, ltb, eqb·zero-suc, eqb·suc-zero, eqb·suc-suc}
 use borrow.Author.Tests.{ne-eqb, eq-eqb, eqb-true, eqb-false, not-true, ltb-true, ltb-false, lt-ltb, le-ltb}
 use Rattle.table.specs.Logic.{_and_, _or_, pick}
-use Rattle.table.proofs.Tests.{and-first, and-second, false-true}
+use Rattle.table.proofs.Tests.{and-false, and-first, and-second, and-true, false-true, or-false}
 use Rattle.automata.specs.Sets.{inSet, meets, setOf}
 
 -- state 0 is the lowest digit, and the states after it are the other digits
@@ -116,22 +116,6 @@ meets-shown x y s h l =
     ap not (ne-eqb (bitAnd x y) 0 (λ z.
     let e : inSet (bitAnd x y) s ≡ true = inSet-and x y s ∙ rw (h, l) in
     false-true (sym (inSet-zero s) ∙ (rw z at e))))
-
--- tests whose second part is known
-or-false : (b : Bool) → (b or false) ≡ b
-unfolding _or_
-or-false true = refl
-or-false false = refl
-
-and-true : (b : Bool) → (b and true) ≡ b
-unfolding _and_
-and-true true = refl
-and-true false = refl
-
-pub and-false : (b : Bool) → (b and false) ≡ false
-unfolding _and_
-and-false true = refl
-and-false false = refl
 
 -- a set that takes in one state more where a test passes
 pub inSet-pick : (b : Bool) (x t s : ℕ) → inSet (pick b (bitOr x (2 ^ t)) x) s ≡ (inSet x s or (b and eqb t s))

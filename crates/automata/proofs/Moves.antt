@@ -14,24 +14,10 @@ use Rattle.table.specs.Logic.{_and_, _or_, pick}
 use Rattle.table.specs.Layout.{Numbered, edge, edges}
 use Rattle.table.specs.declared.Role.{Role}
 use Rattle.table.specs.declared.Edge.{Edge}
-use Rattle.table.proofs.Tests.{and-first, and-second, or-either, false-true}
+use Rattle.table.proofs.Tests.{and-both, and-false, and-first, and-or-and, and-second, false-true, or-and, or-either, or-exchange, or-first, or-second}
 use Rattle.automata.specs.Sets.{inSet}
 use Rattle.automata.specs.Automata.{leads, matches, moved, movedBy, run}
-use Rattle.automata.proofs.Members.{inSet-zero, inSet-or, inSet-pick, same-members, and-false}
-
--- a disjunction by one part, a conjunction by both
-or-first : {a : Bool} (b : Bool) → a ≡ true → (a or b) ≡ true
-unfolding _or_
-or-first b h = rw h
-
-or-second : (a : Bool) {b : Bool} → b ≡ true → (a or b) ≡ true
-unfolding _or_
-or-second true h = refl
-or-second false h = h
-
-and-both : {a b : Bool} → a ≡ true → b ≡ true → (a and b) ≡ true
-unfolding _and_
-and-both h l = rw (h, l)
+use Rattle.automata.proofs.Members.{inSet-zero, inSet-or, inSet-pick, same-members}
 
 module _ (t : List ℕ) (k : ℕ) (r : Role) where
   -- edge n + 1 adds its `to` state where it leads on
@@ -89,25 +75,6 @@ pub run-empty : (t : List ℕ) (k : ℕ) (word : List Role) → run t k 0 word �
 unfolding run
 run-empty t k [] = refl
 run-empty t k (r ∷ word) = rw (moved-empty t k r) (run-empty t k word)
-
--- "and" spreads over "or", and the parts of a disjunction change places
-or-and : (b c m : Bool) → ((b or c) and m) ≡ ((b and m) or (c and m))
-unfolding _and_ _or_
-or-and false c m = refl
-or-and true c true = refl
-or-and true c false = sym (and-false c)
-
-and-or-and : (a b c m : Bool) → (a and (b or c) and m) ≡ ((a and b and m) or (a and c and m))
-unfolding _and_ _or_
-and-or-and false b c m = refl
-and-or-and true b c m = or-and b c m
-
-or-exchange : (a b c d : Bool) → ((a or b) or (c or d)) ≡ ((a or c) or (b or d))
-unfolding _or_
-or-exchange true b c d = refl
-or-exchange false b false d = refl
-or-exchange false true true d = refl
-or-exchange false false true d = refl
 
 module _ (t : List ℕ) (k : ℕ) (r : Role) (x y : ℕ) where
   -- an edge leads on from a union where it leads on from one of its parts

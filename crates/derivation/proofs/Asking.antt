@@ -18,6 +18,7 @@ use Rattle.table.proofs.WellFormed.{wf-chain-ok, wf-credential}
 use Rattle.table.specs.declared.Role.{Role}
 use Rattle.table.specs.declared.Goal.{Goal}
 use Rattle.table.specs.declared.Credential.{Credential}
+use Rattle.table.proofs.Tests.{and-is, and-is-off}
 use Rattle.derivation.specs.Rules.{asks, containmentAsks, goal, intersectionAsks, linkingAsks, membershipAsks, premises, when}
 
 pub when-off : {test : Bool} (goals : List Goal) → test ≡ false → none ≡ when test goals
@@ -27,14 +28,6 @@ when-off goals h = rw h
 pub when-on : {test : Bool} (goals : List Goal) → test ≡ true → some goals ≡ when test goals
 unfolding pick
 when-on goals h = rw h
-
-pub and-is-off : {a : Bool} (b : Bool) → a ≡ false → (a and b) ≡ false
-unfolding _and_
-and-is-off b h = rw h
-
-pub and-is : {a b x : Bool} → a ≡ true → b ≡ x → (a and b) ≡ x
-unfolding _and_
-and-is h e = rw h e
 
 pub principal-none : (m : ℕ) → m ≡ 0 → isPrincipal (principal m) ≡ false
 unfolding isPrincipal within _and_

@@ -17,6 +17,7 @@ use Rattle.table.specs.Checks.{WellFormed}
 use Rattle.table.specs.declared.Goal.{Goal}
 use Rattle.table.specs.declared.Role.{Role}
 use Rattle.table.proofs.WellFormed.{wf-sized}
+use Rattle.table.proofs.Tests.{and-true, and-assoc}
 use Rattle.automata.specs.Sets.{inSet, setOf}
 use Rattle.automata.specs.Automata.{accepts, acceptingSet, each, moved, movedSets, run, starting, startingSets, together}
 use Rattle.automata.specs.declared.StateSets.{StateSets}
@@ -27,16 +28,6 @@ use Rattle.derivation.specs.Forest.Forest.{end, node}
 use Rattle.derivation.specs.Words.{acceptsAll, met, words}
 use Rattle.derivation.specs.Tally.{allAutomata, everyFrom, keeps}
 use Rattle.derivation.proofs.Using.{automata-used}
-
-and-true : (b : Bool) → (b and true) ≡ b
-unfolding _and_
-and-true true = refl
-and-true false = refl
-
-and-assoc : (a b c : Bool) → ((a and b) and c) ≡ (a and b and c)
-unfolding _and_
-and-assoc true b c = refl
-and-assoc false b c = refl
 
 -- eight sets that are alike one by one
 together-ext : (f g : ℕ → ℕ) → ((k : ℕ) → Numbered mostAutomata k → f k ≡ g k) → together f ≡ together g

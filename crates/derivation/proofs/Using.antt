@@ -15,7 +15,7 @@ use Rattle.table.specs.Logic.{_and_, _or_, pick}
 use Rattle.table.specs.Layout.{Numbered, credential, credentials, sameRole}
 use Rattle.table.specs.Checks.{within}
 use Rattle.table.specs.declared.Goal.{Goal}
-use Rattle.table.proofs.Tests.{and-first, and-second, or-either, false-true}
+use Rattle.table.proofs.Tests.{and-both, and-first, and-second, false-true, or-assoc, or-either, or-false, or-first, or-none, or-second, same-test}
 use Rattle.table.proofs.Fields.{within-range}
 use Rattle.automata.specs.Sets.{inSet}
 use Rattle.automata.proofs.Members.{inSet-zero, inSet-or, inSet-pow, inSet-pick}
@@ -25,41 +25,6 @@ use Rattle.derivation.specs.Forest.Forest.{end, node}
 use Rattle.derivation.specs.Forest.Derives.{done, step}
 use Rattle.derivation.specs.Words.{usesAutomaton}
 use Rattle.derivation.specs.Tally.{automataOf, automataUpTo}
-
--- a disjunction by one part, by the other, and where it fails; a conjunction by both
-or-first : {a : Bool} (b : Bool) → a ≡ true → (a or b) ≡ true
-unfolding _or_
-or-first b h = rw h
-
-or-second : (a : Bool) {b : Bool} → b ≡ true → (a or b) ≡ true
-unfolding _or_
-or-second true h = refl
-or-second false h = h
-
-or-none : (a b : Bool) → (a or b) ≡ false → (a ≡ false) × (b ≡ false)
-unfolding _or_
-or-none true b h = absurd (false-true (sym h))
-or-none false b h = (refl, h)
-
-and-both : {a b : Bool} → a ≡ true → b ≡ true → (a and b) ≡ true
-unfolding _and_
-and-both h l = rw (h, l)
-
-or-false : (b : Bool) → (b or false) ≡ b
-unfolding _or_
-or-false true = refl
-or-false false = refl
-
-or-assoc : (a b c : Bool) → ((a or b) or c) ≡ (a or b or c)
-unfolding _or_
-or-assoc true b c = refl
-or-assoc false b c = refl
-
--- two tests that follow from each other are one
-same-test : (a b : Bool) → (a ≡ true → b ≡ true) → (b ≡ true → a ≡ true) → a ≡ b
-same-test true b f g = sym (f refl)
-same-test false true f g = g refl
-same-test false false f g = refl
 
 -- the forest names credential c
 unfoldable pub names : Forest → ℕ → Bool

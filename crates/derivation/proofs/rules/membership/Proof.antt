@@ -3,9 +3,10 @@ use mathlib.Core.Path.{_∙_, refl}
 use native.Mathlib.Omega.{arith}
 use borrow.Author.Needs.{needs}
 use borrow.Author.Tests.{eq-eqb, ne-eqb}
-use Rattle.derivation.proofs.Asking.{and-is, and-is-off, when-off, when-on}
+use Rattle.derivation.proofs.Asking.{when-off, when-on}
 use Rattle.derivation.specs.Held.{given}
 use Rattle.table.specs.Logic.{pick}
+use Rattle.table.proofs.Tests.{and-is, and-is-off}
 use Rattle.derivation.proofs.rules.membership.Statement.{statement}
 use Rattle.derivation.proofs.rules.membership.Tie as tie
 
