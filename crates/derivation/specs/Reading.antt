@@ -50,7 +50,8 @@ unfoldable pub readAll : (Goal → (List ℕ → ℕ → Reading) → List ℕ �
 readAll one [] rec at = read rec end
 readAll one (g ∷ goals) rec at = one g (λ rest later. readAll one goals rest later) rec at
 
--- with so many levels left, below a branch; the next node has number `at`
+-- with so many levels left, below a branch; the next node has number `at`. Where no level is left every node stops at its entry,
+-- so the reader of its children is never asked
 unfoldable pub reader : List ℕ → ℕ → List Goal → List Goal → List ℕ → ℕ → Reading
 reader t zero branch goals rec at =
     readAll (λ g later rest n. entered n (λ ps more k. stop 13 k) later (entry t false g rest)) goals rec at

@@ -1,5 +1,6 @@
 // The goals on the way from the query to a node. What may not repeat there is known here alone.
 use crate::Branch;
+use crate::MOST_LEVELS;
 use table::Goal;
 use table::Name;
 use table::Principal;
@@ -25,7 +26,7 @@ impl Branch {
         };
         Branch {
             len: 0,
-            goals: [none; 16],
+            goals: [none; MOST_LEVELS],
         }
     }
 

@@ -36,10 +36,13 @@ pub struct Premises {
     pub goals: [Goal; layout::MOST_PARTS],
 }
 
+// As many levels as a query can allow.
+pub const MOST_LEVELS: usize = 16;
+
 // The goals above a node: the first `len`.
 pub struct Branch {
     pub len: usize,
-    pub goals: [Goal; 16],
+    pub goals: [Goal; MOST_LEVELS],
 }
 
 // A node's entry: a refusal's number, or 0 and what the node asks.
