@@ -1,22 +1,23 @@
--- Demand 2, proved: the verifier accepts exactly the records that derive and comply, a record has at most one derivation, and where
--- reading stops, the number and the node that come first are told.
+-- Demand 2, proved: the verifier accepts exactly the records that derive and comply, a record has at most one derivation, and a
+-- refused record is told the number and the position that come first.
 use mathlib.Core.Path.{_≡_, refl, sym, _∙_}
-use mathlib.Core.List.{List, [], _∷_, append-nil}
-use mathlib.Core.Bool.{Bool, true}
-use Prim.Native.Nat.{ℕ, zero, suc}
+use mathlib.Core.List.{List, [], _∷_, _++_, append-nil}
+use mathlib.Core.Logic.{⊎-elim}
+use Prim.Native.Nat.{ℕ}
 use native.Mathlib.Omega.{arith}
 use Rattle.table.specs.Outcome.{_andThen_, demandEach}
 use Rattle.table.specs.Outcome.Outcome.{accepted, refused}
-use Rattle.table.specs.Layout.{Numbered, automata}
+use Rattle.table.specs.Layout.{automata}
 use Rattle.table.specs.Checks.{Valid, WellFormed, requestOutcome}
 use Rattle.table.specs.declared.Query.{Query}
-use Rattle.table.proofs.Stages.{demand-passes, each-ok, then-first, then-second}
+use Rattle.table.proofs.Stages.{FirstFailure, each-all, each-first, each-ok, each-refused, then-first, then-refused, then-second}
 use Rattle.derivation.specs.Rules.{goalOf}
-use Rattle.derivation.specs.Forest.{written}
+use Rattle.derivation.specs.Forest.{Derives, Forest, written}
 use Rattle.derivation.specs.Words.{met}
 use Rattle.derivation.specs.Reading.{Reading, reader}
 use Rattle.derivation.specs.Verdict.{Accepted, judged, verdict}
-use Rattle.derivation.specs.DemandTwo.{DemandTwo, FirstRefusal, OneDerivation}
+use Rattle.derivation.specs.DemandTwo.{DemandTwo, EveryRefusal, FirstRefusal, OneDerivation, Refuses}
+use Rattle.derivation.specs.DemandTwo.Refuses.{stops as reading, leftover, rejected}
 use Rattle.derivation.proofs.Readings.{Ends, ends-stop, reader-complete, reader-ends, reader-stops}
 use Rattle.derivation.proofs.Readings.Ends.{reads, stops}
 
@@ -25,14 +26,6 @@ refused-accepted e = let z : _≡_ {A = ℕ} 0 1 = cc in omega arith
 
 same-value : {v w : ℕ} → accepted v ≡ accepted w → v ≡ w
 same-value e = cc
-
--- a row of checks passes where every record is ok
-each-all : (ok : ℕ → Bool) (n number : ℕ) → ((i : ℕ) → Numbered n i → ok i ≡ true) → demandEach ok n number ≡ accepted 0
-unfolding demandEach _andThen_
-each-all ok zero number every = refl
-each-all ok (suc n) number every =
-    rw (each-all ok n number (λ i h. every i (record { first = h .first; last = omega arith })))
-    (demand-passes number (suc n) (every (suc n) (record { first = omega arith; last = omega arith })))
 
 -- on an accepted table and a valid query the verdict is the reading's
 verdict-judged : (t : List ℕ) (q : Query) (rec : List ℕ) → WellFormed t → Valid q → verdict t q rec ≡ judged t (reader t (q .depth) [] (goalOf q ∷ []) rec 1)
@@ -56,7 +49,7 @@ module _ (t : List ℕ) (q : Query) (S : ℕ) where
   accepts-judged : {rec : List ℕ} → Accepted t q rec S → judged t (reader t (q .depth) [] (goalOf q ∷ []) rec 1) ≡ accepted S
   unfolding judged _andThen_
   accepts-judged a =
-      rw (← a .whole, ← append-nil (written (a .forest)), reader-complete (a .derives) [] 1, each-all (met t (a .forest)) (automata t) 14 (a .complies), a .uses)
+      rw (← a .whole, ← append-nil (written (a .forest)), reader-complete (a .derives) [] 1, each-all (met t (a .forest)) 14 (automata t) (a .complies), a .uses)
 
 pub demand-two : DemandTwo
 demand-two t q rec S wf valid =
@@ -71,3 +64,36 @@ one-derivation t levels branch goals f f′ d d′ same =
 pub first-refusal : FirstRefusal
 first-refusal t levels branch goals rec at number position =
     (ends-stop (reader-ends t levels branch goals rec at), reader-stops)
+
+-- what is told where a reading is refused, both ways
+module _ (t : List ℕ) (q : Query) where
+  same-refusal : {rec : List ℕ} {number position number′ position′ : ℕ} → refused number position ≡ refused number′ position′ → Refuses t q rec number position → Refuses t q rec number′ position′
+  same-refusal {number} {position} {number′} {position′} e r =
+      let one : number ≡ number′ = cc in
+      let two : position ≡ position′ = cc in
+      rw (one, two) at r
+
+  -- the row of automata stops: 14, and the first that is not met
+  rejects : {f : Forest} {number position : ℕ} → Derives t (q .depth) [] (goalOf q ∷ []) f → (14 ≡ number) × FirstFailure (met t f) (automata t) position → Refuses t q (written f ++ []) number position
+  rejects {f} d (own, first) =
+      rw own at (rejected d (append-nil (written f)) (first .within) (first .fails) (first .before))
+
+  judged-refuses : {rec : List ℕ} {r : Reading} {number position : ℕ} → Ends t (q .depth) [] (goalOf q ∷ []) 1 rec r → judged t r ≡ refused number position → Refuses t q rec number position
+  unfolding judged
+  judged-refuses (reads {rest = []} {f} d) e =
+      ⊎-elim (λ row. rejects d (each-refused (met t f) 14 (automata t) _ _ row))
+      (λ (w, passed, last). absurd (refused-accepted (sym last)))
+      (then-refused (demandEach (met t f) (automata t) 14) _ _ _ e)
+  judged-refuses (reads {rest = x ∷ more} d) e = same-refusal e (leftover x more d refl)
+  judged-refuses (stops s) e = same-refusal e (reading s)
+
+  refuses-judged : {rec : List ℕ} {number position : ℕ} → Refuses t q rec number position → judged t (reader t (q .depth) [] (goalOf q ∷ []) rec 1) ≡ refused number position
+  unfolding judged _andThen_
+  refuses-judged (reading s) = rw (reader-stops s)
+  refuses-judged (leftover x more d whole) = rw (whole, reader-complete d (x ∷ more) 1)
+  refuses-judged (rejected {f} {k} d whole within fails before) =
+      rw (whole, ← append-nil (written f), reader-complete d [] 1, each-first (met t f) 14 (automata t) k (record { within = within; fails = fails; before = before }))
+
+pub every-refusal : EveryRefusal
+every-refusal t q rec number position wf valid =
+    ((λ e. judged-refuses t q (reader-ends t (q .depth) [] (goalOf q ∷ []) rec 1) (sym (verdict-judged t q rec wf valid) ∙ e)), (λ r. verdict-judged t q rec wf valid ∙ refuses-judged t q r))

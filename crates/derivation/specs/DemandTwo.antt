@@ -1,18 +1,20 @@
 -- Demand 2 on the verifier: on an accepted table and a valid query it accepts a record, with a set, exactly when the record derives
--- the queried membership, complies, and uses that set; and where it stops reading, what it tells is the first thing that applies.
+-- the queried membership, complies, and uses that set; and where it refuses a record, it tells the first thing that applies.
 use Prim.Native.Nat.{ℕ, suc, _<_}
 use mathlib.Core.Path.{_≡_}
-use mathlib.Core.List.{List, _∷_, _++_}
+use mathlib.Core.List.{List, [], _∷_, _++_}
 use mathlib.Core.Bool.{true, false}
 use mathlib.Core.Option.{none, some}
 use mathlib.Core.Logic.{_↔_}
 use lib.ListN.{length}
-use Rattle.table.specs.Outcome.Outcome.{accepted}
+use Rattle.table.specs.Outcome.Outcome.{accepted, refused}
+use Rattle.table.specs.Layout.{Numbered, automata}
 use Rattle.table.specs.Checks.{Valid, WellFormed}
 use Rattle.table.specs.declared.Goal.{Goal}
 use Rattle.table.specs.declared.Query.{Query}
-use Rattle.derivation.specs.Rules.{fresh, premises}
+use Rattle.derivation.specs.Rules.{fresh, goalOf, premises}
 use Rattle.derivation.specs.Forest.{Derives, Forest, countFrom, written}
+use Rattle.derivation.specs.Words.{met}
 use Rattle.derivation.specs.Reading.{reader}
 use Rattle.derivation.specs.Reading.Reading.{stop}
 use Rattle.derivation.specs.Verdict.{Accepted, verdict}
@@ -46,3 +48,17 @@ pub data Stops (t : List ℕ) : ℕ → List Goal → List Goal → List ℕ →
 abbrev pub FirstRefusal : Type 0
 FirstRefusal =
     (t : List ℕ) (levels : ℕ) (branch goals : List Goal) (rec : List ℕ) (at number position : ℕ) → ((reader t levels branch goals rec at ≡ stop number position) ↔ Stops t levels branch goals rec at number position)
+
+-- what refuses a record: rows 11 to 13 at its nodes, then numbers left over, then row 14
+pub data Refuses (t : List ℕ) (q : Query) (rec : List ℕ) : ℕ → ℕ → Type 0 where
+  -- 11, 12 or 13 at a node: reading stops there
+  stops : {number position : ℕ} → Stops t (q .depth) [] (goalOf q ∷ []) rec 1 number position → Refuses t q rec number position
+  -- 11 at nodes + 1: the record begins with a derivation of the queried membership, and numbers remain after the tree
+  leftover : {f : Forest} (x : ℕ) (more : List ℕ) → Derives t (q .depth) [] (goalOf q ∷ []) f → rec ≡ written f ++ (x ∷ more) → Refuses t q rec 11 (countFrom 1 f)
+  -- 14: the record derives the queried membership, and k is the lowest used automaton that rejects some word
+  rejected : {f : Forest} {k : ℕ} → Derives t (q .depth) [] (goalOf q ∷ []) f → rec ≡ written f → Numbered (automata t) k → met t f k ≡ false → ((j : ℕ) → Numbered (automata t) j → j < k → met t f j ≡ true) → Refuses t q rec 14 k
+
+-- on an accepted table and a valid query the verifier refuses with that number and position, and with no other
+abbrev pub EveryRefusal : Type 0
+EveryRefusal =
+    (t : List ℕ) (q : Query) (rec : List ℕ) (number position : ℕ) → WellFormed t → Valid q → ((verdict t q rec ≡ refused number position) ↔ Refuses t q rec number position)

@@ -1,7 +1,8 @@
--- Laws of stages of checks: `demand` and `demandEach` one after the other, and what is known where all of them passed.
+-- Laws of stages of checks: `demand` and `demandEach` one after the other, and what is known where all of them passed,
+-- or where one stopped.
 use mathlib.Core.Path.{_≡_, refl, sym, ap, _∙_}
 use mathlib.Core.Bool.{Bool, true, false}
-use mathlib.Core.Logic.{⊎-elim}
+use mathlib.Core.Logic.{_⊎_, inl, inr, ⊎-elim}
 use Prim.Native.Nat.{ℕ, zero, suc, _+_, _≤_, _<_}
 use native.Mathlib.Omega.{arith}
 use native.Mathlib.Numerals.{add-one}
@@ -51,10 +52,28 @@ unfolding _andThen_
 then-second (accepted w) later v e = e
 then-second (refused number position) later v e = absurd (refused-accepted e)
 
+-- a chain that stops: its first part does, or has passed and the rest does
+pub then-refused : (a later : Outcome) (number position : ℕ) → (a andThen later) ≡ refused number position → (a ≡ refused number position) ⊎ ((w : ℕ) × (a ≡ accepted w) × (later ≡ refused number position))
+unfolding _andThen_
+then-refused (accepted w) later number position e = inr (w, refl, e)
+then-refused (refused number′ position′) later number position e = inl e
+
 pub demand-true : (p : Bool) (number position v : ℕ) → demand p number position ≡ accepted v → p ≡ true
 unfolding demand
 demand-true true number position v e = refl
 demand-true false number position v e = absurd (refused-accepted e)
+
+-- a check that stops does so with its own number and position
+demand-refused : (p : Bool) (number position number′ position′ : ℕ) → demand p number position ≡ refused number′ position′ → (p ≡ false) × (number ≡ number′) × (position ≡ position′)
+unfolding demand
+demand-refused true number position number′ position′ e = absurd (refused-accepted (sym e))
+demand-refused false number position number′ position′ e = (refl, (cc), (cc))
+
+-- of the records 1 to n, this one is the first that is not ok
+pub record FirstFailure (ok : ℕ → Bool) (n position : ℕ) : Type 0 where
+  pub within : Numbered n position
+  pub fails : ok position ≡ false
+  pub before : (j : ℕ) → Numbered n j → j < position → ok j ≡ true
 
 -- a row of checks on the records 1 to n; a loop has passed the first i of them and looks at i + 1
 module _ (ok : ℕ → Bool) (number : ℕ) where
@@ -91,6 +110,54 @@ module _ (ok : ℕ → Bool) (number : ℕ) where
       ⊎-elim (λ same. rw same (demand-true (ok (suc n)) number (suc n) v (then-second (demandEach ok n number) _ v e)))
       (λ less. each-ok n _ (then-first (demandEach ok n number) _ v e .1) i (record { first = h .first; last = omega arith }))
       (eq-or-lt-of-le (h .last))
+
+  -- the row passes where every record is ok
+  pub each-all : (n : ℕ) → ((i : ℕ) → Numbered n i → ok i ≡ true) → demandEach ok n number ≡ accepted 0
+  unfolding demandEach _andThen_
+  each-all zero every = refl
+  each-all (suc n) every =
+      rw (each-all n (λ i h. every i (record { first = h .first; last = omega arith })))
+      (demand-passes number (suc n) (every (suc n) (record { first = omega arith; last = omega arith })))
+
+  -- one more record changes nothing
+  later-failure : {n position : ℕ} → FirstFailure ok n position → FirstFailure ok (suc n) position
+  later-failure f =
+      record {
+        within = record { first = f .within .first; last = omega arith };
+        fails = f .fails;
+        before = λ j h less. f .before j (record { first = h .first; last = omega arith }) less;
+      }
+
+  -- the records before it passed, and the last is not ok
+  last-failure : (n w : ℕ) → demandEach ok n number ≡ accepted w → ok (suc n) ≡ false → FirstFailure ok (suc n) (suc n)
+  last-failure n w passed fails =
+      record {
+        within = record { first = omega arith; last = omega arith };
+        fails = fails;
+        before = λ j h less. each-ok n w passed j (record { first = h .first; last = omega arith });
+      }
+
+  last-refused : (n w number′ position : ℕ) → demandEach ok n number ≡ accepted w → demand (ok (suc n)) number (suc n) ≡ refused number′ position → (number ≡ number′) × FirstFailure ok (suc n) position
+  last-refused n w number′ position passed e =
+      let (fails, own, here) = demand-refused (ok (suc n)) number (suc n) number′ position e in
+      (own, rw (← here) (last-failure n w passed fails))
+
+  -- where the row stops, it tells its own number, and the first record that is not ok
+  pub each-refused : (n number′ position : ℕ) → demandEach ok n number ≡ refused number′ position → (number ≡ number′) × FirstFailure ok n position
+  unfolding demandEach
+  each-refused zero number′ position e = absurd (refused-accepted (sym e))
+  each-refused (suc n) number′ position e =
+      ⊎-elim (λ earlier. let (own, first) = each-refused n number′ position earlier in (own, later-failure first))
+      (λ (w, passed, last). last-refused n w number′ position passed last)
+      (then-refused (demandEach ok n number) _ number′ position e)
+
+  -- the row stops at the first record that is not ok
+  pub each-first : (n position : ℕ) → FirstFailure ok n position → demandEach ok n number ≡ refused number position
+  unfolding demandEach demand _andThen_
+  each-first n zero f = absurd (omega arith)
+  each-first n (suc i) f =
+      each-stays (suc i) n (suc i) (f .within .last)
+      (rw (each-all i (λ j h. f .before j (record { first = h .first; last = omega arith }) (omega arith)), f .fails))
 
 -- what passes has the value 0
 demand-value : (p : Bool) (number position v : ℕ) → demand p number position ≡ accepted v → v ≡ 0
