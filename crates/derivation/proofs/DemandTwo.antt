@@ -10,7 +10,7 @@ use Rattle.table.specs.Outcome.Outcome.{accepted, refused}
 use Rattle.table.specs.Layout.{automata}
 use Rattle.table.specs.Checks.{Valid, WellFormed, requestOutcome}
 use Rattle.table.specs.declared.Query.{Query}
-use Rattle.table.proofs.Stages.{FirstFailure, each-all, each-first, each-ok, each-refused, then-first, then-refused, then-second}
+use Rattle.table.proofs.Stages.{FirstFailure, each-all, each-first, each-ok, each-refused, then-first, then-refused, then-second, refused-accepted}
 use Rattle.derivation.specs.Rules.{goalOf}
 use Rattle.derivation.specs.Forest.{Derives, Forest, written}
 use Rattle.derivation.specs.Words.{met}
@@ -20,9 +20,6 @@ use Rattle.derivation.specs.DemandTwo.{DemandTwo, EveryRefusal, FirstRef
 use Rattle.derivation.specs.DemandTwo.Refuses.{stops as reading, leftover, rejected}
 use Rattle.derivation.proofs.Readings.{Ends, ends-stop, reader-complete, reader-ends, reader-stops}
 use Rattle.derivation.proofs.Readings.Ends.{reads, stops}
-
-refused-accepted : {number position v : ℕ} → refused number position ≡ accepted v → ⊥
-refused-accepted e = let z : _≡_ {A = ℕ} 0 1 = cc in omega arith
 
 same-value : {v w : ℕ} → accepted v ≡ accepted w → v ≡ w
 same-value e = cc

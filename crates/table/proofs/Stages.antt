@@ -15,7 +15,7 @@ use Rattle.table.specs.declared.Refusal.{Refusal}
 use Rattle.table.specs.declared.TableCheck.{TableCheck}
 use Rattle.table.specs.declared.TableCheck.the-variants as table
 
-refused-accepted : {number position v : ℕ} → refused number position ≡ accepted v → ⊥
+pub refused-accepted : {number position v : ℕ} → refused number position ≡ accepted v → ⊥
 refused-accepted e = let z : _≡_ {A = ℕ} 0 1 = cc in omega arith
 
 module _ (number position : ℕ) where
