@@ -18,6 +18,7 @@ use Rattle.derivation.specs.Reading.{Reading, reader}
 use Rattle.derivation.specs.Verdict.{Accepted, judged, verdict}
 use Rattle.derivation.specs.DemandTwo.{DemandTwo, EveryRefusal, FirstRefusal, OneDerivation, Refuses}
 use Rattle.derivation.specs.DemandTwo.Refuses.{stops as reading, leftover, rejected}
+use Rattle.derivation.proofs.Complying.{complies-met, met-complies}
 use Rattle.derivation.proofs.Readings.{Ends, ends-stop, reader-complete, reader-ends, reader-stops}
 use Rattle.derivation.proofs.Readings.Ends.{reads, stops}
 
@@ -29,7 +30,7 @@ verdict-judged : (t : List ℕ) (q : Query) (rec : List ℕ) → WellFormed t �
 unfolding verdict requestOutcome _andThen_
 verdict-judged t q rec wf valid = rw (wf, valid)
 
-module _ (t : List ℕ) (q : Query) (S : ℕ) where
+module _ (t : List ℕ) (wf : WellFormed t) (q : Query) (S : ℕ) where
   judged-accepts : {rec : List ℕ} {r : Reading} → Ends t (q .depth) [] (goalOf q ∷ []) 1 rec r → judged t r ≡ accepted S → Accepted t q rec S
   unfolding judged
   judged-accepts (reads {rest = []} {f} d) e =
@@ -37,7 +38,7 @@ module _ (t : List ℕ) (q : Query) (S : ℕ) where
         forest = f;
         derives = d;
         whole = sym (append-nil (written f));
-        complies = each-ok (met t f) 14 (automata t) _ (then-first _ _ S e .1);
+        complies = met-complies wf d (each-ok (met t f) 14 (automata t) _ (then-first _ _ S e .1));
         uses = same-value (then-second (demandEach (met t f) (automata t) 14) _ S e);
       }
   judged-accepts (reads {rest = x ∷ more} d) e = absurd (refused-accepted e)
@@ -46,11 +47,11 @@ module _ (t : List ℕ) (q : Query) (S : ℕ) where
   accepts-judged : {rec : List ℕ} → Accepted t q rec S → judged t (reader t (q .depth) [] (goalOf q ∷ []) rec 1) ≡ accepted S
   unfolding judged _andThen_
   accepts-judged a =
-      rw (← a .whole, ← append-nil (written (a .forest)), reader-complete (a .derives) [] 1, each-all (met t (a .forest)) 14 (automata t) (a .complies), a .uses)
+      rw (← a .whole, ← append-nil (written (a .forest)), reader-complete (a .derives) [] 1, each-all (met t (a .forest)) 14 (automata t) (complies-met wf (a .derives) (a .complies)), a .uses)
 
 pub demand-two : DemandTwo
 demand-two t q rec S wf valid =
-    ((λ e. judged-accepts t q S (reader-ends t (q .depth) [] (goalOf q ∷ []) rec 1) (sym (verdict-judged t q rec wf valid) ∙ e)), (λ a. verdict-judged t q rec wf valid ∙ accepts-judged t q S a))
+    ((λ e. judged-accepts t wf q S (reader-ends t (q .depth) [] (goalOf q ∷ []) rec 1) (sym (verdict-judged t q rec wf valid) ∙ e)), (λ a. verdict-judged t q rec wf valid ∙ accepts-judged t wf q S a))
 
 pub one-derivation : OneDerivation
 one-derivation t levels branch goals f f′ d d′ same =

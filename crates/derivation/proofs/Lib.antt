@@ -7,6 +7,7 @@ pub mod Keeping
 pub mod Onward
 pub mod Readings
 pub mod Using
+pub mod Complying
 pub mod Judging
 pub mod DemandTwo
 pub mod Judged

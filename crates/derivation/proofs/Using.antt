@@ -20,16 +20,11 @@ use Rattle.table.proofs.Fields.{within-range}
 use Rattle.automata.specs.Sets.{inSet}
 use Rattle.automata.proofs.Members.{inSet-zero, inSet-or, inSet-pow, inSet-pick}
 use Rattle.derivation.specs.Rules.{asks, premises}
-use Rattle.derivation.specs.Forest.{Derives, Forest, usedFrom, usedSet}
+use Rattle.derivation.specs.Forest.{Derives, Forest, names, usedFrom, usedSet}
 use Rattle.derivation.specs.Forest.Forest.{end, node}
 use Rattle.derivation.specs.Forest.Derives.{done, step}
 use Rattle.derivation.specs.Words.{usesAutomaton}
 use Rattle.derivation.specs.Tally.{automataOf, automataUpTo}
-
--- the forest names credential c
-unfoldable pub names : Forest → ℕ → Bool
-names end c = false
-names (node c′ m children siblings) c = eqb c′ c or names children c or names siblings c
 
 -- the bit of a credential from 1 on
 place : (c i : ℕ) → (c ≡ 0 → ⊥) → eqb (c - 1) i ≡ eqb c (suc i)

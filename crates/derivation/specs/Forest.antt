@@ -3,9 +3,11 @@
 use Prim.Native.Nat.{ℕ, suc, _-_, _^_}
 use mathlib.Core.Path.{_≡_}
 use mathlib.Core.List.{List, [], _∷_, _++_}
-use mathlib.Core.Bool.{Bool, true}
+use mathlib.Core.Bool.{Bool, true, false}
 use mathlib.Core.Option.{Option, some}
 use lib.Bits.{bitOr}
+use lib.Dec.{eqb}
+use Rattle.table.specs.Logic.{_or_}
 use Rattle.table.specs.declared.Goal.{Goal}
 use Rattle.derivation.specs.Rules.{fresh, premises}
 
@@ -27,6 +29,11 @@ written (node c m children siblings) = c ∷ m ∷ (written children ++ written 
 unfoldable pub countFrom : ℕ → Forest → ℕ
 countFrom n end = n
 countFrom n (node c m children siblings) = countFrom (countFrom (suc n) children) siblings
+
+-- the record uses credential c: some node names it
+unfoldable pub names : Forest → ℕ → Bool
+names end c = false
+names (node c′ m children siblings) c = eqb c′ c or names children c or names siblings c
 
 -- the used set: credential i counts 2^(i-1), however often the record names it
 unfoldable pub usedFrom : ℕ → Forest → ℕ

@@ -2,15 +2,14 @@
 use Prim.Native.Nat.{ℕ, suc}
 use mathlib.Core.Path.{_≡_}
 use mathlib.Core.List.{List, [], _∷_}
-use mathlib.Core.Bool.{true}
 use Rattle.table.specs.Outcome.{Outcome, _andThen_, demandEach}
 use Rattle.table.specs.Outcome.Outcome.{accepted, refused}
-use Rattle.table.specs.Layout.{Numbered, automata}
+use Rattle.table.specs.Layout.{automata}
 use Rattle.table.specs.Checks.{requestOutcome, told}
 use Rattle.table.specs.declared.Query.{Query}
 use Rattle.derivation.specs.Rules.{goalOf}
 use Rattle.derivation.specs.Forest.{Derives, Forest, countFrom, usedSet, written}
-use Rattle.derivation.specs.Words.{met}
+use Rattle.derivation.specs.Words.{Complies, met}
 use Rattle.derivation.specs.Reading.{Reading, reader}
 use Rattle.derivation.specs.Reading.Reading.{read, stop}
 use Rattle.derivation.specs.declared.Verdict.{Verdict}
@@ -31,7 +30,7 @@ pub record Accepted (t : List ℕ) (q : Query) (rec : List ℕ) (S : ℕ) : Type
   pub forest : Forest
   pub derives : Derives t (q .depth) [] (goalOf q ∷ []) forest
   pub whole : written forest ≡ rec
-  pub complies : (k : ℕ) → Numbered (automata t) k → met t forest k ≡ true
+  pub complies : Complies t forest
   pub uses : usedSet forest ≡ S
 
 unfoldable pub verdictTold : Verdict → Outcome

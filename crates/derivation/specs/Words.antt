@@ -1,5 +1,6 @@
 -- Document 01, "Derivations and words": the words of a derivation, and whether it complies with every used automaton.
 use Prim.Native.Nat.{ℕ}
+use mathlib.Core.Path.{_≡_}
 use mathlib.Core.List.{List, [], _∷_, _++_}
 use mathlib.Core.Bool.{Bool, true, false, not}
 use lib.Dec.{eqb}
@@ -7,7 +8,7 @@ use Rattle.table.specs.Logic.{_and_, _or_, pick}
 use Rattle.table.specs.Layout.{credential}
 use Rattle.table.specs.declared.Role.{Role}
 use Rattle.automata.specs.Automata.{accepts}
-use Rattle.derivation.specs.Forest.{Forest}
+use Rattle.derivation.specs.Forest.{Forest, names}
 use Rattle.derivation.specs.Forest.Forest.{end, node}
 
 -- a word is the list of roles from the goal down to a kind 1 node; `above` are the roles on the way to the forest
@@ -30,3 +31,8 @@ acceptsAll t k (word ∷ more) = accepts t k word and acceptsAll t k more
 -- the automaton is not used, or it accepts every word
 unfoldable pub met : List ℕ → Forest → ℕ → Bool
 met t f k = not (usesAutomaton t f k) or acceptsAll t k (words t [] f)
+
+-- a record complies if every word is accepted by the automaton of every credential that it uses
+abbrev pub Complies : List ℕ → Forest → Type 0
+Complies t f =
+    (c : ℕ) → names f c ≡ true → (credential t c .automaton ≡ 0 → ⊥) → acceptsAll t (credential t c .automaton) (words t [] f) ≡ true
