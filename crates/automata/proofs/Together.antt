@@ -1,16 +1,15 @@
 -- The loops over automata and edges, set by set: what stands at each place of the eight sets after so many automata or edges.
 use mathlib.Core.Path.{_≡_, refl, sym, ap, _∙_}
 use mathlib.Core.List.{List}
-use mathlib.Core.Bool.{Bool, true, false, not}
-use mathlib.Core.Logic.{⊎-elim}
-use Prim.Native.Nat.{ℕ, zero, suc, _+_, _-_, _*_, _%_, _^_, _≤_, _<_}
+use mathlib.Core.Bool.{Bool, true, false}
+use Prim.Native.Nat.{ℕ, suc, _+_, _-_, _*_, _%_, _^_, _≤_, _<_}
 use native.Mathlib.Omega.{arith}
 use native.Mathlib.Numerals.{add-one}
 use native.Mathlib.Decide.{ℕ-discrete, decLt}
 use lib.ListN.{length, getD, set, replicate, length-set, getD-replicate}
 use lib.Seq.{getD-set-same, getD-set-other}
 use lib.Bits.{bitAnd, bitOr}
-use lib.Dec.{eqb, leb, ltb}
+use lib.Dec.{ltb}
 use borrow.Author.Tests.{eq-eqb, ne-eqb, lt-ltb, le-ltb, le-leb}
 use Rattle.table.specs.Logic.{_and_, pick}
 use Rattle.table.specs.Limits.{lastState, mostAutomata}
@@ -21,7 +20,7 @@ use Rattle.table.specs.declared.Role.{Role}
 use Rattle.table.specs.declared.Automaton.{Automaton}
 use Rattle.table.specs.declared.Edge.{Edge}
 use Rattle.automata.specs.Sets.{meets, setOf}
-use Rattle.automata.specs.Automata.{acceptingSet, acceptsFrom, each, leads, moved, movedBy, movedSets, starting, startingSets, together, withEdge}
+use Rattle.automata.specs.Automata.{acceptingSet, acceptsFrom, leads, moved, movedBy, movedSets, starting, startingSets, together, withEdge}
 use Rattle.automata.specs.declared.StateSets.{StateSets}
 use Rattle.automata.proofs.Each.{each-ext}
 use Rattle.automata.proofs.Labels.{one-bit}

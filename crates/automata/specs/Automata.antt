@@ -5,7 +5,7 @@ use mathlib.Core.List.{List, [], _∷_, _++_}
 use mathlib.Core.Bool.{Bool, true, false, not}
 use lib.ListN.{getD, set}
 use lib.Bits.{bitOr}
-use lib.Dec.{eqb, ltb}
+use lib.Dec.{eqb}
 use Rattle.table.specs.Logic.{_and_, pick}
 use Rattle.table.specs.Limits.{mostAutomata}
 use Rattle.table.specs.Layout.{automata, automaton, edge, edges, sameRole}

@@ -1,6 +1,5 @@
 // State sets of all automata of a table, and how they move along a role (document 01, "Derivations and words"). The sets of
 // all eight travel together, by value: each child of a node starts from its own copy.
-use table::Automaton;
 use table::EVERY_ROLE;
 use table::Edge;
 use table::Number;

@@ -1,24 +1,22 @@
 -- What it means that a credential applies to a goal: it is there, it defines the goal's role, and it asks nothing exactly for kind 1.
-use mathlib.Core.Path.{_≡_, refl, sym, ap, ap₂, _∙_}
+use mathlib.Core.Path.{_≡_, refl, sym, ap₂, _∙_}
 use mathlib.Core.List.{List, [], _∷_, map}
 use mathlib.Core.Bool.{Bool, true, false}
 use mathlib.Core.Option.{Option, none, some}
-use Prim.Native.Nat.{ℕ, zero, suc, _≤_, _<_}
+use Prim.Native.Nat.{ℕ, _≤_}
 use native.Mathlib.Omega.{arith}
 use native.Mathlib.Decide.{ℕ-discrete}
 use lib.ListN.{length}
-use lib.Dec.{eqb}
 use borrow.Author.Tests.{eqb-true}
 use Rattle.table.specs.Logic.{_and_, pick}
 use Rattle.table.specs.Layout.{Numbered, cell, chain, credential, credentials, parts, role, sameRole}
 use Rattle.table.specs.Checks.{WellFormed, within}
 use Rattle.table.specs.declared.Role.{Role}
 use Rattle.table.specs.declared.Goal.{Goal}
-use Rattle.table.specs.declared.Credential.{Credential}
 use Rattle.table.proofs.Tests.{and-first, and-second}
 use Rattle.table.proofs.Fields.{within-range}
-use Rattle.table.proofs.WellFormed.{wf-chain, wf-credential}
-use Rattle.derivation.specs.Rules.{asks, goal, premises, when}
+use Rattle.table.proofs.WellFormed.{wf-chain}
+use Rattle.derivation.specs.Rules.{asks, premises, when}
 use Rattle.derivation.proofs.Asking.{asks-1, asks-2, asks-3, asks-4, asks-none}
 
 pub same-role : (r s : Role) → sameRole r s ≡ true → r ≡ s

@@ -1,16 +1,15 @@
 -- A record complies exactly when every automaton of the table is met: not used, or accepting every word.
-use mathlib.Core.Path.{_≡_, refl, sym, ap, _∙_}
+use mathlib.Core.Path.{_≡_, refl}
 use mathlib.Core.List.{List, []}
 use mathlib.Core.Bool.{Bool, true, false, not}
-use Prim.Native.Nat.{ℕ, _≤_}
+use Prim.Native.Nat.{ℕ}
 use native.Mathlib.Omega.{arith}
 use Rattle.table.specs.Logic.{_or_}
-use Rattle.table.specs.Layout.{Numbered, automata, credential, credentials}
+use Rattle.table.specs.Layout.{Numbered, automata, credential}
 use Rattle.table.specs.Checks.{WellFormed}
 use Rattle.table.specs.declared.Goal.{Goal}
-use Rattle.table.proofs.Tests.{false-true, or-either}
 use Rattle.table.proofs.WellFormed.{wf-credential}
-use Rattle.derivation.specs.Forest.{Derives, Forest, names}
+use Rattle.derivation.specs.Forest.{Derives, Forest}
 use Rattle.derivation.specs.Words.{Complies, acceptsAll, met, usesAutomaton, words}
 use Rattle.derivation.proofs.Using.{named-numbered, uses-reached, uses-shows}
 

@@ -1,17 +1,16 @@
 -- A node's entry, test by test: rows 11, 12 and 13, and what the code's step says of them.
-use mathlib.Core.Path.{_≡_, refl, sym, ap, _∙_}
+use mathlib.Core.Path.{_≡_, refl}
 use mathlib.Core.List.{List, [], _∷_}
 use mathlib.Core.Bool.{Bool, true, false}
-use mathlib.Core.Option.{Option, none, some}
+use mathlib.Core.Option.{none, some}
 use Prim.Native.Nat.{ℕ, zero, suc, _≤_, _<_}
 use native.Mathlib.Omega.{arith}
 use lib.ListN.{drop, getD, length, take}
-use lib.Dec.{eqb}
 use borrow.Author.Tests.{ne-eqb}
 use Rattle.table.specs.Logic.{pick}
 use Rattle.table.specs.declared.Goal.{Goal}
 use Rattle.derivation.specs.Rules.{fresh, premises}
-use Rattle.derivation.specs.Reading.{Entry, admitted, entry}
+use Rattle.derivation.specs.Reading.{admitted, entry}
 use Rattle.derivation.specs.Reading.Entry.{ask, halt}
 use Rattle.derivation.specs.Held.{given, may, stepped}
 use Rattle.derivation.specs.declared.Premises.{Premises}

@@ -1,8 +1,8 @@
 -- The verdict from what is kept: the automata of the used set, the first that rejects some word, and what was read.
 use mathlib.Core.Path.{_≡_, refl, sym, ap, _∙_}
 use mathlib.Core.List.{List, [], _∷_}
-use mathlib.Core.Bool.{Bool, true, false, not}
-use Prim.Native.Nat.{ℕ, zero, suc, _+_, _-_, _/_, _%_, _^_, _≤_, _<_}
+use mathlib.Core.Bool.{not}
+use Prim.Native.Nat.{ℕ, _+_, _-_, _/_, _%_, _^_, _≤_}
 use native.Mathlib.Omega.{arith}
 use native.Mathlib.Numerals.{add-one}
 use lib.ListN.{length}
@@ -28,7 +28,7 @@ use Rattle.derivation.specs.Rules.{goalOf}
 use Rattle.derivation.specs.Forest.{Forest, countFrom, usedFrom, usedSet}
 use Rattle.derivation.specs.Reading.{Reading, reader}
 use Rattle.derivation.specs.Reading.Reading.{read, stop}
-use Rattle.derivation.specs.Tally.{Told, allAutomata, automataOf, automataUpTo, everyFrom, keeps, numbersTold, tally, tallyOn}
+use Rattle.derivation.specs.Tally.{allAutomata, automataOf, automataUpTo, everyFrom, keeps, numbersTold, tally, tallyOn}
 use Rattle.derivation.specs.Tally.Told.{passed, stopped}
 use Rattle.derivation.specs.Verdict.{judged}
 use Rattle.derivation.specs.DemandTwo.{Stops}

@@ -1,8 +1,7 @@
 -- The loop over a node's children: what is kept after the first i of them, with the others still to be read, is the whole.
 use mathlib.Core.Path.{_≡_, refl, sym, ap, _∙_}
 use mathlib.Core.List.{List, [], _∷_}
-use mathlib.Core.Option.{some}
-use Prim.Native.Nat.{ℕ, zero, suc, _+_, _-_, _^_, _≤_, _<_}
+use Prim.Native.Nat.{ℕ, suc, _+_, _-_, _^_, _≤_, _<_}
 use native.Mathlib.Omega.{arith}
 use native.Mathlib.Numerals.{add-one}
 use lib.ListN.{drop, getD, length, take, drop-of-length-le, length-drop}
@@ -11,13 +10,12 @@ use lib.Bits.{bitAnd, bitOr}
 use lib.Dec.{eqb}
 use Rattle.table.specs.Logic.{pick}
 use Rattle.table.specs.Limits.{mostCredentials, mostParts}
-use Rattle.table.specs.Layout.{Numbered, credentials}
+use Rattle.table.specs.Layout.{Numbered}
 use Rattle.table.specs.Checks.{WellFormed}
 use Rattle.table.specs.declared.Goal.{Goal}
 use Rattle.table.proofs.WellFormed.{wf-sized}
 use Rattle.automata.specs.Automata.{acceptingSet, movedSets}
 use Rattle.automata.specs.declared.StateSets.{StateSets}
-use Rattle.derivation.specs.Rules.{premises}
 use Rattle.derivation.specs.Reading.{entry}
 use Rattle.derivation.specs.Reading.Entry.{ask}
 use Rattle.derivation.specs.Held.{Room, above, may, noGoal, stepped}

@@ -2,7 +2,7 @@
 -- and 13 are tested in that order before its children.
 use Prim.Native.Nat.{ℕ, zero, suc}
 use mathlib.Core.List.{List, [], _∷_}
-use mathlib.Core.Bool.{Bool, true, false}
+use mathlib.Core.Bool.{Bool, false}
 use mathlib.Core.Option.{Option, none, some}
 use Rattle.table.specs.Logic.{pick}
 use Rattle.table.specs.declared.Goal.{Goal}

@@ -1,5 +1,5 @@
 -- Document 01: the verifier's end. Rows 1 to 8, then 11 to 13 at each node, then numbers left over, then 14.
-use Prim.Native.Nat.{ℕ, suc}
+use Prim.Native.Nat.{ℕ}
 use mathlib.Core.Path.{_≡_}
 use mathlib.Core.List.{List, [], _∷_}
 use Rattle.table.specs.Outcome.{Outcome, _andThen_, demandEach}

@@ -30,23 +30,23 @@ pub enum Verdict {
 }
 
 // Which goals a credential asks: the first `len`; or that it does not apply.
-pub struct Premises {
+struct Premises {
     pub applies: bool,
     pub len: usize,
     pub goals: [Goal; layout::MOST_PARTS],
 }
 
 // As many levels as a query can allow.
-pub const MOST_LEVELS: usize = 16;
+const MOST_LEVELS: usize = 16;
 
 // The goals above a node: the first `len`.
-pub struct Branch {
+struct Branch {
     pub len: usize,
     pub goals: [Goal; MOST_LEVELS],
 }
 
 // A node's entry: a refusal's number, or 0 and what the node asks.
-pub struct Step {
+struct Step {
     pub refusal: u32,
     pub credential: Number,
     pub middle: Number,

@@ -14,7 +14,7 @@ ghost use lib.Bits.{bitAnd, bitOr};
 ghost use lib.Dec.{eqb};
 ghost use Rattle.table.specs.Logic.{pick};
 ghost use Rattle.table.specs.Limits.{mostCredentials, mostDepth, mostParts};
-ghost use Rattle.table.specs.Layout.{Numbered, credentials};
+ghost use Rattle.table.specs.Layout.{Numbered};
 ghost use Rattle.table.specs.Checks.{WellFormed};
 ghost use Rattle.automata.specs.Automata.{acceptingSet};
 ghost use Rattle.derivation.specs.Reading.{entry};

@@ -1,19 +1,16 @@
 -- Walking a chain: `met` cells have been met from cell `first` on, and j is the next cell, or 0.
-use mathlib.Core.Path.{_≡_, refl, sym, ap, _∙_}
+use mathlib.Core.Path.{_≡_, refl}
 use mathlib.Core.List.{List, [], _∷_}
-use mathlib.Core.Bool.{Bool, true, false}
-use mathlib.Core.Logic.{⊎-elim}
+use mathlib.Core.Bool.{true, false}
 use Prim.Native.Nat.{ℕ, zero, suc, _+_, _-_, _≤_, _<_}
 use native.Mathlib.Omega.{arith}
 use lib.ListN.{length}
-use lib.Dec.{eqb, leb, ltb}
-use borrow.Author.Tests.{ne-eqb, eq-eqb, eqb-true, leb-true, le-leb, lt-leb}
-use Rattle.table.specs.Logic.{_and_, _or_, pick}
-use Rattle.table.specs.Outcome.Outcome.{accepted}
+use borrow.Author.Tests.{ne-eqb, le-leb, lt-leb}
+use Rattle.table.specs.Logic.{_and_, pick}
 use Rattle.table.specs.Limits.{mostParts, leastParts}
-use Rattle.table.specs.Layout.{Numbered, cell, cells, cellsFrom, chain, credential}
+use Rattle.table.specs.Layout.{cell, cells, cellsFrom, chain, credential}
 use Rattle.table.specs.declared.Credential.{Credential}
-use Rattle.table.specs.Checks.{within, chainOk, cellOk, goodCell, goodChain}
+use Rattle.table.specs.Checks.{within, chainOk, goodChain}
 
 pub record Walked (t : List ℕ) (first met j : ℕ) : Type 0 where
   pub few : met ≤ mostParts

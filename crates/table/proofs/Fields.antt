@@ -1,18 +1,14 @@
 -- What a record that passes its check is: every field's range, by kind and by label.
 use mathlib.Core.Path.{_≡_, sym, _∙_}
-use mathlib.Core.Bool.{Bool, true, false}
+use mathlib.Core.Bool.{true}
 use mathlib.Core.Logic.{_⊎_, inl, inr}
 use Prim.Native.Nat.{ℕ, _≤_, _<_}
 use native.Mathlib.Omega.{arith}
 use native.Mathlib.Decide.{ℕ-discrete}
-use lib.Dec.{eqb, leb, ltb}
 use borrow.Author.Tests.{leb-true, ltb-true, eqb-true}
-use Rattle.table.specs.Logic.{_and_, _or_, pick}
 use Rattle.table.specs.Limits.{mostPrincipals, mostNames, lastState}
 use Rattle.table.specs.Layout.{Numbered, principal, name}
 use Rattle.table.specs.Checks.{within, isPrincipal, isName, isRole, meaningOk, credentialOk, cellOk, labelOk, edgeOk}
-use Rattle.table.specs.declared.Principal.{Principal}
-use Rattle.table.specs.declared.Name.{Name}
 use Rattle.table.specs.declared.Role.{Role}
 use Rattle.table.specs.declared.Credential.{Credential}
 use Rattle.table.specs.declared.Cell.{Cell}

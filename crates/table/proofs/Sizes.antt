@@ -1,16 +1,13 @@
 -- What the head's checks give: each count inside its limit, and the length that the head says.
 use mathlib.Core.Path.{_≡_}
 use mathlib.Core.List.{List}
-use mathlib.Core.Bool.{Bool, true}
+use mathlib.Core.Bool.{true}
 use Prim.Native.Nat.{ℕ, _+_, _-_, _*_, _≤_}
 use native.Mathlib.Omega.{arith}
 use lib.ListN.{length}
-use lib.Dec.{leb, eqb}
 use borrow.Author.Tests.{leb-true, eqb-true}
-use Rattle.table.specs.Logic.{_and_}
-use Rattle.table.specs.Outcome.{Outcome, _andThen_, demand}
 use Rattle.table.specs.Outcome.Outcome.{accepted}
-use Rattle.table.specs.Layout.{Counted, Numbered, Sized, automata, automataBase, automatonSize, cellSize, cells, cellsBase, credentialSize, credentials, edgeSize, edges, edgesBase, headSize, tableLength}
+use Rattle.table.specs.Layout.{Counted, Numbered, Sized, automata, automataBase, automatonSize, cellSize, cells, cellsBase, credentialSize, credentials, edgeSize, edges, edgesBase, headSize}
 use Rattle.table.specs.Checks.{countsOk, headOutcome}
 use Rattle.table.proofs.Tests.{and-first, and-second}
 use Rattle.table.proofs.Stages.{then-first, then-second, demand-true}

@@ -4,7 +4,7 @@ use mathlib.Core.Bool.{Bool, true, false, not}
 use Prim.Native.Nat.{ℕ}
 use native.Mathlib.Omega.{arith}
 use borrow.Author.Tests.{not-true, not-false}
-use Rattle.table.specs.Logic.{_and_, _or_, pick}
+use Rattle.table.specs.Logic.{_and_, _or_}
 
 -- what `if !flag { .. }` tells of p, in its body and after it
 pub failed : {flag p : Bool} → flag ≡ p → not flag ≡ true → p ≡ false

@@ -1,7 +1,7 @@
 -- Document 01, "Where each input is stopped": the result of a call is what it accepts, or a refusal number and a position.
 -- Checks go down the table; within a row, by ascending record number.
 use Prim.Native.Nat.{ℕ, zero, suc}
-use mathlib.Core.Bool.{Bool, true, false, not}
+use mathlib.Core.Bool.{Bool, true, false}
 
 infixr 25 _andThen_
 -- what a call tells: accepted, with a value (0 where there is nothing to return), or refused
