@@ -2,17 +2,18 @@
 -- of states; two sets with the same members are one number.
 use mathlib.Core.Path.{_≡_, refl, sym, ap, _∙_}
 use mathlib.Core.Bool.{Bool, true, false, not}
-use Prim.Native.Nat.{ℕ, zero, suc, _/_, _%_, _^_, _<_}
+use Prim.Native.Nat.{ℕ, zero, suc, _/_, _%_, _^_, _<_, _≤_}
 use native.Mathlib.Omega.{arith}
-use native.Mathlib.Nat.{div-one, div-div-eq-div-mul, pow-suc, pow-succ'}
-use native.Mathlib.Decide.{ℕ-discrete}
+use native.Mathlib.Nat.{div-eq-of-lt, div-one, div-div-eq-div-mul, pow-suc, pow-succ'}
+use native.Mathlib.Decide.{decLt, ℕ-discrete}
 use lib.Arith.{bin-ind}
-use lib.Bits.{bitAnd, bitOr, and-shr, and-mod, or-shr, or-mod}
+use lib.Bits.{bitAnd, bitOr, and-le-r, and-shr, and-mod, or-lt, or-shr, or-mod}
+use lib.Pow.{pow-lt, pow-mono}
 use lib.Dec.{eqb, ltb, eqb·zero-suc, eqb·suc-zero, eqb·suc-suc}
 use borrow.Author.Tests.{ne-eqb, eq-eqb, eqb-true, eqb-false, not-true, ltb-true, ltb-false, lt-ltb, le-ltb}
 use Rattle.table.specs.Logic.{_and_, _or_, pick}
-use Rattle.table.proofs.Tests.{and-false, and-first, and-second, and-true, false-true, or-false}
-use Rattle.automata.specs.Sets.{inSet, meets, setOf}
+use Rattle.table.proofs.Tests.{and-false, and-first, and-is, and-is-off, and-second, and-true, false-true, or-either, or-false, or-first, or-second}
+use Rattle.automata.specs.Sets.{inSet, meets, part, setOf}
 
 -- state 0 is the lowest digit, and the states after it are the other digits
 member-first : (x : ℕ) → inSet x 0 ≡ eqb (x % 2) 1
@@ -140,3 +141,76 @@ setOf-members p (suc n) k = inSet-pick (p n) (setOf p n) n k ∙ rw (setOf-membe
     go : Dec (n ≡ k) → ((ltb k n and p k) or (p n and eqb n k)) ≡ (ltb k (suc n) and p k)
     go (yes e) = rw (← e, le-ltb n n (omega arith), eq-eqb n n refl, lt-ltb n (suc n) (omega arith), and-true)
     go (no e) = rw (ne-eqb n k e, and-false, or-false, ltb-next k n e)
+
+-- a part, by its members
+pub part-member : (x y s : ℕ) → part x y ≡ true → inSet x s ≡ true → inSet y s ≡ true
+unfolding part
+part-member x y s h l =
+    and-second (inSet x s) (inSet y s) (sym (inSet-and x y s) ∙ ap (λ z. inSet z s) (eqb-true (bitAnd x y) x h) ∙ l)
+
+pub part-shown : (x y : ℕ) → ((s : ℕ) → inSet x s ≡ true → inSet y s ≡ true) → part x y ≡ true
+unfolding part
+part-shown x y all = eq-eqb (bitAnd x y) x (same-members (bitAnd x y) x (λ s. inSet-and x y s ∙ go s (inSet x s) refl))
+  where
+    go : (s : ℕ) (b : Bool) → inSet x s ≡ b → (inSet x s and inSet y s) ≡ inSet x s
+    go s true e = and-is e (all s e) ∙ sym e
+    go s false e = and-is-off (inSet y s) e ∙ sym e
+
+pub part-refl : (x : ℕ) → part x x ≡ true
+part-refl x = part-shown x x (λ s h. h)
+
+pub part-zero : (x : ℕ) → part 0 x ≡ true
+part-zero x = part-shown 0 x (λ s h. absurd (false-true (sym (inSet-zero s) ∙ h)))
+
+pub part-trans : (x y z : ℕ) → part x y ≡ true → part y z ≡ true → part x z ≡ true
+part-trans x y z h l = part-shown x z (λ s m. part-member y z s l (part-member x y s h m))
+
+-- a part is no greater number, and two sets that are parts of each other are one number
+pub part-le : (x y : ℕ) → part x y ≡ true → x ≤ y
+unfolding part
+part-le x y h = let e = eqb-true (bitAnd x y) x h in let l = and-le-r x y in omega arith
+
+pub part-antisym : (x y : ℕ) → part x y ≡ true → part y x ≡ true → x ≡ y
+part-antisym x y h l = let a = part-le x y h in let b = part-le y x l in omega arith
+
+pub part-or : (x y z : ℕ) → part x z ≡ true → part y z ≡ true → part (bitOr x y) z ≡ true
+part-or x y z h l =
+    part-shown (bitOr x y) z (λ s m. or-either (part-member x z s h) (part-member y z s l) (sym (inSet-or x y s) ∙ m))
+
+pub part-or-left : (x y : ℕ) → part x (bitOr x y) ≡ true
+part-or-left x y = part-shown x (bitOr x y) (λ s m. inSet-or x y s ∙ or-first (inSet y s) m)
+
+pub part-or-right : (x y : ℕ) → part y (bitOr x y) ≡ true
+part-or-right x y = part-shown y (bitOr x y) (λ s m. inSet-or x y s ∙ or-second (inSet x s) m)
+
+-- a set by a test on the numbers below n is less than 2^n
+setOf-fits : (p : ℕ → Bool) (n : ℕ) → setOf p n < 2 ^ n
+unfolding setOf pick
+setOf-fits p zero = omega arith
+setOf-fits p (suc n) = go (p n) (let h = setOf-fits p n in let l = pow-lt {i = n} {j = suc n} (omega arith) in omega arith)
+  where
+    go : (b : Bool) → setOf p n < 2 ^ suc n → pick b (bitOr (setOf p n) (2 ^ n)) (setOf p n) < 2 ^ suc n
+    go true fewer = or-lt (suc n) (setOf p n) (2 ^ n) fewer (pow-lt {i = n} {j = suc n} (omega arith))
+    go false fewer = fewer
+
+-- a set is less than 2^n exactly where all its members are below n: it is then a part of the set of all those
+pub members-below : (x n : ℕ) → ((s : ℕ) → inSet x s ≡ true → s < n) → x < 2 ^ n
+unfolding _and_
+members-below x n all =
+    let everything = setOf (λ s. true) n in
+    let among = part-shown x everything (λ s h. setOf-members (λ s. true) n s ∙ rw (lt-ltb s n (all s h))) in
+    let l = part-le x everything among in
+    let h = setOf-fits (λ s. true) n in
+    omega arith
+
+pub below-members : (x n s : ℕ) → x < 2 ^ n → inSet x s ≡ true → s < n
+unfolding inSet
+below-members x n s few h = go (decLt s n)
+  where
+    go : Dec (s < n) → s < n
+    go (yes less) = less
+    go (no more) =
+        let l = pow-mono {i = n} {j = s} (omega arith) in
+        let over : x < 2 ^ s = omega arith in
+        let e : x / 2 ^ s ≡ 0 = div-eq-of-lt over in
+        absurd (false-true (rw e at h))

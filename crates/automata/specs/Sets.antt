@@ -12,6 +12,10 @@ inSet x s = eqb (x / 2 ^ s % 2) 1
 unfoldable pub meets : ℕ → ℕ → Bool
 meets x y = not (eqb (bitAnd x y) 0)
 
+-- each of x is in y
+unfoldable pub part : ℕ → ℕ → Bool
+part x y = eqb (bitAnd x y) x
+
 -- the set of all k below n that pass the test
 unfoldable pub setOf : (ℕ → Bool) → ℕ → ℕ
 setOf p zero = 0

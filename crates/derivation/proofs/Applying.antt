@@ -23,15 +23,15 @@ pub same-role : (r s : Role) → sameRole r s ≡ true → r ≡ s
 unfolding sameRole
 same-role r s h = ap₂ role (eqb-true _ _ (and-first _ _ h)) (eqb-true _ _ (and-second _ _ h))
 
-none-some : {goals : List Goal} → none ≡ some goals → ⊥
+pub none-some : {goals : List Goal} → none ≡ some goals → ⊥
 none-some e = let z : _≡_ {A = ℕ} 0 1 = cc in omega arith
 
-picked : (test : Bool) (asked : Option (List Goal)) (goals : List Goal) → pick test asked none ≡ some goals → (test ≡ true) × (asked ≡ some goals)
+pub picked : (test : Bool) (asked : Option (List Goal)) (goals : List Goal) → pick test asked none ≡ some goals → (test ≡ true) × (asked ≡ some goals)
 unfolding pick
 picked true asked goals h = (refl, h)
 picked false asked goals h = absurd (none-some h)
 
-when-some : (test : Bool) (asked goals : List Goal) → when test asked ≡ some goals → asked ≡ goals
+pub when-some : (test : Bool) (asked goals : List Goal) → when test asked ≡ some goals → asked ≡ goals
 unfolding pick
 when-some true asked goals h = cc
 when-some false asked goals h = absurd (none-some h)
@@ -54,7 +54,7 @@ cons-nil : {A : Type 0} {x : A} {xs : List A} → x ∷ xs ≡ [] → ⊥
 cons-nil e = let z : _≡_ {A = ℕ} 0 1 = cc in omega arith
 
 -- a chain has parts
-some-parts : (t : List ℕ) (f : Role → Goal) (first : ℕ) → 2 ≤ length (chain t first) → map f (parts t first) ≡ [] → ⊥
+pub some-parts : (t : List ℕ) (f : Role → Goal) (first : ℕ) → 2 ≤ length (chain t first) → map f (parts t first) ≡ [] → ⊥
 unfolding parts length
 some-parts t f first long e = go (chain t first) long e
   where

@@ -96,9 +96,9 @@ no-numbers [] h = refl
 no-numbers (x ∷ rest) h = absurd (omega arith)
 
 -- the query's goal, read from the start
-pub whole-told : (t : List ℕ) (q : Query) (rec : List ℕ) (levels : ℕ) (branch : List Goal) (s : StateSets) → levels ≡ q .depth → branch ≡ [] → s ≡ startingSets t → tallyOn t levels branch (goalOf q ∷ []) s rec 0 0 allAutomata ≡ tally t (startingSets t) 0 0 allAutomata (reader t (q .depth) [] (goalOf q ∷ []) rec 1)
+pub whole-told : (t : List ℕ) (q : Query) (rec : List ℕ) (levels : ℕ) (branch : List Goal) (s : StateSets) (g : Goal) → levels ≡ q .depth → branch ≡ [] → s ≡ startingSets t → g ≡ goalOf q → tallyOn t levels branch (g ∷ []) s rec 0 0 allAutomata ≡ tally t (startingSets t) 0 0 allAutomata (reader t (q .depth) [] (goalOf q ∷ []) rec 1)
 unfolding tallyOn
-whole-told t q rec levels branch s all-levels nothing starts = rw (all-levels, nothing, starts)
+whole-told t q rec levels branch s g all-levels nothing starts asked = rw (all-levels, nothing, starts, asked)
 
 -- reading stops with 11, 12 or 13 alone
 stop-number : {t : List ℕ} {levels at number position : ℕ} {branch goals : List Goal} {rec : List ℕ} → Stops t levels branch goals rec at number position → (11 ≤ number) × (number ≤ 13)

@@ -22,18 +22,18 @@ pub record Row : Type 0 where
   pub rec : List ℕ
   pub outcome : Outcome
 
-query : ℕ → ℕ → ℕ → ℕ → Query
+unfoldable pub query : ℕ → ℕ → ℕ → ℕ → Query
 query p o n d = record { principal = principal p; owner = principal o; name = name n; depth = d }
 
 -- principals Shop 1, School 2, Ann 4; names discount 1, student 2, accredited 3
-membersT : List ℕ
+unfoldable pub membersT : List ℕ
 membersT = 1 ∷ 1 ∷ 3 ∷ 3 ∷ 2 ∷ 0 ∷ 1 ∷ 3 ∷ 1 ∷ 2 ∷ 0 ∷ 0 ∷ []
 
-tableT : List ℕ
+unfoldable pub tableT : List ℕ
 tableT = 4 ∷ 0 ∷ 0 ∷ 0 ∷ (membersT ++ (2 ∷ 2 ∷ 1 ∷ 4 ∷ 0 ∷ 0 ∷ 1 ∷ 1 ∷ 1 ∷ 4 ∷ 0 ∷ 0 ∷ []))
 
 -- T with an automaton, attached to credential 3, that rejects every word that begins with Shop.discount
-tableU : List ℕ
+unfoldable pub tableU : List ℕ
 tableU =
     4 ∷ 0 ∷ 1 ∷ 2 ∷ (membersT ++ (2 ∷ 2 ∷ 1 ∷ 4 ∷ 0 ∷ 1 ∷ 1 ∷ 1 ∷ 1 ∷ 4 ∷ 0 ∷ 0 ∷ 1 ∷ 2 ∷ 1 ∷ 0 ∷ 3 ∷ 1 ∷ 1 ∷ 1 ∷ 1 ∷ 1 ∷ 2 ∷ 0 ∷ 0 ∷ 1 ∷ []))
 
@@ -50,7 +50,7 @@ recordRows =
     ∷ []
 
 -- every row's verdict is the expected one
-pub Holds : List Row → Type 0
+unfoldable pub Holds : List Row → Type 0
 Holds [] = Unit {0}
 Holds (r ∷ rows) = (verdict (r .table) (r .query) (r .rec) ≡ r .outcome) × Holds rows
 

@@ -6,3 +6,5 @@ pub mod Tally
 pub mod Held
 pub mod Verdict
 pub mod DemandTwo
+pub mod Search
+pub mod Relevance

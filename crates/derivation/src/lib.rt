@@ -3,7 +3,9 @@
 // answer means; specs/DemandTwo.antt states that it is right.
 mod branches; // branches.rt: the goals above a node
 mod reader; // reader.rt: a record, node by node
+mod relevance; // relevance.rt: which credentials bear on a query
 mod rules; // rules.rt: which goals a credential asks
+mod search; // search.rt: whether a set of credentials proves a goal
 mod words; // words.rt: row 14
 
 use automata::StateSets;
@@ -21,6 +23,9 @@ ghost use Rattle.table.specs.Outcome.{Outcome};
 ghost use Rattle.table.specs.Checks.{Valid, WellFormed, told};
 ghost use Rattle.derivation.specs.Rules.{goalOf};
 ghost use Rattle.derivation.specs.Reading.{reader};
+ghost use Rattle.derivation.specs.Tally.{automataOf};
+ghost use Rattle.derivation.specs.Search;
+ghost use Rattle.derivation.specs.Relevance.{Relevant};
 ghost use Rattle.derivation.specs.Verdict.{judged, verdict, verdictTold};
 
 // Accepted, with the used set: credential i counts 2^(i-1).
@@ -54,6 +59,13 @@ struct Step {
     pub goals: [Goal; layout::MOST_PARTS],
 }
 
+// The credentials that may be used, credential i counting 2^(i-1), and the automata that must accept every word, automaton k
+// counting 2^(k-1).
+struct Terms {
+    pub allowed: u32,
+    pub constraints: Number,
+}
+
 // Whether the record derives the queried membership and complies: rows 1 to 8, then 11 to 14, for any three inputs.
 pub fn verify(table: &[Number], query: Query, rec: &[Number]) -> Verdict
     ensures { λ r. ⌜ verdictTold r ≡ verdict (now (table .entry)) query (now (rec .entry)) ⌝ }
@@ -61,6 +73,60 @@ pub fn verify(table: &[Number], query: Query, rec: &[Number]) -> Verdict
     match table::check_request(table, query) {
         QueryCheck::Valid => judge(table, query, rec),
         QueryCheck::Refused(why) => Verdict::Refused(why),
+    }
+}
+
+// Whether some derivation of the queried membership uses only allowed credentials, and each of its words is accepted by each of
+// the automata `constraints`.
+pub fn provable(table: &[Number], query: Query, allowed: u32, constraints: Number) -> bool
+    requires { ⌜ WellFormed (now table) ⌝ }
+    requires { ⌜ Valid query ⌝ }
+    ensures { λ r. ⌜ r ≡ Search.provable (now (table .entry)) query allowed constraints ⌝ }
+{
+    let terms = Terms {
+        allowed: allowed,
+        constraints: constraints,
+    };
+    search::goal_search(
+        table,
+        terms,
+        goal_of(query),
+        layout::wide(query.depth),
+        StateSets::start(table),
+        Branch::empty(),
+    )
+}
+
+// A set of allowed credentials such that every derivation of the queried membership that uses only allowed ones uses only these.
+pub fn relevant(table: &[Number], query: Query, allowed: u32) -> u32
+    requires { ⌜ WellFormed (now table) ⌝ }
+    requires { ⌜ Valid query ⌝ }
+    ensures { λ r. ⌜ Relevant (now (table .entry)) query allowed r ⌝ }
+{
+    let goal = goal_of(query);
+    relevance::reachable(table, goal.role, relevance::productive(table, allowed))
+}
+
+// The automata attached to the credentials of a set: automaton k counts 2^(k-1).
+pub fn automata_of(table: &[Number], set: u32) -> Number
+    requires { ⌜ WellFormed (now table) ⌝ }
+    ensures { λ r. ⌜ r ≡ automataOf (now (table .entry)) set ⌝ }
+{
+    words::automata_of(table, set)
+}
+
+fn goal_of(query: Query) -> Goal
+    ensures { λ r. ⌜ r ≡ goalOf query ⌝ }
+{
+    let principal = query.principal;
+    let owner = query.owner;
+    let name = query.name;
+    Goal {
+        principal: principal,
+        role: Role {
+            owner: owner,
+            name: name,
+        },
     }
 }
 
@@ -74,16 +140,7 @@ fn judge(table: &[Number], query: Query, rec: &[Number]) -> Verdict
     let mut nodes = 0;
     let mut every = words::ALL_AUTOMATA;
     let mut refusal = 0;
-    let principal = query.principal;
-    let owner = query.owner;
-    let name = query.name;
-    let goal = Goal {
-        principal: principal,
-        role: Role {
-            owner: owner,
-            name: name,
-        },
-    };
+    let goal = goal_of(query);
     let levels = layout::wide(query.depth);
     let start = StateSets::start(table);
     let rest = reader::read(

@@ -1,10 +1,12 @@
 -- Laws of the tests that definitions are made of. A code's `flag` is what a callee's contract equates with a test p.
-use mathlib.Core.Path.{_≡_, refl, sym, _∙_}
+use mathlib.Core.Path.{_≡_, refl, sym, ap, _∙_}
 use mathlib.Core.Bool.{Bool, true, false, not}
-use Prim.Native.Nat.{ℕ}
+use Prim.Native.Nat.{ℕ, zero, suc, _+_, _<_, _≤_}
 use native.Mathlib.Omega.{arith}
-use borrow.Author.Tests.{not-true, not-false}
-use Rattle.table.specs.Logic.{_and_, _or_}
+use native.Mathlib.Decide.{ℕ-discrete}
+use lib.Dec.{ltb}
+use borrow.Author.Tests.{ltb-false, ltb-true, not-true, not-false}
+use Rattle.table.specs.Logic.{_and_, _or_, anyBelow}
 
 -- what `if !flag { .. }` tells of p, in its body and after it
 pub failed : {flag p : Bool} → flag ≡ p → not flag ≡ true → p ≡ false
@@ -130,3 +132,46 @@ pub same-test : (a b : Bool) → (a ≡ true → b ≡ true) → (b ≡ true →
 same-test true b f g = sym (f refl)
 same-test false true f g = g refl
 same-test false false f g = refl
+
+-- some number below n passes exactly where one can be named
+pub any-shows : (p : ℕ → Bool) (n : ℕ) → anyBelow p n ≡ true → (k : ℕ) × (k < n) × (p k ≡ true)
+unfolding anyBelow
+any-shows p zero h = absurd (false-true h)
+any-shows p (suc n) h =
+    or-either (λ before. let found = any-shows p n before in (found .0, omega (arith, found .1), found .2))
+    (λ here. (n, omega arith, here)) h
+
+pub any-reached : (p : ℕ → Bool) (n k : ℕ) → k < n → p k ≡ true → anyBelow p n ≡ true
+unfolding anyBelow
+any-reached p zero k l h = absurd (omega arith)
+any-reached p (suc n) k l h = go (any-reached p n k) (ℕ-discrete k n)
+  where
+    go : (k < n → p k ≡ true → anyBelow p n ≡ true) → Dec (k ≡ n) → (anyBelow p n or p n) ≡ true
+    go before (yes e) = or-second (anyBelow p n) (sym (ap p e) ∙ h)
+    go before (no e) = or-first (p n) (before (omega arith) h)
+
+pub any-none : (p : ℕ → Bool) (n : ℕ) → ((k : ℕ) → k < n → p k ≡ false) → anyBelow p n ≡ false
+any-none p n none = go (anyBelow p n) refl
+  where
+    go : (b : Bool) → anyBelow p n ≡ b → anyBelow p n ≡ false
+    go true e = let found = any-shows p n e in absurd (false-true (sym (none (found .0) (found .1)) ∙ found .2))
+    go false e = e
+
+pub any-not : (p : ℕ → Bool) (n k : ℕ) → anyBelow p n ≡ false → k < n → p k ≡ false
+any-not p n k h l = go (p k) refl
+  where
+    go : (b : Bool) → p k ≡ b → p k ≡ false
+    go true e = absurd (false-true (sym h ∙ any-reached p n k l e))
+    go false e = e
+
+-- a search in ascending order: nothing from `from` up to `next` passes
+pub any-on : (p : ℕ → Bool) (from next : ℕ) → anyBelow p from ≡ false → ((k : ℕ) → from ≤ k → k < next → p k ≡ false) → anyBelow p next ≡ false
+any-on p from next before none = any-none p next (λ k l. go k l (ltb k from) refl)
+  where
+    go : (k : ℕ) → k < next → (b : Bool) → ltb k from ≡ b → p k ≡ false
+    go k l true e = any-not p from k before (ltb-true k from e)
+    go k l false e = none k (ltb-false k from e) l
+
+pub any-next : (p : ℕ → Bool) (i : ℕ) → anyBelow p i ≡ false → p i ≡ false → anyBelow p (i + 1) ≡ false
+any-next p i before here =
+    any-on p i (i + 1) before (λ k h l. let e : k ≡ i = omega arith in ap p e ∙ here)
