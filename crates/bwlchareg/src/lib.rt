@@ -1,6 +1,7 @@
 // The C interface. A slice is a pointer and a length. Each call returns 0 or document 01's refusal number, and writes the
 // position, or on 0 the value that the call returns: 0 where there is none. bindings/c/bwlchareg.h has the promises in words.
 use derivation::Verdict;
+use listing::Listing;
 use table::Name;
 use table::Principal;
 use table::Query;
@@ -8,9 +9,11 @@ use table::QueryCheck;
 use table::Refusal;
 use table::TableCheck;
 ghost use mathlib.Core.Path.{_≡_};
+ghost use lib.ListN.{length};
 ghost use Rattle.table.specs.Outcome.{Outcome};
 ghost use Rattle.table.specs.Checks.{tableOutcome, requestOutcome, told};
 ghost use Rattle.derivation.specs.Verdict.{verdict};
+ghost use Rattle.listing.specs.Minimal.{bufferAfter, listing};
 ghost use Rattle.bwlchareg.specs.Answer.{answered, asQuery};
 
 // Rows 1 to 7: whether the table is accepted.
@@ -40,6 +43,26 @@ pub extern "C" fn bwlchareg_check_query(
     match table::check_request(table, query) {
         QueryCheck::Valid => accept(0, position),
         QueryCheck::Refused(why) => refuse(why, position),
+    }
+}
+
+// The holder's end: the minimal sets, ascending, in the buffer's first cells. The value is their count.
+#[no_mangle]
+pub extern "C" fn bwlchareg_list(
+    table: &[u16],
+    principal: u16,
+    owner: u16,
+    name: u16,
+    depth: u16,
+    sets: &mut [u32],
+    value: &mut u64,
+) -> u32
+    ensures { λ r. ⌜ (answered r (now (value .exit)) ≡ listing (now (table .entry)) (asQuery principal owner name depth) (length (now (sets .entry)))) × (now (sets .exit) ≡ bufferAfter (now (table .entry)) (asQuery principal owner name depth) (now (sets .entry))) ⌝ }
+{
+    let query = query_of(principal, owner, name, depth);
+    match listing::list(table, query, sets) {
+        Listing::Listed(count) => accept(count as u64, value),
+        Listing::Refused(why) => refuse(why, value),
     }
 }
 

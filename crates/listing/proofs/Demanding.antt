@@ -1,0 +1,162 @@
+-- Demands 1 and 3, proved clause by clause: the minimal sets are `minimalSets t q`, and the buffer's first cells hold them.
+use mathlib.Core.Path.{_≡_, refl, sym, ap, _∙_}
+use mathlib.Core.List.{List}
+use mathlib.Core.Bool.{true}
+use mathlib.Core.Logic.{_↔_, Iff·trans, ⊎-elim}
+use Prim.Native.Nat.{ℕ, _<_, _≤_}
+use native.Mathlib.Omega.{arith}
+use native.Mathlib.Nat.{eq-zero-or-pos}
+use lib.ListN.{getD, length, take}
+use Rattle.table.specs.Outcome.{Outcome, _andThen_}
+use Rattle.table.specs.Outcome.Outcome.{accepted, refused}
+use Rattle.table.specs.Checks.{Valid, WellFormed, requestOutcome, tableOutcome}
+use Rattle.table.specs.declared.Query.{Query}
+use Rattle.table.proofs.WellFormed.{request-accepted}
+use Rattle.automata.specs.Sets.{part}
+use Rattle.automata.proofs.Members.{part-refl}
+use Rattle.derivation.specs.Verdict.{verdict}
+use Rattle.derivation.specs.DemandTwo.{Refuses}
+use Rattle.derivation.proofs.DemandTwo.{every-refusal}
+use Rattle.listing.specs.Minimal.{afterwards, bufferAfter, counted, laid, listing, minimalSets}
+use Rattle.listing.specs.Demands.{Admitted, DemandOne, DemandThree, Demands, Listed, MinimalSets, OneOf, Used}
+use Rattle.listing.specs.Demands.OneOf.{first, second}
+use Rattle.listing.proofs.Ascending.{one-place}
+use Rattle.listing.proofs.Minimals.{admitted-includes, minimal-sets, one-minimal-list}
+use Rattle.listing.proofs.Lists.{laid-at, laid-beyond, laid-fills, laid-length, laid-none}
+use Rattle.listing.proofs.Counting.{accepted-counted, more-counted, none-counted, otherwise-counted}
+use Rattle.listing.proofs.Stopping.{passes-or-stops, request-stage, table-stage}
+
+module _ (t : List ℕ) (wf : WellFormed t) (q : Query) (valid : Valid q) where
+  -- rows 1 to 8 find nothing: the count of minimal sets is told, and they are laid into the buffer
+  listing-counts : (cells : ℕ) → listing t q cells ≡ counted cells (length (minimalSets t q))
+  unfolding listing requestOutcome _andThen_
+  listing-counts cells = rw (wf, valid)
+
+  buffer-laid : (buffer : List ℕ) → bufferAfter t q buffer ≡ laid (minimalSets t q) buffer
+  unfolding bufferAfter afterwards requestOutcome _andThen_
+  buffer-laid buffer = rw (wf, valid)
+
+  module _ (sets : List ℕ) (m : MinimalSets t q sets) where
+    -- there is no minimal set exactly where no record is accepted
+    none-exactly : (length sets ≡ 0) ↔ ((rec : List ℕ) (S : ℕ) → verdict t q rec ≡ accepted S → ⊥)
+    none-exactly = (to, from)
+      where
+        to : length sets ≡ 0 → (rec : List ℕ) (S : ℕ) → verdict t q rec ≡ accepted S → ⊥
+        to z rec S e =
+            let (M, minimal, within) = admitted-includes t wf q valid S (S, (rec, e), part-refl S) in
+            omega (arith, m .every M minimal .1)
+
+        from : ((rec : List ℕ) (S : ℕ) → verdict t q rec ≡ accepted S → ⊥) → length sets ≡ 0
+        from never =
+            ⊎-elim (λ z. z) (λ some. let (rec, e) = m .only 0 some .used in absurd (never rec _ e))
+            (eq-zero-or-pos (length sets))
+
+    -- the minimal sets in the first cells are a list as the document has it
+    laid-listed : (buffer : List ℕ) → length sets ≤ length buffer → Listed t q buffer (laid sets buffer) (length sets)
+    laid-listed buffer room =
+        record {
+          full = λ S small. ((λ (i, l, within). (getD (laid sets buffer) i 0, used-cell i l, within)), includes S);
+          used = used-cell;
+          apart = λ i j l l′ within. one-place sets (m .ascending) i j l l′
+              (m .only j l′ .least _ (m .only i l .used) (rw (cell i l, cell j l′) at within));
+          ascending = λ i j less l. rw (cell i (omega arith), cell j l) (m .ascending i j less l);
+          fits = omega (arith, laid-length sets buffer);
+          size = laid-length sets buffer;
+          beyond = laid-beyond sets buffer room;
+        }
+      where
+        cell : (i : ℕ) → i < length sets → getD (laid sets buffer) i 0 ≡ getD sets i 0
+        cell = laid-at sets buffer room
+
+        used-cell : (i : ℕ) → i < length sets → Used t q (getD (laid sets buffer) i 0)
+        used-cell i l = rw (cell i l) (m .only i l .used)
+
+        includes : (S : ℕ) → Admitted t q S → (i : ℕ) × (i < length sets) × (part (getD (laid sets buffer) i 0) S ≡ true)
+        includes S admitted =
+            let (M, minimal, within) = admitted-includes t wf q valid S admitted in
+            let (i, l, e) = m .every M minimal in
+            (i, l, rw (cell i l, e) within)
+
+demand-three : (t : List ℕ) (q : Query) (buffer : List ℕ) → WellFormed t → Valid q → DemandThree t q buffer
+demand-three t q buffer wf valid =
+    record {
+      sets = sets;
+      minimal = m;
+      none = rw told (Iff·trans (none-counted cells count) (none-exactly t wf q valid sets m));
+      longer = rw told (more-counted cells count);
+      otherwise = rw told (otherwise-counted cells count);
+      listed = rw (told, buffer-laid t wf q valid buffer) (λ v e. whole v (accepted-counted cells count v e));
+    }
+  where
+    sets : List ℕ
+    sets = minimalSets t q
+
+    m : MinimalSets t q sets
+    m = minimal-sets t wf q valid
+
+    cells : ℕ
+    cells = length buffer
+
+    count : ℕ
+    count = length sets
+
+    told : listing t q cells ≡ counted cells count
+    told = listing-counts t wf q valid cells
+
+    whole : (v : ℕ) → (v ≡ count) × (count ≤ cells) → (v ≡ count) × Listed t q buffer (laid sets buffer) v
+    whole v (same, room) = (same, rw same (laid-listed t wf q valid sets m buffer room))
+
+-- where rows 1 to 8 refuse, every call tells that, and the buffer is unchanged
+module _ (t : List ℕ) (q : Query) (number position : ℕ) (e : requestOutcome t q ≡ refused number position) where
+  verdict-stopped : (rec : List ℕ) → verdict t q rec ≡ refused number position
+  unfolding verdict _andThen_
+  verdict-stopped rec = rw e
+
+  listing-stopped : (cells : ℕ) → listing t q cells ≡ refused number position
+  unfolding listing _andThen_
+  listing-stopped cells = rw e
+
+  buffer-stopped : (buffer : List ℕ) → bufferAfter t q buffer ≡ buffer
+  unfolding bufferAfter afterwards
+  buffer-stopped buffer = rw e
+
+-- with 9 nothing is laid
+none-laid : (o : Outcome) (sets buffer : List ℕ) → (o andThen counted (length buffer) (length sets)) ≡ refused 9 0 → afterwards o sets buffer ≡ buffer
+unfolding afterwards _andThen_
+none-laid (accepted v) sets buffer e = laid-none sets buffer (none-counted (length buffer) (length sets) .0 e)
+none-laid (refused number position) sets buffer e = refl
+
+none-unchanged : (t : List ℕ) (q : Query) (buffer : List ℕ) → listing t q (length buffer) ≡ refused 9 0 → bufferAfter t q buffer ≡ buffer
+unfolding listing bufferAfter
+none-unchanged t q buffer e = none-laid (requestOutcome t q) (minimalSets t q) buffer e
+
+-- with 10 the buffer is filled with the first sets of the one list of minimal sets
+first-sets : (t : List ℕ) (q : Query) (buffer : List ℕ) → WellFormed t → Valid q → listing t q (length buffer) ≡ refused 10 0 → (sets : List ℕ) → MinimalSets t q sets → bufferAfter t q buffer ≡ take (length buffer) sets
+first-sets t q buffer wf valid e sets m =
+    let more = more-counted (length buffer) _ .0 (sym (listing-counts t wf q valid (length buffer)) ∙ e) in
+    let same = one-minimal-list t q (minimalSets t q) sets (minimal-sets t wf q valid) m in
+    buffer-laid t wf q valid buffer ∙ laid-fills (minimalSets t q) buffer (omega arith) ∙ ap (take (length buffer)) same
+
+-- a verdict, with what refuses the record where it does
+judged-or-refused : (t : List ℕ) (q : Query) (rec : List ℕ) → WellFormed t → Valid q → (o : Outcome) → verdict t q rec ≡ o → OneOf ((S : ℕ) × (verdict t q rec ≡ accepted S)) ((number position : ℕ) × (verdict t q rec ≡ refused number position) × Refuses t q rec number position)
+judged-or-refused t q rec wf valid (accepted S) e = first (S, e)
+judged-or-refused t q rec wf valid (refused number position) e =
+    second (number, position, e, every-refusal t q rec number position wf valid .0 e)
+
+demand-one : (t : List ℕ) (q : Query) (rec buffer : List ℕ) → DemandOne t q rec buffer
+demand-one t q rec buffer =
+    record {
+      table = passes-or-stops 7 (tableOutcome t) (table-stage 7 t (omega arith)) (λ e. e);
+      request = passes-or-stops 8 (requestOutcome t q) (request-stage 8 t q (omega arith)) (request-accepted t q);
+      stopped = λ number position e. (
+        verdict-stopped t q number position e rec,
+        listing-stopped t q number position e (length buffer),
+        buffer-stopped t q number position e buffer,
+      );
+      verdicts = λ wf valid. judged-or-refused t q rec wf valid (verdict t q rec) refl;
+      unchanged = none-unchanged t q buffer;
+      filled = first-sets t q buffer;
+    }
+
+pub demands : Demands
+demands = (demand-one, demand-three)

@@ -1,0 +1,75 @@
+-- The Boolean `isMinimal` decides what the document calls a minimal set, so that `minimalSets` is the document's list. Every set
+-- within which a record is accepted includes a minimal one.
+use mathlib.Core.Path.{_≡_}
+use mathlib.Core.List.{List}
+use mathlib.Core.Bool.{true}
+use Prim.Native.Nat.{ℕ, _^_, _<_}
+use native.Mathlib.Omega.{arith}
+use Rattle.table.specs.Layout.{credentials}
+use Rattle.table.specs.Checks.{Valid, WellFormed}
+use Rattle.table.specs.declared.Query.{Query}
+use Rattle.automata.specs.Sets.{part}
+use Rattle.automata.proofs.Members.{part-le, part-trans}
+use Rattle.derivation.proofs.DemandTwo.{demand-two}
+use Rattle.listing.specs.Minimal.{admits, isMinimal, minimalSets}
+use Rattle.listing.specs.Demands.{Admitted, Minimal, MinimalSets, Used}
+use Rattle.derivation.proofs.Admitting.{accepted-fits, accepted-provable, provable-accepted}
+use Rattle.listing.proofs.Minimality.{minimal-accepted, minimal-least, minimal-shown, minimal-within}
+use Rattle.listing.proofs.Ascending.{one-list, those-numbers}
+
+-- between the Boolean and the records that the verifier accepts
+module _ (t : List ℕ) (wf : WellFormed t) (q : Query) (valid : Valid q) where
+  -- a used set admits: its record complies with all of its constraints
+  pub used-admits : (S : ℕ) → Used t q S → admits t q S ≡ true
+  unfolding admits
+  used-admits S (rec, e) = accepted-provable t wf q rec S (demand-two t q rec S wf valid .0 e)
+
+  pub admits-admitted : (S : ℕ) → admits t q S ≡ true → Admitted t q S
+  unfolding admits
+  admits-admitted S there =
+      let (rec, T, a, within) = provable-accepted t wf q S there in
+      (T, (rec, demand-two t q rec T wf valid .1 a), within)
+
+  pub used-fits : (S : ℕ) → Used t q S → S < 2 ^ credentials t
+  used-fits S (rec, e) = accepted-fits t q rec S (demand-two t q rec S wf valid .0 e)
+
+  pub minimal-used : (S : ℕ) → isMinimal t q S ≡ true → Used t q S
+  minimal-used S h =
+      let (rec, a) = minimal-accepted t wf q S h in
+      (rec, demand-two t q rec S wf valid .1 a)
+
+  pub is-minimal-set : (S : ℕ) → isMinimal t q S ≡ true → Minimal t q S
+  is-minimal-set S h =
+      record {
+        used = minimal-used S h;
+        least = λ T used within. minimal-least t q S h T within (used-admits T used);
+      }
+
+  -- a lesser part that admits would include a used set, which is another part
+  pub minimal-set-is : (S : ℕ) → Minimal t q S → isMinimal t q S ≡ true
+  minimal-set-is S m =
+      minimal-shown t q S (used-admits S (m .used)) (λ T less within there.
+      let (U, used, inside) = admits-admitted T there in
+      let same = m .least U used (part-trans U T S inside within) in
+      omega (arith, part-le U T inside))
+
+  -- where a record using only credentials of S is accepted, S includes a minimal set
+  pub admitted-includes : (S : ℕ) → Admitted t q S → (M : ℕ) × Minimal t q M × (part M S ≡ true)
+  admitted-includes S (T, used, within) =
+      let (M, minimal, inside) = minimal-within t q T (used-admits T used) in
+      (M, is-minimal-set M minimal, part-trans M T S inside within)
+
+  pub minimal-sets : MinimalSets t q (minimalSets t q)
+  unfolding minimalSets
+  minimal-sets =
+      let all = those-numbers (isMinimal t q) (2 ^ credentials t) in
+      record {
+        only = λ i l. is-minimal-set _ (all .only i l);
+        every = λ S m. all .every S (used-fits S (m .used)) (minimal-set-is S m);
+        ascending = all .ascending;
+      }
+
+-- the minimal sets have one list
+pub one-minimal-list : (t : List ℕ) (q : Query) (xs ys : List ℕ) → MinimalSets t q xs → MinimalSets t q ys → xs ≡ ys
+one-minimal-list t q xs ys m m′ =
+    one-list xs ys (m .ascending) (m′ .ascending) (λ i l. m′ .every _ (m .only i l)) (λ i l. m .every _ (m′ .only i l))

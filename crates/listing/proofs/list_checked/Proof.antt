@@ -1,0 +1,120 @@
+-- `listing::list_checked` meets its contract: the whole block is searched, or there is nothing minimal in it; the count tells the
+-- rest. Assumes nothing.
+use mathlib.Core.Logic.{⊎-elim}
+use Prim.Native.Nat.{_+_, _^_}
+use native.Mathlib.Omega.{arith}
+use borrow.Author.Needs.{needs}
+use denote.Ref.{now}
+use Rattle.table.specs.Checks.{told}
+use Rattle.table.proofs.WellFormed.{wf-sized}
+use Rattle.listing.specs.Minimal.{listingTold}
+use Rattle.listing.specs.Below.{FoundUpTo}
+use Rattle.listing.proofs.Finding.{upto-length, upto-same}
+use Rattle.listing.proofs.Whole.{head-few, head-some, listed-told, longer-told, none-told, start-asked, start-none}
+use Rattle.listing.proofs.list_checked.Statement.{statement}
+use Rattle.listing.proofs.list_checked.Tie as tie
+use Rattle.listing.proofs.list_checked.Reads as reads
+use Rattle.listing.proofs.list_checked.Lts as lts
+use Rattle.listing.proofs.below.Reads as below-reads
+use Rattle.derivation.proofs.provable.Reads as provable-reads
+use Rattle.derivation.proofs.relevant.Reads as relevant-reads
+use Rattle.table.proofs.layout.wide.Reads as wide-reads
+
+shared-slice-read-wide : tie.Need-shared-slice-read-wide
+shared-slice-read-wide c =
+    let pre = c .before .before .before .pre in
+    omega (arith, wf-sized _ (pre .0) .counted .head)
+
+wide-requires : tie.Need-wide-requires
+wide-requires c κs = search needs
+
+cast-all : tie.Need-cast-all
+cast-all c = search needs
+
+shl-all : tie.Need-shl-all
+shl-all c =
+    let args = c .before .before .before .before .args in
+    let pre = c .before .before .before .before .pre in
+    head-few _ (args .query) (pre .0) _ (c .wide .ensures .0)
+
+sub-all : tie.Need-sub-all
+sub-all c =
+    let args = c .before .before .before .before .args in
+    let pre = c .before .before .before .before .pre in
+    head-some _ (args .query) (pre .0) _ (c .wide .ensures .0)
+
+relevant-requires : tie.Need-relevant-requires
+relevant-requires c κs = search needs
+
+provable-requires : tie.Need-provable-requires
+provable-requires c κs = search needs
+
+below-requires : tie.Need-below-requires
+below-requires c κs =
+    let pre = c .before .before .before .before .before .before .before .before .before .pre in
+    let wide = c .before .before .before .before .before .wide in
+    let relevant = c .before .before .before .before .relevant in
+    let provable = c .before .before .before .provable in
+    let if1 = c .before .before .if1 in
+    start-asked _ _ (pre .0) _ (wide .ensures .0) _ (relevant .ensures) (pre .1)
+    (provable .ensures) (if1 .taken) _
+
+-- where the ways meet: the search, or none
+through : (c : lts.Joined1 (wide-reads.Asked, wide-reads.Learnt, relevant-reads.Asked, relevant-reads.Learnt, provable-reads.Asked, provable-reads.Learnt, below-reads.Asked, below-reads.Learnt) reads.Pre reads.Post) → let args = c .before .before .before .before .before .before .before .args in FoundUpTo (now (args .table)) (args .query) (0 + 2 ^ (c .before .before .before .wide .result)) (now (args .sets)) (c .if1 .sets) (c .if1 .found)
+through c =
+    let pre = c .before .before .before .before .before .before .before .pre in
+    let wide = c .before .before .before .wide in
+    let relevant = c .before .before .relevant in
+    ⊎-elim (λ w. upto-same _ _ _ _ _ _ _ _ (w .3 .ensures) (w .6) (w .7))
+    (λ w.
+    let none = start-none _ _ (pre .0) _ (wide .ensures .0) _ (relevant .ensures) (c .before .provable .ensures)
+    (w .0 .left) _ in
+    upto-same _ _ _ _ _ _ _ _ none (w .1) (w .2))
+    (c .if1 .came)
+
+same-length : tie.Need-same-length
+same-length c = upto-length _ _ _ _ _ _ (through (c .before))
+
+returns : tie.Need-returns
+unfolding listingTold told
+returns c =
+    let wide = c .before .before .before .before .wide in
+    none-told _ _ _ (wide .ensures .0) _ _ _ (through (c .before)) (c .if2 .taken)
+
+same-length-2 : tie.Need-same-length-2
+same-length-2 c = upto-length _ _ _ _ _ _ (through (c .before .before))
+
+returns-2 : tie.Need-returns-2
+unfolding listingTold told
+returns-2 c =
+    let wide = c .before .before .before .before .before .wide in
+    longer-told _ _ _ (wide .ensures .0) _ _ _ (through (c .before .before)) (c .if3 .taken)
+
+same-length-3 : tie.Need-same-length-3
+same-length-3 c = upto-length _ _ _ _ _ _ (through (c .before .before))
+
+returns-3 : tie.Need-returns-3
+unfolding listingTold
+returns-3 c =
+    let wide = c .before .before .before .before .before .wide in
+    let if2 = c .before .if2 in
+    listed-told _ _ _ (wide .ensures .0) _ _ _ (through (c .before .before)) (if2 .left) (c .if3 .left)
+
+pub list-checked-spec : {M : Type 1} → statement M
+list-checked-spec =
+    tie.close
+    (tie.spec
+    shared-slice-read-wide
+    wide-requires
+    cast-all
+    shl-all
+    sub-all
+    relevant-requires
+    provable-requires
+    below-requires
+    same-length
+    returns
+    same-length-2
+    returns-2
+    same-length-3
+    returns-3)
