@@ -2,9 +2,7 @@
 use mathlib.Core.Path.{_≡_, refl}
 use mathlib.Core.Bool.{true, false, not}
 use Prim.Native.Nat.{ℕ, _-_, _*_, _/_, _%_, _^_, _≤_}
-use native.Mathlib.Nat.{one-mul, mod-eq-of-lt}
 use native.Mathlib.Omega.{arith}
-use lib.Pow.{pow-lt}
 use lib.ListN.{getD, set}
 use lib.Bits.{bitOr}
 use borrow.Author.Tests.{eq-eqb, ne-eqb}
@@ -16,6 +14,7 @@ use Rattle.table.specs.declared.Edge.{Edge}
 use Rattle.automata.specs.Sets.{inSet}
 use Rattle.automata.specs.Automata.{leads, matches, withEdge}
 use Rattle.automata.specs.declared.StateSets.{StateSets}
+use Rattle.automata.proofs.Members.{one-bit}
 
 module _ (e : Edge) (r : Role) where
   pub label-1 : e .label ≡ 1 → matches e r ≡ sameRole (e .role) r
@@ -34,10 +33,6 @@ module _ (e : Edge) (r : Role) where
   unfolding matches pick
   label-none h1 h2 h3 = rw (ne-eqb (e .label) 1 h1, ne-eqb (e .label) 2 h2, ne-eqb (e .label) 3 h3)
 
--- one bit, as the code makes it: to is a state, so nothing is shifted out of the 16
-pub one-bit : (s : ℕ) → s ≤ lastState → (1 * 2 ^ s) % 2 ^ 16 ≡ 2 ^ s
-one-bit s h = rw (one-mul, mod-eq-of-lt (pow-lt {i = s} {j = 16} (omega arith)))
-
 -- an edge, judged by its own automaton's set: the code has read the automaton's number as w
 module _ (from next : StateSets) (r : Role) (e : Edge) (w : ℕ) (read : w ≡ e .automaton) where
   leads-own : (x : ℕ) → leads (e .automaton) r x e ≡ (inSet x (e .from) and matches e r)
@@ -54,4 +49,4 @@ module _ (from next : StateSets) (r : Role) (e : Edge) (w : ℕ) (read : w ≡ e
 
   pub edge-leads : getD (from .sets) (w - 1) 0 / 2 ^ (e .from) % 2 ≡ 1 → matches e r ≡ true → e .to ≤ lastState → record { sets = set (next .sets) (w - 1) (bitOr (getD (next .sets) (w - 1) 0) ((1 * 2 ^ (e .to)) % 2 ^ 16)) } ≡ withEdge from r e next
   unfolding withEdge inSet _and_ pick
-  edge-leads h on state = rw (read, leads-own, eq-eqb _ 1 (rw read at h), on, one-bit (e .to) state)
+  edge-leads h on state = rw (read, leads-own, eq-eqb _ 1 (rw read at h), on, one-bit 16 (e .to) (omega arith))

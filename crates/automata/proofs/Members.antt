@@ -2,9 +2,9 @@
 -- of states; two sets with the same members are one number.
 use mathlib.Core.Path.{_≡_, refl, sym, ap, _∙_}
 use mathlib.Core.Bool.{Bool, true, false, not}
-use Prim.Native.Nat.{ℕ, zero, suc, _/_, _%_, _^_, _<_, _≤_}
+use Prim.Native.Nat.{ℕ, zero, suc, _*_, _/_, _%_, _^_, _<_, _≤_}
 use native.Mathlib.Omega.{arith}
-use native.Mathlib.Nat.{div-eq-of-lt, div-one, div-div-eq-div-mul, pow-suc, pow-succ'}
+use native.Mathlib.Nat.{div-eq-of-lt, div-one, div-div-eq-div-mul, mod-eq-of-lt, one-mul, pow-suc, pow-succ'}
 use native.Mathlib.Decide.{decLt, ℕ-discrete}
 use lib.Arith.{bin-ind}
 use lib.Bits.{bitAnd, bitOr, and-le-r, and-shr, and-mod, or-lt, or-shr, or-mod}
@@ -214,3 +214,7 @@ below-members x n s few h = go (decLt s n)
         let over : x < 2 ^ s = omega arith in
         let e : x / 2 ^ s ≡ 0 = div-eq-of-lt over in
         absurd (false-true (rw e at h))
+
+-- one bit, as the code makes it: nothing is shifted out of a number's width
+pub one-bit : (width k : ℕ) → k < width → (1 * 2 ^ k) % 2 ^ width ≡ 2 ^ k
+one-bit width k l = rw (one-mul (2 ^ k), mod-eq-of-lt (pow-lt {i = k} {j = width} l))

@@ -23,7 +23,7 @@ use Rattle.automata.specs.Sets.{meets, setOf}
 use Rattle.automata.specs.Automata.{acceptingSet, acceptsFrom, leads, moved, movedBy, movedSets, starting, startingSets, together, withEdge}
 use Rattle.automata.specs.declared.StateSets.{StateSets}
 use Rattle.automata.proofs.Each.{each-ext}
-use Rattle.automata.proofs.Labels.{one-bit}
+use Rattle.automata.proofs.Members.{one-bit}
 
 -- the sets of the first k automata are their starting sets, and the others are empty
 pub record Started (t : List ℕ) (k : ℕ) (l : List ℕ) : Type 0 where
@@ -120,7 +120,7 @@ module _ (t : List ℕ) (s : StateSets) where
   module _ (k : ℕ) (m : Automaton) (read : m ≡ automaton t (k + 1)) where
     pub accepting-more : (bitAnd (getD (s .sets) k 0) (m .accepting) ≡ 0 → ⊥) → k ≤ lastState → bitOr (setOf acceptsAt k) ((1 * 2 ^ k) % 2 ^ 16) ≡ setOf acceptsAt (k + 1)
     unfolding setOf acceptsFrom meets pick
-    accepting-more h few = rw (one-bit k few, add-one k, ne-eqb _ 0 (rw (read, add-one k) at h))
+    accepting-more h few = rw (one-bit 16 k (omega arith), add-one k, ne-eqb _ 0 (rw (read, add-one k) at h))
 
     pub accepting-same : bitAnd (getD (s .sets) k 0) (m .accepting) ≡ 0 → setOf acceptsAt k ≡ setOf acceptsAt (k + 1)
     unfolding setOf acceptsFrom meets pick

@@ -2,16 +2,15 @@
 -- all its automata, and where a set can, some accepted record's used set is a part of it, since its automata are fewer.
 use mathlib.Core.Path.{_≡_, refl, sym, _∙_}
 use mathlib.Core.List.{List, [], _∷_}
-use mathlib.Core.Bool.{Bool, true, false}
-use Prim.Native.Nat.{ℕ, zero, suc, _-_, _/_, _^_, _<_}
+use mathlib.Core.Bool.{true}
+use Prim.Native.Nat.{ℕ, suc, _-_, _^_, _<_}
 use native.Mathlib.Omega.{arith}
-use Rattle.table.specs.Logic.{_and_, pick}
+use Rattle.table.specs.Logic.{_and_}
 use Rattle.table.specs.Layout.{credential, credentials}
 use Rattle.table.specs.Checks.{WellFormed}
 use Rattle.table.specs.declared.Goal.{Goal}
 use Rattle.table.specs.declared.Query.{Query}
-use Rattle.table.proofs.Tests.{false-true}
-use Rattle.automata.specs.Sets.{inSet, part, setOf}
+use Rattle.automata.specs.Sets.{inSet, part}
 use Rattle.automata.proofs.Members.{members-below, part-member, part-refl, part-shown}
 use Rattle.derivation.specs.Rules.{goalOf}
 use Rattle.derivation.specs.Forest.{Derives, Forest, names, usedSet, written}

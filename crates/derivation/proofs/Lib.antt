@@ -13,6 +13,7 @@ pub mod Trying
 pub mod Searching
 pub mod Admitting
 pub mod Bearing
+pub mod Gathering
 pub mod DemandTwo
 pub mod Judged
 pub mod Shop

@@ -5,20 +5,19 @@ use mathlib.Core.Bool.{Bool, true, false, not}
 use mathlib.Core.Option.{Option, none, some}
 use Prim.Native.Nat.{ℕ, zero, suc, _+_, _-_, _/_, _%_, _^_, _<_, _≤_}
 use native.Mathlib.Omega.{arith}
-use native.Mathlib.Decide.{ℕ-discrete}
 use lib.ListN.{getD, length, take}
 use lib.Seq.{length-take-le}
 use lib.Bits.{bitAnd}
 use lib.Dec.{eqb, leb, ltb}
 use mathlib.Core.Logic.{_⊎_, inl, inr}
-use borrow.Author.Tests.{eq-eqb, eqb-true, le-leb, leb-true, leb-false, lt-leb, lt-ltb, le-ltb, ltb-true, ltb-false, ne-eqb}
+use borrow.Author.Tests.{eq-eqb, eqb-true, le-leb, leb-true, lt-leb, lt-ltb, le-ltb, ltb-true, ne-eqb}
 use Rattle.table.specs.Logic.{_and_, _or_, anyBelow, pick}
 use Rattle.table.specs.Limits.{mostPrincipals}
 use Rattle.table.specs.Layout.{credential, credentials, principal, sameRole}
 use Rattle.table.specs.declared.Credential.{Credential}
 use Rattle.table.specs.declared.Goal.{Goal}
 use Rattle.table.specs.declared.Query.{Query}
-use Rattle.table.proofs.Tests.{and-both, and-false, and-first, and-is, and-is-off, and-second, any-next, any-none, any-not, any-on, any-reached, any-shows, false-true, or-either, or-first, or-second}
+use Rattle.table.proofs.Tests.{and-both, and-false, and-first, and-is, and-is-off, and-second, any-next, any-none, any-on, any-reached, any-shows, false-true, or-first, or-second}
 use Rattle.automata.specs.Sets.{inSet, part}
 use Rattle.automata.specs.Automata.{acceptingSet, movedSets, startingSets}
 use Rattle.automata.specs.declared.StateSets.{StateSets}

@@ -4,7 +4,7 @@ use mathlib.Core.Path.{_≡_, refl, sym, ap, _∙_}
 use mathlib.Core.Bool.{Bool, true, false, not}
 use Prim.Native.Nat.{ℕ, zero, suc, _+_, _-_, _*_, _/_, _%_, _^_, _<_, _≤_}
 use native.Mathlib.Omega.{arith}
-use native.Mathlib.Nat.{mod-eq-of-lt, one-mul, pow-suc}
+use native.Mathlib.Nat.{mod-eq-of-lt, pow-suc}
 use lib.Bits.{bitAnd, bitOr, bitXor, and-mask, or-shifted, xor-shr, xor-mod}
 use lib.Pow.{ones-lt, pow-lt, split}
 use lib.Dec.{eqb}
@@ -13,10 +13,6 @@ use Rattle.table.specs.Logic.{_and_, _or_, pick}
 use Rattle.table.proofs.Tests.{and-false, and-is, and-is-off, false-true, or-either}
 use Rattle.automata.specs.Sets.{inSet, meets, part}
 use Rattle.automata.proofs.Members.{below-members, inSet-and, inSet-or, inSet-pow, inSet-zero, meets-common, part-member, part-or-left, part-or-right, part-shown, same-members}
-
--- one credential's set, as the code shifts it
-pub one-bit : (k : ℕ) → k < 32 → (1 * 2 ^ k) % 2 ^ 32 ≡ 2 ^ k
-one-bit k l = rw (one-mul (2 ^ k), mod-eq-of-lt (pow-lt {i = k} {j = 32} l))
 
 own-bit : (k : ℕ) → inSet (2 ^ k) k ≡ true
 own-bit k = inSet-pow k k ∙ eq-eqb k k refl

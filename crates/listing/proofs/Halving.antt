@@ -13,13 +13,13 @@ use Rattle.table.specs.declared.Query.{Query}
 use Rattle.table.proofs.Tests.{and-first, and-is, and-second}
 use Rattle.table.proofs.WellFormed.{wf-sized}
 use Rattle.automata.specs.Sets.{inSet, part}
-use Rattle.automata.proofs.Members.{part-or}
+use Rattle.automata.proofs.Members.{one-bit, part-or}
 use Rattle.derivation.specs.Relevance.{Relevant}
 use Rattle.derivation.specs.Search.{provable}
 use Rattle.derivation.specs.Tally.{automataOf}
 use Rattle.listing.specs.Minimal.{isMinimal}
 use Rattle.listing.specs.Below.{Decided, Found, FoundUpTo, Promising, promising}
-use Rattle.listing.proofs.Blocks.{bit-in, bit-out, bit-part, halves, one-bit, upper-ends, upper-joins}
+use Rattle.listing.proofs.Blocks.{bit-in, bit-out, bit-part, halves, upper-ends, upper-joins}
 use Rattle.listing.proofs.Minimality.{Bare, bare-included, bare-unpromising, bare-unusable, decided-few, decided-in, decided-minimal, decided-out, decided-unusable}
 use Rattle.listing.proofs.Finding.{found-apart, found-ends, found-part, upto-bare, upto-found, upto-full, upto-length, upto-put, upto-then}
 
@@ -74,7 +74,7 @@ module _ (t : List ℕ) (q : Query) (chosen usable next : ℕ) (before : List �
     some = omega arith
 
     bit : bitOf next ≡ 2 ^ (next - 1)
-    bit = one-bit (next - 1) (omega (arith, few))
+    bit = one-bit 32 (next - 1) (omega (arith, few))
 
     -- credential `next` is not usable
     module _ (out : bitAnd usable (bitOf next) ≡ 0) where

@@ -7,7 +7,7 @@ use native.Mathlib.Omega.{arith}
 use native.Mathlib.Decide.{ℕ-discrete}
 use lib.Dec.{ltb}
 use lib.ListN.{drop, getD, length, set, take, drop-of-length-le, length-append, length-drop, length-take, List·getD-append}
-use lib.Seq.{getD-append-add, getD-drop, drop-append-add, drop-drop, getD-append-seam, set-out, set-split, take-all, take-append-le, take-at, take-nil}
+use lib.Seq.{getD-append-add, getD-drop, drop-append-add, drop-drop, set-out, set-split, take-all, take-append-le, take-at, take-nil}
 use borrow.Author.Tests.{ltb-true, ltb-false}
 use Rattle.table.specs.Logic.{pick}
 use Rattle.listing.specs.Minimal.{laid, those}

@@ -1,9 +1,9 @@
 -- Document 01, "The shop example": all rows marked •, those that list and those that judge a record, as one list of inputs and
 -- expected results with one lemma for the list.
 use mathlib.Core.Path.{_≡_, refl}
-use mathlib.Core.List.{List, [], _∷_, _++_}
+use mathlib.Core.List.{List, [], _∷_}
 use Prim.Native.Nat.{ℕ}
-use lib.ListN.{drop, length, take}
+use lib.ListN.{length}
 use Rattle.table.specs.Logic.{_and_, _or_, anyBelow, pick}
 use Rattle.table.specs.Outcome.{Outcome, _andThen_, demand, demandEach}
 use Rattle.table.specs.Outcome.Outcome.{accepted, refused}

@@ -16,14 +16,14 @@ use Rattle.table.specs.declared.Query.{Query}
 use Rattle.table.proofs.Stages.{demand-off, demand-on}
 use Rattle.table.proofs.Tests.{and-is, and-is-off}
 use Rattle.table.proofs.WellFormed.{wf-sized}
-use Rattle.automata.proofs.Members.{inSet-zero, part-member, part-zero}
+use Rattle.automata.proofs.Members.{inSet-zero, one-bit, part-member, part-zero}
 use Rattle.derivation.specs.Relevance.{Relevant}
 use Rattle.derivation.specs.Search.{provable}
 use Rattle.derivation.specs.Tally.{automataOf, automataUpTo}
 use Rattle.listing.specs.Minimal.{afterwards, bufferAfter, counted, laid, minimalSets}
 use Rattle.listing.specs.Below.{Decided, FoundUpTo, promising}
 use Rattle.derivation.proofs.Admitting.{relevant-used}
-use Rattle.listing.proofs.Blocks.{all-below, one-bit, part-all}
+use Rattle.listing.proofs.Blocks.{all-below, part-all}
 use Rattle.listing.proofs.Minimality.{bare-unpromising, minimal-accepted}
 use Rattle.listing.proofs.Finding.{found-ends, found-none, upto-bare}
 use Rattle.listing.proofs.Halving.{Asked, promising-shown}
@@ -47,11 +47,11 @@ module _ (t : List ℕ) (q : Query) (wf : WellFormed t) (n : ℕ) (head : n ≡ 
   head-few = omega (arith, wf-sized t wf .counted .fewCredentials)
 
   pub head-some : 1 ≤ (1 * 2 ^ n) % 2 ^ 32
-  head-some = rw (one-bit n head-few) (omega (arith, pow-pos n))
+  head-some = rw (one-bit 32 n head-few) (omega (arith, pow-pos n))
 
   module _ (usable : ℕ) (relevant : Relevant t q (allOf n) usable) where
     all : allOf n ≡ 2 ^ n - 1
-    all = rw (one-bit n head-few)
+    all = rw (one-bit 32 n head-few)
 
     start-decided : Decided t q 0 usable n
     start-decided =

@@ -8,7 +8,7 @@ use denote.Ref.{now}
 use Rattle.automata.specs.Automata.{moved}
 use Rattle.derivation.proofs.Asking.{Asked}
 use Rattle.derivation.proofs.Keeping.{passed-told, stopped-told}
-use Rattle.derivation.proofs.Onward.{Onward, node-credential, node-facts, node-halts, node-whole, onward-ends, onward-goes, onward-starts, onward-stops, part-behind, part-length, room-below, room-kept}
+use Rattle.derivation.proofs.Onward.{Onward, node-credential, node-facts, node-halts, node-whole, onward-ends, onward-goes, onward-starts, onward-stops, part-behind, room-below, room-kept}
 use Rattle.derivation.proofs.reader.+read.{statement}
 use Rattle.derivation.proofs.reader.+read.Tie.{close}
 use Rattle.derivation.specs.Held.{above}

@@ -2,8 +2,7 @@
 use Prim.Native.Nat.{_-_}
 use native.Mathlib.Omega.{arith}
 use borrow.Author.Needs.{needs}
-use native.Mathlib.Nat.{mod-eq-of-lt, one-mul}
-use lib.Pow.{pow-lt}
+use Rattle.automata.proofs.Members.{one-bit}
 use Rattle.derivation.proofs.reader.with_credential.Statement.{statement}
 use Rattle.derivation.proofs.reader.with_credential.Tie as tie
 
@@ -17,7 +16,7 @@ shl-result : tie.Need-shl-result
 shl-result c = search needs
 
 returns : tie.Need-returns
-returns c = rw (one-mul, mod-eq-of-lt (pow-lt {i = c .args .c - 1} {j = 32} (omega arith)))
+returns c = rw (one-bit 32 (c .args .c - 1) (omega arith))
 
 pub with-credential-spec : {M : Type 1} → statement M
 with-credential-spec = tie.close (tie.spec sub-result cast-result shl-result returns)

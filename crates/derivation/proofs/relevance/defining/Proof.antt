@@ -9,7 +9,7 @@ use denote.Ref.{now}
 use Rattle.table.specs.Layout.{credentials}
 use Rattle.table.proofs.WellFormed.{wf-sized}
 use Rattle.derivation.specs.Relevance.{definers}
-use Rattle.derivation.proofs.Bearing.{definers-more, definers-other, definers-outside, definersTo}
+use Rattle.derivation.proofs.Gathering.{definers-more, definers-other, definers-outside, definersTo}
 use borrow.Author.Needs.{needs}
 use Rattle.derivation.proofs.relevance.defining.Statement.{statement}
 use Rattle.derivation.proofs.relevance.defining.Tie as tie

@@ -5,7 +5,7 @@ use Prim.Native.Nat.{_-_, _≤_}
 use native.Mathlib.Omega.{arith}
 use lib.ListN.{take}
 use Rattle.derivation.specs.Relevance.{allDefined}
-use Rattle.derivation.proofs.Bearing.{defined-next, defined-not}
+use Rattle.derivation.proofs.Gathering.{defined-next, defined-not}
 use borrow.Author.Needs.{needs}
 use Rattle.derivation.proofs.relevance.is_productive.Statement.{statement}
 use Rattle.derivation.proofs.relevance.is_productive.Tie as tie
@@ -50,8 +50,9 @@ loop-again c =
     let asked = c .before .before .before .before .before .roles-asked in
     let loop = c .before .before .before .before .loop in (
       omega arith,
-      defined-next _ _ (asked .result .roles) (loop .i) _ (omega (arith, asked .ensures .few, asked .ensures .room)) _
-          (c .before .defining .ensures) (loop .inv .1) (c .if1 .left),
+      defined-next _ _ (asked .result .roles) (loop .i) _
+          (omega (arith, asked .ensures .few, asked .ensures .room)) _ (c .before .defining .ensures)
+          (loop .inv .1) (c .if1 .left),
     )
 
 returns-2 : tie.Need-returns-2 Inv-loop μ-loop

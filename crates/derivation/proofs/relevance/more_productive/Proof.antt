@@ -8,7 +8,7 @@ use denote.Ref.{now}
 use Rattle.table.specs.Layout.{credentials}
 use Rattle.table.proofs.WellFormed.{wf-sized}
 use Rattle.derivation.specs.Relevance.{Round}
-use Rattle.derivation.proofs.Bearing.{ProductiveTo, chain-whole, productive-more, productive-not, productive-old, round-starts}
+use Rattle.derivation.proofs.Gathering.{ProductiveTo, chain-whole, productive-more, productive-not, productive-old, round-starts}
 use borrow.Author.Needs.{needs}
 use Rattle.derivation.proofs.relevance.more_productive.Statement.{statement}
 use Rattle.derivation.proofs.relevance.more_productive.Tie as tie

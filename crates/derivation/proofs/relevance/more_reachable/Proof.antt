@@ -8,7 +8,7 @@ use denote.Ref.{now}
 use Rattle.table.specs.Layout.{credentials}
 use Rattle.table.proofs.WellFormed.{wf-sized}
 use Rattle.derivation.specs.Relevance.{Round}
-use Rattle.derivation.proofs.Bearing.{ReachedTo, chain-whole, reached-more, reached-outside, round-starts}
+use Rattle.derivation.proofs.Gathering.{ReachedTo, chain-whole, reached-more, reached-outside, round-starts}
 use borrow.Author.Needs.{needs}
 use Rattle.derivation.proofs.relevance.more_reachable.Statement.{statement}
 use Rattle.derivation.proofs.relevance.more_reachable.Tie as tie

@@ -6,7 +6,7 @@ use Prim.Native.Nat.{_-_}
 use Rattle.automata.specs.Sets.{part}
 use Rattle.automata.proofs.Members.{part-zero}
 use Rattle.derivation.specs.Relevance.{Productive, Round}
-use Rattle.derivation.proofs.Bearing.{round-less}
+use Rattle.derivation.proofs.Gathering.{round-less}
 use Rattle.derivation.proofs.relevance.productive.Statement.{statement}
 use Rattle.derivation.proofs.relevance.productive.Tie as tie
 

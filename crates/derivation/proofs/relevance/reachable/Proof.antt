@@ -6,7 +6,8 @@ use Prim.Native.Nat.{_-_}
 use Rattle.automata.specs.Sets.{part}
 use Rattle.automata.proofs.Members.{part-refl, part-trans}
 use Rattle.derivation.specs.Relevance.{Reached, Round}
-use Rattle.derivation.proofs.Bearing.{definers-among, round-less}
+use Rattle.derivation.proofs.Bearing.{definers-among}
+use Rattle.derivation.proofs.Gathering.{round-less}
 use Rattle.derivation.proofs.relevance.reachable.Statement.{statement}
 use Rattle.derivation.proofs.relevance.reachable.Tie as tie
 

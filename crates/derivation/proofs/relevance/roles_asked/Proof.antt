@@ -1,7 +1,8 @@
 -- `derivation::relevance::roles_asked` meets its contract: it goes by kind. Assumes nothing.
 use mathlib.Core.Path.{refl}
 use native.Mathlib.Omega.{arith}
-use Rattle.derivation.proofs.Bearing.{asking-roles, holds-asking, roles-2, roles-3, roles-none}
+use Rattle.derivation.proofs.Bearing.{roles-2, roles-3, roles-none}
+use Rattle.derivation.proofs.Gathering.{asking-roles, holds-asking}
 use borrow.Author.Needs.{needs}
 use Rattle.derivation.proofs.relevance.roles_asked.Statement.{statement}
 use Rattle.derivation.proofs.relevance.roles_asked.Tie as tie

@@ -5,7 +5,7 @@ use Prim.Native.Nat.{_-_, _≤_}
 use native.Mathlib.Omega.{arith}
 use lib.ListN.{take}
 use Rattle.derivation.specs.Relevance.{withDefiners}
-use Rattle.derivation.proofs.Bearing.{with-next}
+use Rattle.derivation.proofs.Gathering.{with-next}
 use borrow.Author.Needs.{needs}
 use Rattle.derivation.proofs.relevance.with_defining.Statement.{statement}
 use Rattle.derivation.proofs.relevance.with_defining.Tie as tie
@@ -44,8 +44,8 @@ loop-again c =
     let asked = c .before .before .before .before .roles-asked in
     let loop = c .before .before .before .loop in (
       omega arith,
-      with-next _ _ (asked .result .roles) (loop .i) _ (omega (arith, asked .ensures .few, asked .ensures .room)) _
-          (c .defining .ensures) _ _ (loop .inv .1),
+      with-next _ _ (asked .result .roles) (loop .i) _
+          (omega (arith, asked .ensures .few, asked .ensures .room)) _ (c .defining .ensures) _ _ (loop .inv .1),
     )
 
 returns : tie.Need-returns Inv-loop μ-loop

@@ -3,7 +3,7 @@ use Prim.Native.Nat.{_-_}
 use native.Mathlib.Omega.{arith}
 use borrow.Author.Needs.{needs}
 use borrow.Author.Tests.{eq-eqb, ne-eqb}
-use Rattle.automata.proofs.Labels.{one-bit}
+use Rattle.automata.proofs.Members.{one-bit}
 use Rattle.table.specs.Layout.{automaton}
 use Rattle.table.specs.Logic.{_and_, pick}
 use Rattle.derivation.proofs.words.with_automaton.Statement.{statement}
@@ -27,7 +27,7 @@ returns-3 : tie.Need-returns-3
 unfolding _and_ pick
 returns-3 c =
     let args = c .before .before .args in
-    rw (eq-eqb _ 1 (c .before .if1 .left), ne-eqb _ 0 (c .if2 .left), one-bit (args .automaton - 1) (omega arith))
+    rw (eq-eqb _ 1 (c .before .if1 .left), ne-eqb _ 0 (c .if2 .left), one-bit 16 (args .automaton - 1) (omega arith))
 
 pub with-automaton-spec : {M : Type 1} → statement M
 with-automaton-spec = tie.close (tie.spec returns returns-2 sub-result shl-result returns-3)
