@@ -3,6 +3,7 @@
 //! - [`valid`], [`damage`], [`noise`]: tables, valid, damaged and blind
 //! - [`queries`]: queries, valid and damaged
 //! - [`policies`], [`constraints`]: tables in which goals can be derived
+//! - [`wallets`], [`listings`]: tables with queries that have minimal sets
 //! - [`growth`], [`claims`]: right records, grown from such tables
 //! - [`wrongs`], [`spoil`], [`misfits`], [`every`]: wrong ones
 //! - [`wide`]: records of very many nodes
@@ -14,6 +15,7 @@ pub mod constraints;
 pub mod damage;
 pub mod every;
 pub mod growth;
+pub mod listings;
 pub mod misfits;
 pub mod noise;
 pub mod places;
@@ -21,6 +23,7 @@ pub mod policies;
 pub mod queries;
 pub mod spoil;
 pub mod valid;
+pub mod wallets;
 pub mod wide;
 pub mod wrongs;
 
