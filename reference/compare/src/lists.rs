@@ -19,6 +19,13 @@ use crate::{library_query, same_refusal};
 const LEAST: u64 = 100_000;
 /// The refusals of the listing call.
 const GREATEST: u32 = 10;
+/// The classes of lists by their count: what they are called, and the least.
+const LENGTHS: [(&str, usize); 4] = [
+    ("list of 1 set", 1),
+    ("list of 2 sets", 2),
+    ("list of 3 to 9 sets", 3),
+    ("list of 10 sets and more", 10),
+];
 /// A listing that takes the reference more steps is passed over.
 const STEPS: u64 = 1_000_000;
 /// The marks of one in so many listings are looked for.
@@ -43,6 +50,7 @@ pub struct Lists {
     differed: u64,
     passed_over: u64,
     answers: BTreeMap<u32, u64>,
+    lengths: BTreeMap<&'static str, u64>,
     sizes: BTreeMap<(Size, u32), u64>,
     sources: BTreeMap<Source, u64>,
     marks: BTreeMap<Mark, u64>,
@@ -59,6 +67,7 @@ impl Lists {
             differed: 0,
             passed_over: 0,
             answers: BTreeMap::new(),
+            lengths: BTreeMap::new(),
             sizes: BTreeMap::new(),
             sources: BTreeMap::new(),
             marks: BTreeMap::new(),
@@ -102,7 +111,10 @@ impl Lists {
         }
         self.agreed += 1;
         let number = match reference.0 {
-            Ok(_) => 0,
+            Ok(count) => {
+                *self.lengths.entry(length(count)).or_default() += 1;
+                0
+            }
             Err(refusal) => refusal.number,
         };
         *self.answers.entry(number).or_default() += 1;
@@ -151,6 +163,10 @@ impl Lists {
             let count = self.answers.get(&number).copied();
             lines.push((outcome(number), count, 1));
         }
+        for (what, _) in LENGTHS {
+            let count = self.lengths.get(what).copied();
+            lines.push((what.into(), count, 1));
+        }
         for size in Size::ALL {
             for &number in size.expected() {
                 let count = self.sizes.get(&(size, number)).copied();
@@ -177,6 +193,13 @@ impl Lists {
         lines.extend(word.map(|(what, count)| (what.into(), Some(count), 1)));
         lines
     }
+}
+
+/// The class of a list with so many sets, at least one.
+fn length(count: usize) -> &'static str {
+    let classes = LENGTHS.into_iter().rev();
+    let mut fitting = classes.filter(|&(_, least)| least <= count);
+    fitting.next().map_or(LENGTHS[0].0, |(what, _)| what)
 }
 
 /// What the reference has to say, unless it takes too long.

@@ -15,8 +15,6 @@ use crate::lists::patience;
 /// Something that a listing can be or have.
 #[derive(Clone, Copy, Debug, PartialEq, Eq, PartialOrd, Ord)]
 pub enum Mark {
-    /// There are so many sets at least, and so many at most.
-    Sets(usize, usize),
     /// A listed set has a credential of this kind.
     Kind(u16),
     /// A listed set has a credential with an automaton.
@@ -48,9 +46,7 @@ pub enum Mark {
 impl Mark {
     /// Every mark that there is.
     pub fn all() -> Vec<Mark> {
-        let mut marks = vec![Mark::Sets(1, 1), Mark::Sets(2, 2), Mark::Sets(3, 9)];
-        marks.push(Mark::Sets(10, usize::MAX));
-        marks.extend([1, 2, 3, 4].map(Mark::Kind));
+        let mut marks: Vec<Mark> = [1, 2, 3, 4].map(Mark::Kind).to_vec();
         marks.extend([Mark::Automaton, Mark::Automata, Mark::UnusedAutomaton]);
         marks.extend([Mark::Sizes, Mark::Needless, Mark::Twenty]);
         marks.extend([Mark::Constrained, Mark::NoneForConstraints, Mark::Larger]);
@@ -68,7 +64,6 @@ impl Mark {
         let used = sets.iter().fold(0, |one, other| one | other);
         let sizes: BTreeSet<u32> = sets.iter().map(|set| set.count_ones()).collect();
         let has = |mark: Mark| match mark {
-            Mark::Sets(least, most) => (least..=most).contains(&sets.len()),
             Mark::Kind(kind) => any(&|uses| uses.kinds.contains(&kind)),
             Mark::Automaton => any(&|uses| !uses.automata.is_empty()),
             Mark::Automata => any(&|uses| uses.automata.len() > 1),
@@ -139,10 +134,6 @@ fn sets(listing: &Listing, table: &Table, depth: u16) -> Vec<u32> {
 impl fmt::Display for Mark {
     fn fmt(&self, out: &mut fmt::Formatter<'_>) -> fmt::Result {
         let words = match self {
-            Mark::Sets(1, 1) => "one set".into(),
-            Mark::Sets(least, most) if least == most => format!("{least} sets"),
-            Mark::Sets(least, usize::MAX) => format!("{least} sets and more"),
-            Mark::Sets(least, most) => format!("{least} to {most} sets"),
             Mark::Kind(kind) => format!("a credential of kind {kind}"),
             Mark::Automaton => "an automaton in a set".into(),
             Mark::Automata => "several automata in a set".into(),

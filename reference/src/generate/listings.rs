@@ -4,7 +4,8 @@ use std::fmt;
 
 use crate::generate::claims::query;
 use crate::generate::growth::Policy;
-use crate::generate::{damage, policies, queries, wallets};
+use crate::generate::wallets::Wallet;
+use crate::generate::{crossed, damage, policies, queries, wallets};
 use crate::query::{Query, DEEPEST};
 use crate::random::Random;
 use crate::records::Records;
@@ -27,6 +28,8 @@ pub enum Source {
     Fixed,
     /// A wallet grown for the query.
     Wallet,
+    /// A wallet with ways from part to part.
+    Crossed,
     /// A table in which many goals can be derived, and one of these goals.
     Policy,
     /// Such a table, and any query.
@@ -41,9 +44,10 @@ pub enum Source {
 
 impl Source {
     /// Every source that there is.
-    pub const ALL: [Source; 7] = [
+    pub const ALL: [Source; 8] = [
         Source::Fixed,
         Source::Wallet,
+        Source::Crossed,
         Source::Policy,
         Source::AnyQuery,
         Source::Table,
@@ -55,7 +59,8 @@ impl Source {
 /// A listing made up at random.
 pub fn made_up(random: &mut Random) -> Listing {
     let source = match random.below(16) {
-        0..=6 => Source::Wallet,
+        0..=5 => Source::Wallet,
+        6 => Source::Crossed,
         7..=11 => Source::Policy,
         12 => Source::AnyQuery,
         13 => Source::Table,
@@ -70,10 +75,8 @@ fn from_source(random: &mut Random, source: Source) -> Listing {
     let (records, mut query) = match source {
         Source::Policy => goal_of_policy(random),
         Source::AnyQuery => (policies::records(random), queries::valid(random)),
-        _ => {
-            let wallet = wallets::made_up(random);
-            (wallet.records, wallet.query)
-        }
+        Source::Crossed => with_query(crossed::made_up(random)),
+        _ => with_query(wallets::made_up(random)),
     };
     let mut table = records.numbers();
     if matches!(source, Source::Table | Source::Both) {
@@ -87,6 +90,11 @@ fn from_source(random: &mut Random, source: Source) -> Listing {
         query,
         source,
     }
+}
+
+/// A wallet's table and its query.
+fn with_query(wallet: Wallet) -> (Records, Query) {
+    (wallet.records, wallet.query)
 }
 
 /// A table in which many goals can be derived, and a query for one of them.
@@ -108,6 +116,7 @@ impl fmt::Display for Source {
         out.pad(match self {
             Source::Fixed => "the same in every run",
             Source::Wallet => "grown wallet",
+            Source::Crossed => "wallet with ways from part to part",
             Source::Policy => "goal of a table with many",
             Source::AnyQuery => "any query",
             Source::Table => "damaged table",

@@ -3,7 +3,8 @@
 //! - [`valid`], [`damage`], [`noise`]: tables, valid, damaged and blind
 //! - [`queries`]: queries, valid and damaged
 //! - [`policies`], [`constraints`]: tables in which goals can be derived
-//! - [`wallets`], [`listings`]: tables with queries that have minimal sets
+//! - [`wallets`], [`crossed`], [`listings`]: tables with queries that have
+//!   minimal sets
 //! - [`growth`], [`claims`]: right records, grown from such tables
 //! - [`wrongs`], [`spoil`], [`misfits`], [`every`]: wrong ones
 //! - [`wide`]: records of very many nodes
@@ -12,6 +13,7 @@
 pub mod chains;
 pub mod claims;
 pub mod constraints;
+pub mod crossed;
 pub mod damage;
 pub mod every;
 pub mod growth;

@@ -12,6 +12,9 @@ use crate::query::{Query, DEEPEST};
 use crate::random::Random;
 use crate::records::{CellRecord, CredentialRecord, Head, Records};
 
+/// So many roles are tried for a premise.
+const TRIES: usize = 4;
+
 /// A table with a query.
 #[derive(Clone, Debug, PartialEq, Eq)]
 pub struct Wallet {
@@ -133,6 +136,9 @@ struct Draft {
     names: Vec<u16>,
     /// Names of which no role is asked for.
     other_names: Vec<u16>,
+    /// Whether the goal asked for last mostly asks for the next one, so that
+    /// derivations become deep.
+    tall: bool,
     credentials: Vec<CredentialRecord>,
     cells: Vec<CellRecord>,
     /// The goals that are asked for, the query's first.
@@ -142,6 +148,7 @@ struct Draft {
 impl Draft {
     /// A draft in which one goal is asked for.
     fn new(random: &mut Random) -> Draft {
+        let tall = random.one_in(4);
         let principals = policies::distinct(random, 6);
         let mut names = policies::distinct(random, 10);
         let other_names = names.split_off(7);
@@ -155,6 +162,7 @@ impl Draft {
             principals,
             names,
             other_names,
+            tall,
             credentials: Vec::new(),
             cells: Vec::new(),
             asked: vec![asked],
@@ -184,7 +192,8 @@ impl Draft {
     fn chosen(&self, random: &mut Random, needed: bool) -> usize {
         let all = 0..self.asked.len();
         let open: Vec<usize> = all.filter(|&index| !self.asked[index].proved).collect();
-        if needed || (!open.is_empty() && !random.one_in(3)) {
+        let again = random.one_in(if self.tall { 12 } else { 3 });
+        if needed || (!open.is_empty() && !again) {
             *random.pick(&open)
         } else {
             random.below(self.asked.len())
@@ -196,6 +205,7 @@ impl Draft {
     fn add(&mut self, random: &mut Random, asked: Asked, new: usize) {
         let before = (self.asked.len(), self.cells.len());
         let added = match random.below(8) {
+            0..=6 if self.tall => self.all_of(random, asked),
             0 => None,
             1 | 2 => self.all_of(random, asked),
             3 | 4 => self.linked(random, asked),
@@ -266,8 +276,9 @@ impl Draft {
             return Some(*random.pick(&known));
         }
         let owner = owner.unwrap_or(*random.pick(&self.principals));
-        let role = (owner, *random.pick(&self.names));
-        self.ask((principal, role), level)
+        let names = [0; TRIES].map(|_| *random.pick(&self.names));
+        let mut roles = names.into_iter().map(|name| (owner, name));
+        roles.find_map(|role| self.ask((principal, role), level))
     }
 
     /// Asks for a goal from a level, and tells its role. There is nothing to
