@@ -21,6 +21,7 @@
 //! - [`listing`]: the minimal sets among that (refusals 9 and 10)
 //! - [`shop`]: the worked example
 //! - [`random`] and [`generate`]: made-up inputs, valid and damaged
+//! - [`stored`]: cases with their expected answers, for other programs
 
 #![forbid(unsafe_code)]
 #![warn(missing_docs)]
@@ -37,6 +38,7 @@ pub mod records;
 pub mod refusal;
 pub mod shop;
 pub mod sorts;
+pub mod stored;
 pub mod table;
 pub mod words;
 

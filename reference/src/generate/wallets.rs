@@ -192,7 +192,7 @@ impl Draft {
     fn chosen(&self, random: &mut Random, needed: bool) -> usize {
         let all = 0..self.asked.len();
         let open: Vec<usize> = all.filter(|&index| !self.asked[index].proved).collect();
-        let again = random.one_in(if self.tall { 12 } else { 3 });
+        let again = random.one_in(if self.tall { 12 } else { 2 });
         if needed || (!open.is_empty() && !again) {
             *random.pick(&open)
         } else {
