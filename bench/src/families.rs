@@ -100,8 +100,7 @@ pub fn ladder() -> Wallet {
     from_records(credentials, Vec::new())
 }
 
-/// The ladder with an automaton on its last credential: words have an even
-/// number of roles, or at most so many.
+/// The ladder with an automaton on the credential that every derivation uses.
 pub fn constrained_ladder(constraint: &Constraint) -> Wallet {
     let mut wallet = ladder();
     let mut random = Random::new(0);

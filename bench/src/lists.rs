@@ -40,9 +40,9 @@ pub fn time_lists(random: &mut Random) {
     report("the shop's T with Q", vec![families::shop(&shop::T)]);
     report("the shop's U with Q", vec![families::shop(&shop::U)]);
     for bearing in [1, 5, 10, 15] {
-        for (place, where_) in [(Place::Low, "low"), (Place::High, "high")] {
+        for (place, numbers) in [(Place::Low, "low"), (Place::High, "high")] {
             let wallets = families::bearing(random, WALLETS, bearing, place);
-            report(&format!("{bearing} of 20 bear, others {where_}"), wallets);
+            report(&format!("{bearing} of 20 bear, others {numbers}"), wallets);
         }
     }
     report("1,000 grown wallets", families::grown(random, 1_000));
@@ -55,12 +55,13 @@ pub fn time_lists(random: &mut Random) {
         report(&what, vec![families::layers(layers)]);
     }
     report("ladder of ten of kind 3", vec![families::ladder()]);
-    for (what, constraint) in [("5", Constraint::at_most(5)), ("9", Constraint::at_most(9))] {
+    let constraints = [
+        ("at most 5 roles", Constraint::at_most(5)),
+        ("role 2.2 nowhere", Constraint::nowhere((2, 2))),
+    ];
+    for (words, constraint) in constraints {
         let ladder = families::constrained_ladder(&constraint);
-        report(
-            &format!("the same, words of at most {what} roles"),
-            vec![ladder],
-        );
+        report(&format!("the same, words: {words}"), vec![ladder]);
     }
 }
 

@@ -73,8 +73,7 @@ uint32_t bwlchareg_verify(const uint16_t *table, size_t table_length,
  * set is a proper part of it. The list has every minimal set once, and nothing else. Minimal does not mean fewest credentials.
  *
  * Cells beyond the count are unchanged. On 10 the buffer is filled with the first sets, ascending; on every other refusal no cell
- * changes, so the buffer is never scratch space. `sets` overlaps neither the table nor the last parameter. The stack is bounded by
- * the depth limit.
+ * changes, so the buffer is never scratch space. `sets` must overlap neither the table nor the last parameter.
  */
 uint32_t bwlchareg_list(const uint16_t *table, size_t table_length,
                         uint16_t principal, uint16_t owner, uint16_t name, uint16_t depth,
