@@ -104,8 +104,8 @@ impl Enumeration<'_> {
             };
             for middle in middles {
                 if let Some(premises) = self.table.premises(goal, number, middle) {
-                    let node = Witness::node(number, middle);
-                    let through = self.through(number, node, &premises, branch, standing)?;
+                    let node = (number, middle);
+                    let through = self.through(node, &premises, branch, standing)?;
                     pairs.add_all(&through, &mut self.patience)?;
                 }
             }
@@ -113,12 +113,11 @@ impl Enumeration<'_> {
         Some(pairs)
     }
 
-    /// The pairs of a goal through one credential. A node without premises is
-    /// of kind 1: a word ends at it.
+    /// The pairs of a goal through one credential, by way of one middle. A node
+    /// without premises is of kind 1: a word ends at it.
     fn through(
         &mut self,
-        credential: u16,
-        node: Witness,
+        (credential, middle): (u16, u16),
         premises: &[Goal],
         branch: &[Role],
         standing: &Standing,
@@ -128,6 +127,7 @@ impl Enumeration<'_> {
             _ => 0,
         };
         let used = 1 << (credential - 1);
+        let node = Witness::node(credential, middle);
         let mut pairs = Pairs::one(Pair { used, rejecting }, node);
         for &premise in premises {
             let below = self.goal(premise, branch, standing)?;

@@ -92,7 +92,7 @@ impl Lists {
         }
         if let Ok(sets) = expected {
             self.word.ask(random, listing, &sets);
-            if self.listings % MARKED == 0 || listing.source == Source::Fixed {
+            if self.listings.is_multiple_of(MARKED) || listing.source == Source::Fixed {
                 for mark in Mark::of(listing, &sets) {
                     *self.marks.entry(mark).or_default() += 1;
                 }

@@ -6,31 +6,23 @@
 //! are rejected, a larger set may do.
 
 use crate::generate::constraints::{self, Constraint};
-use crate::generate::policies;
 use crate::generate::wallets::Wallet;
+use crate::generate::{policies, valid};
 use crate::query::{Query, DEEPEST};
 use crate::random::Random;
 use crate::records::{CredentialRecord, Head, Records};
 
 /// A wallet of this kind, with one automaton or two.
 pub fn made_up(random: &mut Random) -> Wallet {
-    let [principal, owner] = [0, 1].map(|index| policies::distinct(random, 2)[index]);
+    let [principal, owner] = [0; 2].map(|_| valid::one_to_highest(random));
     let parts = random.between(2, 4);
     let names = policies::distinct(random, parts + 1);
     let (name, parts) = names.split_first().expect("a name for the goal");
-    let next = |index: usize| {
-        if index + 1 < parts.len() {
-            index as u16 + 2
-        } else {
-            0
-        }
-    };
-    let cells = parts.iter().enumerate();
+    let nexts = (2..=parts.len() as u16).chain([0]);
+    let cells = parts.iter().zip(nexts);
     let mut records = Records {
         credentials: credentials(random, principal, owner, *name, parts),
-        cells: cells
-            .map(|(index, &part)| [owner, part, next(index)])
-            .collect(),
+        cells: cells.map(|(&part, next)| [owner, part, next]).collect(),
         automata: Vec::new(),
         edges: Vec::new(),
     };
