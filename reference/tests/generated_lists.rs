@@ -16,7 +16,7 @@ use reference::{check, list, verify, Query, Refusal};
 
 const SEED: u64 = 7;
 /// A table is left aside if it takes more steps to find all records.
-const STEPS: usize = 1_000;
+const STEPS: usize = 400;
 
 /// A search for every record, by trying every credential and every middle.
 struct Search<'a> {
