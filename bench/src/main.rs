@@ -3,11 +3,15 @@
 //! Prints the time of one check, as the median of several rounds, for the
 //! shop's table, for the largest table, and for 1,000 valid tables made up at
 //! random; the time of one verdict for the shop's records and for 1,000 grown
-//! ones; and the nodes per second for records of very many nodes. It says how
-//! long things take and judges nothing.
+//! ones; the nodes per second for records of very many nodes; and the time of
+//! one list for several families of tables, where a family of several tables
+//! has its median, 99th percentile and worst. Where the reference takes too
+//! long it gives up. It says how long things take and judges nothing.
 
 #![forbid(unsafe_code)]
 
+mod families;
+mod lists;
 mod timing;
 
 use reference::generate::claims::{Claim, Grown};
@@ -32,6 +36,7 @@ fn main() {
     time_checks(&mut random);
     time_verdicts(&mut random);
     time_nodes();
+    lists::time_lists(&mut random);
 }
 
 /// Prints the header of some lines.

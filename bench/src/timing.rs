@@ -51,7 +51,54 @@ fn time<Input>(inputs: &[Input], passes: u32, call: &impl Fn(&Input) -> bool) ->
     start.elapsed()
 }
 
-/// The middle one of an odd number of values.
+/// So many rounds at most are made of a call that is timed by itself.
+const ROUNDS_ALONE: usize = 5;
+/// No further round is begun once they have lasted so long.
+const LONG: Duration = Duration::from_millis(300);
+
+/// The time of one call in nanoseconds, the median of some rounds that last so
+/// long at the least. There is none if the call gives up. The first call shows
+/// how many there can be in a round, and counts only if it takes very long.
+pub fn alone(round: Duration, call: impl Fn() -> Option<usize>) -> Option<f64> {
+    let start = Instant::now();
+    black_box(call()?);
+    let first = start.elapsed();
+    let passes = round.as_nanos() / first.as_nanos().max(1) + 1;
+    let mut times = Vec::new();
+    while times.len() < ROUNDS_ALONE && start.elapsed() < LONG {
+        let start = Instant::now();
+        for _ in 0..passes {
+            black_box(call());
+        }
+        times.push(start.elapsed().as_nanos() as f64 / passes as f64);
+    }
+    if times.is_empty() {
+        times.push(first.as_nanos() as f64);
+    }
+    Some(median(times))
+}
+
+/// The times of a call on each of some inputs, in nanoseconds, ascending. There
+/// are none if it gives up on one, or if all together take longer than this.
+pub fn each<Input>(
+    limit: Duration,
+    inputs: &[Input],
+    call: impl Fn(&Input) -> Option<usize>,
+) -> Option<Vec<f64>> {
+    let round = ROUND / inputs.len() as u32;
+    let start = Instant::now();
+    let mut times = Vec::new();
+    for input in inputs {
+        times.push(alone(round, || call(black_box(input)))?);
+        if start.elapsed() > limit {
+            return None;
+        }
+    }
+    times.sort_by(f64::total_cmp);
+    Some(times)
+}
+
+/// The middle one of some values, the higher of two.
 fn median(mut values: Vec<f64>) -> f64 {
     values.sort_by(f64::total_cmp);
     values[values.len() / 2]

@@ -63,6 +63,23 @@ uint32_t bwlchareg_verify(const uint16_t *table, size_t table_length,
                           const uint16_t *record, size_t record_length,
                           uint64_t *value);
 
+/* Lists all minimal sets: rows 1 to 8, then 9 and 10. On 0 the value is the count, 1 to sets_length, and the first cells of `sets`,
+ * as many as the count says, hold the sets in ascending order: credential i counts 2^(i-1).
+ *
+ *   9  no minimal set, whatever the buffer's length                                     position 0
+ *  10  more minimal sets than cells                                                     position 0
+ *
+ * A minimal set is the used set of a record that bwlchareg_verify accepts with this table and query, where no accepted record's used
+ * set is a proper part of it. The list has every minimal set once, and nothing else. Minimal does not mean fewest credentials.
+ *
+ * Cells beyond the count are unchanged. On 10 the buffer is filled with the first sets, ascending; on every other refusal no cell
+ * changes, so the buffer is never scratch space. `sets` must overlap neither the table nor the last parameter.
+ */
+uint32_t bwlchareg_list(const uint16_t *table, size_t table_length,
+                        uint16_t principal, uint16_t owner, uint16_t name, uint16_t depth,
+                        uint32_t *sets, size_t sets_length,
+                        uint64_t *value);
+
 #ifdef __cplusplus
 }
 #endif

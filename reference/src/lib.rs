@@ -16,20 +16,29 @@
 //!   13)
 //! - [`words`]: the branches of that tree, and the automata that judge them
 //!   (refusal 14)
+//! - [`pairs`], [`enumeration`]: what all derivations of a goal amount to
+//! - [`patience`]: how long they are looked for
+//! - [`listing`]: the minimal sets among that (refusals 9 and 10)
 //! - [`shop`]: the worked example
 //! - [`random`] and [`generate`]: made-up inputs, valid and damaged
+//! - [`stored`]: cases with their expected answers, for other programs
 
 #![forbid(unsafe_code)]
 #![warn(missing_docs)]
 
 pub mod derivation;
+pub mod enumeration;
 pub mod generate;
+pub mod listing;
+pub mod pairs;
+pub mod patience;
 pub mod query;
 pub mod random;
 pub mod records;
 pub mod refusal;
 pub mod shop;
 pub mod sorts;
+pub mod stored;
 pub mod table;
 pub mod words;
 
@@ -57,4 +66,12 @@ pub fn verify(table: &[u16], query: Query, record: &[u16]) -> Result<u32, Refusa
     let derivation = derivation::Derivation::read(&table, asked, record)?;
     words::comply(&table, &derivation)?;
     Ok(derivation.used_set())
+}
+
+/// Lists the minimal sets for a query in the first cells, ascending: refusals
+/// 1 to 8, then 9 and 10. An accepted list is answered with its count.
+pub fn list(table: &[u16], query: Query, cells: &mut [u32]) -> Result<usize, Refusal> {
+    let table = table::Table::read(table)?;
+    let asked = query.read()?;
+    listing::write(&listing::minimal_sets(&table, asked), cells)
 }

@@ -7,7 +7,7 @@
 use crate::derivation::Derivation;
 use crate::refusal::Refusal;
 use crate::sorts::Role;
-use crate::table::{Table, LAST_STATE};
+use crate::table::{Automaton, Table, LAST_STATE};
 
 /// Judges all words of a derivation, or names the lowest used automaton that
 /// rejects one.
@@ -70,6 +70,38 @@ fn states(set: u16) -> States {
     std::array::from_fn(|state| (set >> state) & 1 == 1)
 }
 
+/// Where each automaton can be after some roles, automaton 1 first. With this
+/// at hand the words of many derivations need not be read from the start.
+#[derive(Clone, Debug, PartialEq, Eq, Hash)]
+pub struct Standing(Vec<States>);
+
+impl Standing {
+    /// Before the first role.
+    pub fn start(table: &Table) -> Standing {
+        let automata = table.automata.iter();
+        Standing(
+            automata
+                .map(|automaton| states(automaton.starting))
+                .collect(),
+        )
+    }
+
+    /// After one role more.
+    pub fn after(&self, table: &Table, role: Role) -> Standing {
+        let numbered = (1u16..).zip(&self.0);
+        let stepped = numbered.map(|(number, &before)| step(table, number, before, role));
+        Standing(stepped.collect())
+    }
+
+    /// The automata that reject the word of these roles: automaton i counts
+    /// 2^(i-1).
+    pub fn rejecting(&self, table: &Table) -> u32 {
+        let each = self.0.iter().zip(&table.automata).enumerate();
+        let rejecting = each.filter(|(_, (reached, automaton))| !meets(reached, automaton));
+        rejecting.map(|(index, _)| 1 << index).sum()
+    }
+}
+
 /// Whether the automaton with this number accepts a word: whether it can end
 /// in an accepting state.
 pub fn accepts(table: &Table, number: u16, word: &[Role]) -> bool {
@@ -78,6 +110,11 @@ pub fn accepts(table: &Table, number: u16, word: &[Role]) -> bool {
     for &role in word {
         reached = step(table, number, reached, role);
     }
+    meets(&reached, automaton)
+}
+
+/// Whether one of these states is an accepting one.
+fn meets(reached: &States, automaton: &Automaton) -> bool {
     let accepting = states(automaton.accepting);
     reached
         .iter()

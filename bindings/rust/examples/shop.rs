@@ -1,9 +1,10 @@
 //! The shop example of document 01 through the static library: its two tables are
-//! checked, with one that has a mistake in it, and a proof record is verified.
+//! checked, with one that has a mistake in it, a proof record is verified, and
+//! the minimal sets are listed.
 
 use std::fmt::Debug;
 
-use bwlchareg::{check, check_query, verify, Query, Refusal};
+use bwlchareg::{check, check_query, list, verify, Query, Refusal};
 
 /// Principals Shop 1, School 2, Ann 4; names discount 1, student 2, accredited 3.
 const T: [u16; 28] = [
@@ -71,4 +72,18 @@ fn main() {
         "record R with table T, depth 1",
         verify(&T, Query { depth: 1, ..Q }, &R),
     );
+
+    tell("minimal sets of table T", sets(&T, Q));
+    tell("minimal sets of table U", sets(&U, Q));
+    tell(
+        "minimal sets of table T for School",
+        sets(&T, Query { principal: 2, ..Q }),
+    );
+}
+
+/// All minimal sets, if there are no more than ten.
+fn sets(table: &[u16], query: Query) -> Result<Vec<u32>, Refusal> {
+    let mut cells = [0; 10];
+    let count = list(table, query, &mut cells)?;
+    Ok(cells[..count].to_vec())
 }

@@ -28,10 +28,22 @@ extern "C" {
         record_length: usize,
         value: *mut u64,
     ) -> u32;
+
+    fn bwlchareg_list(
+        table: *const u16,
+        table_length: usize,
+        principal: u16,
+        owner: u16,
+        name: u16,
+        depth: u16,
+        sets: *mut u32,
+        sets_length: usize,
+        value: *mut u64,
+    ) -> u32;
 }
 
-/// A value that the library never gives, as a position or as a used set. A
-/// call starts with it, so that a value left unwritten is noticed.
+/// A value that the library never gives, as a position, as a used set or as a
+/// count. A call starts with it, so that a value left unwritten is noticed.
 const UNWRITTEN: u64 = u64::MAX;
 
 /// Checks a table: refusals 1 to 7.
@@ -84,6 +96,33 @@ pub fn verify(table: &[u16], query: Query, record: &[u16]) -> Result<u32, Refusa
     verdict(number, value)
 }
 
+/// Lists all minimal sets for a query, ascending, in the first of the lent
+/// cells: refusals 1 to 8, then 9 if there is no minimal set and 10 if there
+/// are more than cells. An accepted list is answered with its count; in a set
+/// credential i counts 2^(i-1).
+///
+/// Cells beyond the count are unchanged. On 10 all cells are filled with the
+/// first sets; on every other refusal none changes.
+pub fn list(table: &[u16], query: Query, cells: &mut [u32]) -> Result<usize, Refusal> {
+    let mut value = UNWRITTEN;
+    // SAFETY: as for `check_query`; the cells are a slice that is borrowed for
+    // this call alone, of which the library writes no more than its length.
+    let number = unsafe {
+        bwlchareg_list(
+            table.as_ptr(),
+            table.len(),
+            query.principal,
+            query.owner,
+            query.name,
+            query.depth,
+            cells.as_mut_ptr(),
+            cells.len(),
+            &mut value,
+        )
+    };
+    count(number, value, cells.len())
+}
+
 /// The answer that a result number and a position stand for.
 ///
 /// Accepted is number 0 with position 0 and nothing else, so a library that
@@ -109,14 +148,30 @@ fn verdict(number: u32, value: u64) -> Result<u32, Refusal> {
     }
 }
 
+/// The answer to a listing that a result number and a value stand for.
+///
+/// Accepted is number 0 with a count of 1 to as many as there are cells and
+/// nothing else, so a library that left the value unwritten, or counts more
+/// sets than it was lent cells for, is never taken to have made a list.
+fn count(number: u32, value: u64, cells: usize) -> Result<usize, Refusal> {
+    match (number, usize::try_from(value)) {
+        (0, Ok(count)) if (1..=cells).contains(&count) => Ok(count),
+        (number, _) => Err(Refusal {
+            number,
+            position: value,
+        }),
+    }
+}
+
 #[cfg(test)]
 mod tests {
-    use super::{answer, verdict, UNWRITTEN};
+    use super::{answer, count, verdict, UNWRITTEN};
 
     #[test]
     fn a_value_left_unwritten_is_never_accepted() {
         assert!(answer(0, UNWRITTEN).is_err());
         assert!(verdict(0, UNWRITTEN).is_err());
+        assert!(count(0, UNWRITTEN, usize::MAX - 1).is_err());
     }
 
     #[test]
@@ -124,5 +179,15 @@ mod tests {
         let refusal = verdict(11, 3).unwrap_err();
         assert_eq!((refusal.number, refusal.position), (11, 3));
         assert_eq!(verdict(0, 3), Ok(3));
+    }
+
+    #[test]
+    fn a_count_is_never_more_than_the_cells() {
+        assert_eq!(count(0, 3, 3), Ok(3));
+        assert_eq!(count(0, 1, 3), Ok(1));
+        assert!(count(0, 4, 3).is_err());
+        assert!(count(0, 0, 3).is_err());
+        let refusal = count(10, 0, 3).unwrap_err();
+        assert_eq!((refusal.number, refusal.position), (10, 0));
     }
 }

@@ -4,7 +4,9 @@
 //! credentials, part cells, automata and edges. [`check`] says whether it is
 //! accepted; [`check_query`] says the same of a table and a query together.
 //! [`verify`] says whether a proof record, two numbers for each node, derives
-//! what is queried and complies with every automaton that it uses.
+//! what is queried and complies with every automaton that it uses. [`list`]
+//! gives all minimal sets: the used sets of accepted records, but for those
+//! that have another one as a proper part.
 //!
 //! ```
 //! // Shop 1, School 2, Ann 4; discount 1, student 2, accredited 3.
@@ -24,6 +26,11 @@
 //! // Ann has Shop's discount as a student of School: credentials 1, 2, 3.
 //! let query = bwlchareg::Query { depth: 2, ..query };
 //! assert_eq!(bwlchareg::verify(&table, query, &[1, 2, 2, 0, 3, 0]), Ok(0b111));
+//!
+//! // Those three, or credential 4 alone: no other set has nothing needless.
+//! let mut cells = [0; 4];
+//! assert_eq!(bwlchareg::list(&table, query, &mut cells), Ok(2));
+//! assert_eq!(cells, [0b111, 0b1000, 0, 0]);
 //! ```
 
 #![deny(unsafe_code)]
@@ -32,7 +39,7 @@
 mod ffi;
 mod refusal;
 
-pub use ffi::{check, check_query, verify};
+pub use ffi::{check, check_query, list, verify};
 pub use refusal::Refusal;
 
 /// What is asked of a table: is the principal in the role `owner.name`, by a

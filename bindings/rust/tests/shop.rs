@@ -1,6 +1,6 @@
 //! The calls through the library, on the shop example.
 
-use bwlchareg::{check, check_query, verify, Query, Refusal};
+use bwlchareg::{check, check_query, list, verify, Query, Refusal};
 
 const T: [u16; 28] = [
     4, 0, 0, 0, //
@@ -69,6 +69,7 @@ fn each_query_field_arrives_in_its_place() {
         change(&mut query);
         assert_eq!(check_query(&T, query), refused(8, position));
         assert_eq!(verify(&T, query, &R), refused(8, position));
+        assert_eq!(list(&T, query, &mut [0]), refused(8, position));
     }
 }
 
@@ -96,4 +97,43 @@ fn empty_slices_are_judged() {
 fn the_table_is_told_from_the_record() {
     assert_eq!(verify(&R, Q, &T), refused(3, 0));
     assert_eq!(verify(&T[..27], Q, &R), refused(3, 0));
+}
+
+/// What a cell holds before a listing. No set is so great.
+const BEFORE: u32 = u32::MAX;
+
+/// The answer with a buffer of `CELLS` cells, and the cells after the call.
+fn listed<const CELLS: usize>(
+    table: &[u16],
+    query: Query,
+) -> (Result<usize, Refusal>, [u32; CELLS]) {
+    let mut cells = [BEFORE; CELLS];
+    let answer = list(table, query, &mut cells);
+    (answer, cells)
+}
+
+#[test]
+fn lists_of_the_shop_are_made() {
+    let shallow = Query { depth: 1, ..Q };
+    let student = Query {
+        owner: 2,
+        name: 2,
+        ..shallow
+    };
+    assert_eq!(listed(&T, Q), (Ok(2), [7, 8, BEFORE]));
+    assert_eq!(listed(&T, Q), (Ok(2), [7, 8]));
+    assert_eq!(listed(&T, shallow), (Ok(1), [8, BEFORE]));
+    assert_eq!(listed(&U, Q), (Ok(1), [8, BEFORE]));
+    assert_eq!(listed(&U, student), (Ok(1), [4, BEFORE]));
+}
+
+#[test]
+fn a_refused_listing_leaves_the_cells_but_for_10() {
+    assert_eq!(listed(&T, Q), (refused(10, 0), [7]));
+    assert_eq!(listed(&T, Q), (refused(10, 0), []));
+    assert_eq!(listed(&[0; 4], Q), (refused(9, 0), []));
+    assert_eq!(listed(&[0; 4], Q), (refused(9, 0), [BEFORE; 2]));
+    assert_eq!(listed(&T[..27], Q), (refused(3, 0), [BEFORE; 2]));
+    let deep = Query { depth: 17, ..Q };
+    assert_eq!(listed(&T, deep), (refused(8, 4), [BEFORE; 2]));
 }

@@ -6,6 +6,8 @@ const SEED: u64 = 2015;
 const COUNT: u64 = 200_000;
 /// The number of made-up records if none is given.
 const RECORDS: u64 = 100_000;
+/// The number of made-up listings if none is given.
+const LISTS: u64 = 105_000;
 
 /// The seed of the made-up inputs, and how many there are.
 #[derive(Debug, PartialEq, Eq)]
@@ -17,6 +19,8 @@ pub struct Arguments {
     /// How many records are grown, beside the fixed ones. Each is compared
     /// as it is, and then spoiled in several ways.
     pub records: u64,
+    /// How many listings are made up, beside the fixed ones.
+    pub lists: u64,
 }
 
 impl Arguments {
@@ -26,12 +30,14 @@ impl Arguments {
             seed: SEED,
             count: COUNT,
             records: RECORDS,
+            lists: LISTS,
         };
         while let Some(word) = words.next() {
             let field = match word.as_str() {
                 "--seed" => &mut arguments.seed,
                 "--count" => &mut arguments.count,
                 "--records" => &mut arguments.records,
+                "--lists" => &mut arguments.lists,
                 _ => return Err(format!("unknown argument {word}")),
             };
             let number = words.next().ok_or(format!("{word} lacks its number"))?;
@@ -45,26 +51,29 @@ impl Arguments {
 
 #[cfg(test)]
 mod tests {
-    use super::{Arguments, COUNT, RECORDS, SEED};
+    use super::{Arguments, COUNT, LISTS, RECORDS, SEED};
 
     fn read(line: &str) -> Result<Arguments, String> {
         Arguments::read(line.split_whitespace().map(String::from))
     }
 
-    fn arguments(seed: u64, count: u64, records: u64) -> Result<Arguments, String> {
+    fn arguments([seed, count, records, lists]: [u64; 4]) -> Result<Arguments, String> {
         Ok(Arguments {
             seed,
             count,
             records,
+            lists,
         })
     }
 
     #[test]
     fn arguments_are_read() {
-        assert_eq!(read(""), arguments(SEED, COUNT, RECORDS));
-        assert_eq!(read("--seed 3"), arguments(3, COUNT, RECORDS));
-        assert_eq!(read("--count 9 --seed 3"), arguments(3, 9, RECORDS));
-        assert_eq!(read("--records 9"), arguments(SEED, COUNT, 9));
+        assert_eq!(read(""), arguments([SEED, COUNT, RECORDS, LISTS]));
+        assert_eq!(read("--seed 3"), arguments([3, COUNT, RECORDS, LISTS]));
+        let several = read("--count 9 --seed 3");
+        assert_eq!(several, arguments([3, 9, RECORDS, LISTS]));
+        assert_eq!(read("--records 9"), arguments([SEED, COUNT, 9, LISTS]));
+        assert_eq!(read("--lists 9"), arguments([SEED, COUNT, RECORDS, 9]));
     }
 
     #[test]

@@ -74,18 +74,18 @@ impl Feature {
 
 /// What a record uses of its table.
 #[derive(Default)]
-struct Uses {
+pub struct Uses {
     /// The kinds of its credentials.
-    kinds: BTreeSet<u16>,
+    pub kinds: BTreeSet<u16>,
     /// The automata attached to its credentials.
-    automata: BTreeSet<u16>,
+    pub automata: BTreeSet<u16>,
     /// The automata attached only to other credentials.
-    other_automata: BTreeSet<u16>,
+    pub other_automata: BTreeSet<u16>,
 }
 
 impl Uses {
     /// What is used by a record with this used set.
-    fn of(table: &Table, used_set: u32) -> Uses {
+    pub fn of(table: &Table, used_set: u32) -> Uses {
         let mut uses = Uses::default();
         for (index, credential) in table.credentials.iter().enumerate() {
             if (used_set >> index) & 1 == 1 {

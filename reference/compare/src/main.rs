@@ -1,27 +1,36 @@
 //! Compares the library with the reference on fixed and on made-up inputs.
 //!
-//! `compare [--seed N] [--count N] [--records N]`: the seed of the made-up
-//! inputs, how many tables are made up, and how many records, beside the fixed
-//! ones. Every table is given to the table call, and with a query to the query
-//! call. Every record, and several spoiled forms of it, is given to the
-//! verifying call. The last line printed is `N passed, M failed`; the exit
-//! status tells whether any failed.
+//! `compare [--seed N] [--count N] [--records N] [--lists N]`: the seed of the
+//! made-up inputs, how many tables are made up, how many records, and how many
+//! listings, beside the fixed ones. Every table is given to the table call, and
+//! with a query to the query call. Every record, and several spoiled forms of
+//! it, is given to the verifying call. Every listing is given to the listing
+//! call with a buffer, and the verifier is asked about what it lists. The last
+//! line printed is `N passed, M failed`; the exit status tells whether any
+//! failed.
 
 #![forbid(unsafe_code)]
 
 mod arguments;
+mod buffers;
 mod cases;
 mod claims;
 mod features;
+mod listings;
+mod lists;
+mod marks;
 mod report;
 mod tally;
 mod verdicts;
+mod word;
 
 use std::process::ExitCode;
 
 use arguments::Arguments;
+use buffers::Size;
 use cases::Case;
 use claims::Submitted;
+use lists::Lists;
 use reference::random::Random;
 use reference::Refusal;
 use report::Outcome;
@@ -37,12 +46,14 @@ fn main() -> ExitCode {
     let arguments = match Arguments::read(std::env::args().skip(1)) {
         Ok(arguments) => arguments,
         Err(message) => {
-            eprintln!("{message}\nusage: compare [--seed N] [--count N] [--records N]");
+            let usage = "compare [--seed N] [--count N] [--records N] [--lists N]";
+            eprintln!("{message}\nusage: {usage}");
             return ExitCode::from(2);
         }
     };
     println!("seed {}", arguments.seed);
-    let outcome = compare_tables(&arguments) + compare_records(&arguments);
+    let outcome =
+        compare_tables(&arguments) + compare_records(&arguments) + compare_lists(&arguments);
     println!("{} passed, {} failed", outcome.passed, outcome.failed);
     if outcome.failed == 0 {
         ExitCode::SUCCESS
@@ -71,6 +82,20 @@ fn compare_records(arguments: &Arguments) -> Outcome {
         compare_verdicts(&submitted, &mut verdicts)
     });
     verdicts.report()
+}
+
+/// Compares the listing call: the fixed listings with every size of buffer, the
+/// others with one.
+fn compare_lists(arguments: &Arguments) -> Outcome {
+    let mut lists = Lists::new(arguments.seed);
+    let mut random = Random::new(0);
+    listings::fixed(&mut |listing| lists.compare(&mut random, &listing, &Size::ALL));
+    let mut random = Random::new(arguments.seed);
+    listings::made_up(&mut random, arguments.lists, &mut |random, listing| {
+        let size = *random.pick(&Size::ALL);
+        lists.compare(random, &listing, &[size])
+    });
+    lists.report()
 }
 
 /// Makes the table call and the query call on both sides.

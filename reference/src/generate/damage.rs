@@ -2,6 +2,7 @@
 //! records than allowed, or two of these at once.
 
 use crate::generate::chains::with_chain;
+use crate::generate::noise;
 use crate::generate::places::{fields, Field, Place};
 use crate::random::Random;
 use crate::records::{Head, Records};
@@ -159,6 +160,23 @@ pub fn chain(random: &mut Random, records: &Records) -> Option<Damaged> {
         table: records.numbers(),
         place: Place::Chain,
     })
+}
+
+/// A table made of these records by any of the damages here, or noise in its
+/// place. Some damages leave a table accepted.
+pub fn any(random: &mut Random, records: &Records) -> Vec<u16> {
+    match random.below(16) {
+        0 => noise::table(random),
+        1 => noise::stump(random),
+        2 => scattered(random, records),
+        3 => pair(random, records).0,
+        4 => length(random, records).table,
+        5 | 6 => match chain(random, records) {
+            Some(damaged) => damaged.table,
+            None => records.numbers(),
+        },
+        _ => field(random, records).table,
+    }
 }
 
 /// The records with several fields, anywhere behind the head, given one of

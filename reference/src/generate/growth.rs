@@ -1,7 +1,7 @@
 //! Derivations grown from a table: what can be derived in it, and a record
 //! that does so.
 
-use std::collections::BTreeMap;
+use std::collections::{BTreeMap, BTreeSet};
 
 use crate::query::DEEPEST;
 use crate::random::Random;
@@ -96,10 +96,11 @@ impl Policy {
 
     /// The goals that can be derived in so many levels but not in fewer.
     fn derivable(&self, levels: u16) -> Vec<Goal> {
+        let credentials = self.table.credentials.iter();
+        let roles: BTreeSet<Role> = credentials.map(|credential| credential.role).collect();
         let mut goals = Vec::new();
-        for credential in &self.table.credentials {
+        for role in roles {
             for &principal in &self.members {
-                let role = credential.role;
                 let goal = Goal { principal, role };
                 if !self.is_derivable(goal) && !self.ways(goal, levels).is_empty() {
                     goals.push(goal);

@@ -3,6 +3,8 @@
 //! - [`valid`], [`damage`], [`noise`]: tables, valid, damaged and blind
 //! - [`queries`]: queries, valid and damaged
 //! - [`policies`], [`constraints`]: tables in which goals can be derived
+//! - [`wallets`], [`crossed`], [`listings`]: tables with queries that have
+//!   minimal sets
 //! - [`growth`], [`claims`]: right records, grown from such tables
 //! - [`wrongs`], [`spoil`], [`misfits`], [`every`]: wrong ones
 //! - [`wide`]: records of very many nodes
@@ -11,9 +13,11 @@
 pub mod chains;
 pub mod claims;
 pub mod constraints;
+pub mod crossed;
 pub mod damage;
 pub mod every;
 pub mod growth;
+pub mod listings;
 pub mod misfits;
 pub mod noise;
 pub mod places;
@@ -21,6 +25,7 @@ pub mod policies;
 pub mod queries;
 pub mod spoil;
 pub mod valid;
+pub mod wallets;
 pub mod wide;
 pub mod wrongs;
 

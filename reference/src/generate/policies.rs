@@ -277,7 +277,7 @@ impl Draft {
 /// So many principals or names, no two the same. The ends of the range and
 /// small numbers come often, so that a principal and a name, or a number of
 /// another sort, are easily the same number.
-fn distinct(random: &mut Random, count: u16) -> Vec<u16> {
+pub fn distinct(random: &mut Random, count: u16) -> Vec<u16> {
     let mut numbers = Vec::new();
     while numbers.len() < usize::from(count) {
         let number = valid::one_to_highest(random);

@@ -31,6 +31,19 @@ pub fn damaged(random: &mut Random) -> (Query, Place) {
     (with_value(query, index, value), Place::QUERY[index])
 }
 
+/// A query of which one field has been given such a value, or another one of
+/// which several fields are out of range.
+pub fn spoiled(random: &mut Random, query: Query) -> Query {
+    match random.below(4) {
+        0 => several(random),
+        _ => {
+            let index = random.below(4);
+            let value = *random.pick(&values(Query::LIMITS[index]));
+            with_value(query, index, value)
+        }
+    }
+}
+
 /// A query with any of its fields out of range.
 pub fn several(random: &mut Random) -> Query {
     let numbers = Query::LIMITS.map(|limit| match random.below(2) {

@@ -5,8 +5,8 @@ use crate::generate::misfits::{
     broken, middle_of_kind, no_member, other_goal, other_principal, other_role, repeated, too_deep,
 };
 use crate::generate::wrongs::{Part, Value, Wrong};
-use crate::generate::{damage, noise, queries};
-use crate::query::{Query, DEEPEST};
+use crate::generate::{damage, queries};
+use crate::query::DEEPEST;
 use crate::random::Random;
 use crate::sorts::{Goal, HIGHEST};
 use crate::table::{Members, Table};
@@ -211,21 +211,8 @@ fn likely_node(random: &mut Random, table: &Table, goal: Goal) -> (u16, u16) {
 
 /// The record with a damaged table. Some damages leave a table accepted.
 fn with_table(random: &mut Random, grown: &Grown) -> Claim {
-    let records = &grown.records;
-    let table = match random.below(16) {
-        0 => noise::table(random),
-        1 => noise::stump(random),
-        2 => damage::scattered(random, records),
-        3 => damage::pair(random, records).0,
-        4 => damage::length(random, records).table,
-        5 | 6 => match damage::chain(random, records) {
-            Some(damaged) => damaged.table,
-            None => records.numbers(),
-        },
-        _ => damage::field(random, records).table,
-    };
     Claim {
-        table,
+        table: damage::any(random, &grown.records),
         ..grown.claim()
     }
 }
@@ -233,15 +220,7 @@ fn with_table(random: &mut Random, grown: &Grown) -> Claim {
 /// The record with a query of which one field is out of range, or several.
 fn with_query(random: &mut Random, grown: &Grown) -> Claim {
     let mut claim = grown.claim();
-    claim.query = match random.below(4) {
-        0 => queries::several(random),
-        _ => {
-            let mut numbers = claim.query.numbers();
-            let index = random.below(4);
-            numbers[index] = *random.pick(&queries::values(Query::LIMITS[index]));
-            Query::from_numbers(numbers)
-        }
-    };
+    claim.query = queries::spoiled(random, claim.query);
     claim
 }
 

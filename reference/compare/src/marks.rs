@@ -1,0 +1,153 @@
+//! What listings are like whose table and query are valid.
+
+use std::collections::BTreeSet;
+use std::fmt;
+
+use reference::generate::listings::Listing;
+use reference::listing::{minimal_sets_within, Minimal};
+use reference::pairs::is_part;
+use reference::query::DEEPEST;
+use reference::table::Table;
+
+use crate::features::Uses;
+use crate::lists::patience;
+
+/// Something that a listing can be or have.
+#[derive(Clone, Copy, Debug, PartialEq, Eq, PartialOrd, Ord)]
+pub enum Mark {
+    /// A listed set has a credential of this kind.
+    Kind(u16),
+    /// A listed set has a credential with an automaton.
+    Automaton,
+    /// A listed set has credentials with several automata.
+    Automata,
+    /// There is an automaton on a credential of no listed set.
+    UnusedAutomaton,
+    /// Two listed sets have different numbers of credentials.
+    Sizes,
+    /// A credential is in no listed set.
+    Needless,
+    /// Credential 20 is in a listed set.
+    Twenty,
+    /// Without automata there would be other sets.
+    Constrained,
+    /// There is no set, but without automata there would be one.
+    NoneForConstraints,
+    /// Without automata a proper part of a listed set would do.
+    Larger,
+    /// With a depth limit one lower there would be other sets.
+    Deep,
+    /// So it is with the highest depth limit.
+    Deepest,
+    /// There is no set, but there would be one if the limit were one higher.
+    NoneForDepth,
+}
+
+impl Mark {
+    /// Every mark that there is.
+    pub fn all() -> Vec<Mark> {
+        let mut marks: Vec<Mark> = [1, 2, 3, 4].map(Mark::Kind).to_vec();
+        marks.extend([Mark::Automaton, Mark::Automata, Mark::UnusedAutomaton]);
+        marks.extend([Mark::Sizes, Mark::Needless, Mark::Twenty]);
+        marks.extend([Mark::Constrained, Mark::NoneForConstraints, Mark::Larger]);
+        marks.extend([Mark::Deep, Mark::Deepest, Mark::NoneForDepth]);
+        marks
+    }
+
+    /// The marks of a listing with these minimal sets.
+    pub fn of(listing: &Listing, sets: &[Minimal]) -> Vec<Mark> {
+        let table = Table::read(&listing.table).expect("an accepted table");
+        let sets: Vec<u32> = sets.iter().map(|minimal| minimal.set).collect();
+        let uses: Vec<Uses> = sets.iter().map(|&set| Uses::of(&table, set)).collect();
+        let others = Others::of(listing, &table);
+        let any = |holds: &dyn Fn(&Uses) -> bool| uses.iter().any(holds);
+        let used = sets.iter().fold(0, |one, other| one | other);
+        let sizes: BTreeSet<u32> = sets.iter().map(|set| set.count_ones()).collect();
+        let has = |mark: Mark| match mark {
+            Mark::Kind(kind) => any(&|uses| uses.kinds.contains(&kind)),
+            Mark::Automaton => any(&|uses| !uses.automata.is_empty()),
+            Mark::Automata => any(&|uses| uses.automata.len() > 1),
+            Mark::UnusedAutomaton => !Uses::of(&table, used).other_automata.is_empty(),
+            Mark::Sizes => sizes.len() > 1,
+            Mark::Needless => {
+                !sets.is_empty() && used.count_ones() < table.credentials.len() as u32
+            }
+            Mark::Twenty => (used >> 19) & 1 == 1,
+            Mark::Constrained => others.free != sets,
+            Mark::NoneForConstraints => sets.is_empty() && !others.free.is_empty(),
+            Mark::Larger => others.have_part_of(&sets),
+            Mark::Deep => others.shallower != sets,
+            Mark::Deepest => others.shallower != sets && listing.query.depth == DEEPEST,
+            Mark::NoneForDepth => sets.is_empty() && !others.deeper.is_empty(),
+        };
+        let all = Mark::all().into_iter();
+        all.filter(|&mark| has(mark)).collect()
+    }
+}
+
+/// The minimal sets that there would be otherwise; none where it takes too
+/// long to know.
+struct Others {
+    /// Without automata.
+    free: Vec<u32>,
+    /// With a depth limit one lower; at 1 there is none.
+    shallower: Vec<u32>,
+    /// With a depth limit one higher; at 16 there is none.
+    deeper: Vec<u32>,
+}
+
+impl Others {
+    fn of(listing: &Listing, table: &Table) -> Others {
+        let mut free = table.clone();
+        for credential in &mut free.credentials {
+            credential.automaton = None;
+        }
+        let depth = listing.query.depth;
+        Others {
+            free: sets(listing, &free, depth),
+            shallower: sets(listing, table, depth - 1),
+            deeper: sets(listing, table, depth + 1),
+        }
+    }
+
+    /// Whether a proper part of one of these sets would do without automata.
+    fn have_part_of(&self, sets: &[u32]) -> bool {
+        let part_of = |set: u32| {
+            self.free
+                .iter()
+                .any(|&free| free != set && is_part(free, set))
+        };
+        sets.iter().any(|&set| part_of(set))
+    }
+}
+
+/// The minimal sets of another table, with another depth limit.
+fn sets(listing: &Listing, table: &Table, depth: u16) -> Vec<u32> {
+    let mut query = listing.query;
+    query.depth = depth;
+    let asked = query.read().ok();
+    let sets = asked.and_then(|asked| minimal_sets_within(patience(), table, asked));
+    let sets = sets.unwrap_or_default().into_iter();
+    sets.map(|minimal| minimal.set).collect()
+}
+
+impl fmt::Display for Mark {
+    fn fmt(&self, out: &mut fmt::Formatter<'_>) -> fmt::Result {
+        let words = match self {
+            Mark::Kind(kind) => format!("a credential of kind {kind}"),
+            Mark::Automaton => "an automaton in a set".into(),
+            Mark::Automata => "several automata in a set".into(),
+            Mark::UnusedAutomaton => "an automaton in no set".into(),
+            Mark::Sizes => "sets of different sizes".into(),
+            Mark::Needless => "a credential in no set".into(),
+            Mark::Twenty => "credential 20 in a set".into(),
+            Mark::Constrained => "other sets without automata".into(),
+            Mark::NoneForConstraints => "none, but some without automata".into(),
+            Mark::Larger => "a set larger than without automata".into(),
+            Mark::Deep => "other sets one level higher up".into(),
+            Mark::Deepest => "so with sixteen levels".into(),
+            Mark::NoneForDepth => "none, but some one level further down".into(),
+        };
+        out.pad(&words)
+    }
+}

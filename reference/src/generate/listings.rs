@@ -1,0 +1,127 @@
+//! Listings: a table with a query whose minimal sets are asked for.
+
+use std::fmt;
+
+use crate::generate::claims::query;
+use crate::generate::growth::Policy;
+use crate::generate::wallets::Wallet;
+use crate::generate::{crossed, damage, policies, queries, wallets};
+use crate::query::{Query, DEEPEST};
+use crate::random::Random;
+use crate::records::Records;
+
+/// What a listing call is given, but for its buffer.
+#[derive(Clone, Debug, PartialEq, Eq)]
+pub struct Listing {
+    /// The table's numbers.
+    pub table: Vec<u16>,
+    /// The query.
+    pub query: Query,
+    /// Where they come from.
+    pub source: Source,
+}
+
+/// Where a listing comes from.
+#[derive(Clone, Copy, Debug, PartialEq, Eq, PartialOrd, Ord)]
+pub enum Source {
+    /// It is the same in every run.
+    Fixed,
+    /// A wallet grown for the query.
+    Wallet,
+    /// A wallet with ways from part to part.
+    Crossed,
+    /// A table in which many goals can be derived, and one of these goals.
+    Policy,
+    /// Such a table, and any query.
+    AnyQuery,
+    /// A damaged table.
+    Table,
+    /// A damaged query.
+    Query,
+    /// Both are damaged.
+    Both,
+}
+
+impl Source {
+    /// Every source that there is.
+    pub const ALL: [Source; 8] = [
+        Source::Fixed,
+        Source::Wallet,
+        Source::Crossed,
+        Source::Policy,
+        Source::AnyQuery,
+        Source::Table,
+        Source::Query,
+        Source::Both,
+    ];
+}
+
+/// A listing made up at random.
+pub fn made_up(random: &mut Random) -> Listing {
+    let source = match random.below(16) {
+        0..=5 => Source::Wallet,
+        6 => Source::Crossed,
+        7..=11 => Source::Policy,
+        12 => Source::AnyQuery,
+        13 => Source::Table,
+        14 => Source::Query,
+        _ => Source::Both,
+    };
+    from_source(random, source)
+}
+
+/// A listing made up at random from this source.
+fn from_source(random: &mut Random, source: Source) -> Listing {
+    let (records, mut query) = match source {
+        Source::Policy => goal_of_policy(random),
+        Source::AnyQuery => (policies::records(random), queries::valid(random)),
+        Source::Crossed => with_query(crossed::made_up(random)),
+        _ => with_query(wallets::made_up(random)),
+    };
+    let mut table = records.numbers();
+    if matches!(source, Source::Table | Source::Both) {
+        table = damage::any(random, &records);
+    }
+    if matches!(source, Source::Query | Source::Both) {
+        query = queries::spoiled(random, query);
+    }
+    Listing {
+        table,
+        query,
+        source,
+    }
+}
+
+/// A wallet's table and its query.
+fn with_query(wallet: Wallet) -> (Records, Query) {
+    (wallet.records, wallet.query)
+}
+
+/// A table in which many goals can be derived, and a query for one of them.
+/// The depth limit allows for some derivation, if its words are accepted and
+/// no role comes twice; now and then it may be lower.
+fn goal_of_policy(random: &mut Random) -> (Records, Query) {
+    let policy = Policy::new(policies::records(random));
+    let (goal, height) = *random.pick(&policy.goals());
+    let depth = match random.below(8) {
+        0 => random.between(1, DEEPEST),
+        1..=3 => height,
+        _ => random.between(height, DEEPEST),
+    };
+    (policy.records, query(goal, depth))
+}
+
+impl fmt::Display for Source {
+    fn fmt(&self, out: &mut fmt::Formatter<'_>) -> fmt::Result {
+        out.pad(match self {
+            Source::Fixed => "the same in every run",
+            Source::Wallet => "grown wallet",
+            Source::Crossed => "wallet with ways from part to part",
+            Source::Policy => "goal of a table with many",
+            Source::AnyQuery => "any query",
+            Source::Table => "damaged table",
+            Source::Query => "damaged query",
+            Source::Both => "damaged table and query",
+        })
+    }
+}

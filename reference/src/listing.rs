@@ -1,0 +1,79 @@
+//! The list of minimal sets: refusals 9 and 10.
+//!
+//! Of all pairs that derivations of the goal have, those of accepted records
+//! are picked out, and of their used sets those of which no other is a proper
+//! part.
+
+use std::rc::Rc;
+
+use crate::enumeration;
+use crate::pairs::{is_part, Pair, Witness};
+use crate::patience::Patience;
+use crate::query::Asked;
+use crate::refusal::Refusal;
+use crate::table::Table;
+
+/// A minimal set.
+#[derive(Clone, Debug)]
+pub struct Minimal {
+    /// The set: credential i counts 2^(i-1).
+    pub set: u32,
+    /// An accepted derivation with exactly this used set.
+    pub witness: Rc<Witness>,
+}
+
+/// All minimal sets for what is asked, ascending.
+pub fn minimal_sets(table: &Table, asked: Asked) -> Vec<Minimal> {
+    let endless = Patience::new(u64::MAX);
+    minimal_sets_within(endless, table, asked).expect("patience without end")
+}
+
+/// The same, if there is patience for it.
+pub fn minimal_sets_within(
+    patience: Patience,
+    table: &Table,
+    asked: Asked,
+) -> Option<Vec<Minimal>> {
+    let pairs = enumeration::pairs(table, asked, patience)?;
+    let accepted = pairs.iter().filter(|(pair, _)| is_accepted(table, *pair));
+    let sets = accepted.map(|(pair, witness)| Minimal {
+        set: pair.used,
+        witness: Rc::clone(witness),
+    });
+    let mut sets: Vec<Minimal> = sets.collect();
+    sets.sort_by_key(|minimal| minimal.set);
+    sets.dedup_by_key(|minimal| minimal.set);
+    let all = sets.clone();
+    sets.retain(|one| !all.iter().any(|other| is_proper_part(other.set, one.set)));
+    Some(sets)
+}
+
+/// Writes the list into the cells: as many of the sets as there is room for,
+/// from the first on. Tells how many there are, or refuses: 9 if there is none,
+/// 10 if there are more than cells.
+pub fn write(sets: &[Minimal], cells: &mut [u32]) -> Result<usize, Refusal> {
+    for (cell, minimal) in cells.iter_mut().zip(sets) {
+        *cell = minimal.set;
+    }
+    match sets.len() {
+        0 => Err(Refusal::new(9, 0u64)),
+        count if count > cells.len() => Err(Refusal::new(10, 0u64)),
+        count => Ok(count),
+    }
+}
+
+/// Whether no automaton that is attached to a used credential rejects a word.
+fn is_accepted(table: &Table, pair: Pair) -> bool {
+    let in_set = |set: u32, number: u16| (set >> (number - 1)) & 1 == 1;
+    let numbered = (1u16..).zip(&table.credentials);
+    let mut used = numbered.filter(|(number, _)| in_set(pair.used, *number));
+    used.all(|(_, credential)| match credential.automaton {
+        Some(automaton) => !in_set(pair.rejecting, automaton),
+        None => true,
+    })
+}
+
+/// Whether a set is a part of another, and not the whole of it.
+fn is_proper_part(part: u32, whole: u32) -> bool {
+    is_part(part, whole) && part != whole
+}

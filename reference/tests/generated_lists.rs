@@ -1,0 +1,215 @@
+//! The lists of made-up tables, compared with what verifying every record of
+//! such a table gives; and what the made-up tables are like.
+
+use std::collections::BTreeSet;
+
+use reference::generate::listings::{self, Listing};
+use reference::generate::wallets::{self, Place, Plan};
+use reference::listing::minimal_sets_within;
+use reference::pairs::is_part;
+use reference::patience::Patience;
+use reference::query::DEEPEST;
+use reference::random::Random;
+use reference::sorts::{Goal, Role};
+use reference::table::Table;
+use reference::{check, list, verify, Query, Refusal};
+
+const SEED: u64 = 7;
+/// A table is left aside if it takes more steps to find all records.
+const STEPS: usize = 400;
+
+/// A search for every record, by trying every credential and every middle.
+struct Search<'a> {
+    table: &'a Table,
+    depth: usize,
+    steps: usize,
+}
+
+impl Search<'_> {
+    /// Every record for a goal below these roles, unless it takes too long.
+    fn records(&mut self, goal: Goal, above: &[Role]) -> Option<Vec<Vec<u16>>> {
+        if above.len() >= self.depth || above.contains(&goal.role) {
+            return Some(Vec::new());
+        }
+        self.steps = self.steps.checked_sub(1)?;
+        let branch = [above, &[goal.role]].concat();
+        let mut all = Vec::new();
+        for credential in 1..=self.table.credentials.len() as u16 {
+            for middle in 0..=64 {
+                if let Some(premises) = self.table.premises(goal, credential, middle) {
+                    all.extend(self.through(vec![credential, middle], &premises, &branch)?);
+                }
+            }
+        }
+        Some(all)
+    }
+
+    /// Every record that begins with a node that has these premises.
+    fn through(
+        &mut self,
+        node: Vec<u16>,
+        premises: &[Goal],
+        branch: &[Role],
+    ) -> Option<Vec<Vec<u16>>> {
+        let mut begun = vec![node];
+        for &premise in premises {
+            let below = self.records(premise, branch)?;
+            self.steps = self.steps.checked_sub(begun.len() * below.len())?;
+            let mut joined = Vec::new();
+            for one in &begun {
+                joined.extend(below.iter().map(|other| [&one[..], other].concat()));
+            }
+            begun = joined;
+        }
+        Some(begun)
+    }
+}
+
+/// Every record for a query, unless it takes too long.
+fn records(table: &[u16], query: Query) -> Option<Vec<Vec<u16>>> {
+    let table = Table::read(table).ok()?;
+    let asked = query.read().ok()?;
+    let mut search = Search {
+        table: &table,
+        depth: usize::from(asked.depth),
+        steps: STEPS,
+    };
+    search.records(asked.goal, &[])
+}
+
+/// The list by its definition: the used sets of accepted records, but for those
+/// that have another one as a proper part.
+fn by_definition(listing: &Listing) -> Option<Vec<u32>> {
+    let records = records(&listing.table, listing.query)?;
+    let verdict = |record: &Vec<u16>| verify(&listing.table, listing.query, record);
+    let verdicts = records.iter().map(verdict);
+    let used: BTreeSet<u32> = verdicts.filter_map(Result::ok).collect();
+    let proper = |part: u32, whole: u32| is_part(part, whole) && part != whole;
+    let minimal = used
+        .iter()
+        .filter(|&&set| !used.iter().any(|&other| proper(other, set)));
+    Some(minimal.copied().collect())
+}
+
+/// The list with cells to spare.
+fn listed(table: &[u16], query: Query) -> Result<Vec<u32>, Refusal> {
+    let mut cells = vec![0; 4_096];
+    let count = list(table, query, &mut cells)?;
+    cells.truncate(count);
+    Ok(cells)
+}
+
+#[test]
+fn lists_are_what_the_definition_says() {
+    let mut random = Random::new(SEED);
+    let mut lengths = BTreeSet::new();
+    let mut compared = 0;
+    for _ in 0..800 {
+        let listing = listings::made_up(&mut random);
+        let Some(expected) = by_definition(&listing) else {
+            continue;
+        };
+        compared += 1;
+        lengths.insert(expected.len().min(5));
+        match listed(&listing.table, listing.query) {
+            Ok(sets) => assert_eq!(sets, expected, "{listing:?}"),
+            Err(refusal) => {
+                assert_eq!(refusal, Refusal::new(9, 0u64), "{listing:?}");
+                assert!(expected.is_empty(), "{listing:?}");
+            }
+        }
+    }
+    assert!(compared > 400, "{compared}");
+    assert_eq!(lengths, (0..=5).collect());
+}
+
+/// Hands over wallets of every size and arrangement.
+fn each_planned(mut use_it: impl FnMut(&mut Random, Plan)) {
+    let mut random = Random::new(SEED);
+    for bearing in 1..=20 {
+        for place in [Place::Low, Place::High, Place::Anywhere] {
+            let others = random.between(0, 20 - bearing);
+            let plan = Plan {
+                bearing,
+                others,
+                place,
+            };
+            use_it(&mut random, plan);
+        }
+    }
+}
+
+#[test]
+fn wallets_are_accepted_and_of_the_size_that_is_planned() {
+    each_planned(|random, plan| {
+        let wallet = wallets::planned(random, plan);
+        assert_eq!(check(&wallet.records.numbers()), Ok(()), "{wallet:?}");
+        let size = usize::from(plan.bearing + plan.others);
+        assert_eq!(wallet.records.credentials.len(), size);
+    });
+}
+
+#[test]
+fn the_others_bear_on_nothing_and_stand_where_they_are_planned() {
+    each_planned(|random, plan| {
+        let mut wallet = wallets::planned(random, plan);
+        wallet.query.depth = DEEPEST;
+        let sets = listed(&wallet.records.numbers(), wallet.query).expect("a list");
+        let used = sets.iter().fold(0, |one, other| one | other);
+        let bearing = match plan.place {
+            Place::Low => ((1 << plan.bearing) - 1) << plan.others,
+            Place::High => (1 << plan.bearing) - 1,
+            Place::Anywhere => u32::MAX,
+        };
+        assert!(is_part(used, bearing), "{wallet:?}");
+    });
+}
+
+#[test]
+fn every_credential_that_is_to_bear_on_the_query_does() {
+    let mut looked_at = 0;
+    each_planned(|random, mut plan| {
+        plan.others = 0;
+        let mut wallet = wallets::planned(random, plan);
+        wallet.query.depth = DEEPEST;
+        let Some(records) = records(&wallet.records.numbers(), wallet.query) else {
+            return;
+        };
+        looked_at += 1;
+        let nodes = records.iter().flat_map(|record| record.chunks(2));
+        let used: BTreeSet<u16> = nodes.map(|node| node[0]).collect();
+        assert_eq!(used, (1..=plan.bearing).collect(), "{wallet:?}");
+    });
+    assert!(looked_at > 30, "{looked_at}");
+}
+
+#[test]
+fn patience_ends_or_changes_nothing() {
+    let mut random = Random::new(SEED);
+    let mut ended = 0;
+    for _ in 0..300 {
+        let wallet = wallets::made_up(&mut random);
+        let table = Table::read(&wallet.records.numbers()).expect("an accepted table");
+        let asked = wallet.query.read().expect("a valid query");
+        let sets = |steps| {
+            let sets = minimal_sets_within(Patience::new(steps), &table, asked)?;
+            Some(sets.iter().map(|minimal| minimal.set).collect::<Vec<u32>>())
+        };
+        match sets(20) {
+            None => ended += 1,
+            short => assert_eq!(short, sets(u64::MAX)),
+        }
+    }
+    assert!((50..300).contains(&ended), "{ended}");
+}
+
+#[test]
+fn the_same_seed_gives_the_same_listings() {
+    let drawn = || {
+        let mut random = Random::new(SEED);
+        (0..50)
+            .map(|_| listings::made_up(&mut random))
+            .collect::<Vec<_>>()
+    };
+    assert_eq!(drawn(), drawn());
+}
