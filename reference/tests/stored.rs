@@ -2,6 +2,7 @@
 
 use std::collections::BTreeSet;
 
+use reference::blocks;
 use reference::stored::cases;
 
 const STORED: &str = include_str!("../cases/cases.txt");
@@ -17,6 +18,21 @@ fn parts(line: &str) -> Vec<Vec<&str>> {
 #[test]
 fn the_file_is_what_the_generator_makes() {
     assert!(cases() == STORED, "make reference/cases/cases.txt anew");
+}
+
+#[test]
+fn the_test_program_has_the_same_cases() {
+    let input = include_bytes!("../../crates/rows/stdin");
+    let output = include_str!("../../crates/rows/stdout");
+    assert!(
+        blocks::input(STORED) == input,
+        "make crates/rows/stdin anew"
+    );
+    assert!(
+        blocks::output(STORED) == output,
+        "make crates/rows/stdout anew"
+    );
+    assert!(output.lines().count() >= 215);
 }
 
 #[test]

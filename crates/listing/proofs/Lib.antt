@@ -10,4 +10,5 @@ pub mod Minimals
 pub mod Counting
 pub mod Stopping
 pub mod Demanding
+pub mod Inputs
 pub mod Shop

@@ -1,3 +1,4 @@
 pub mod Minimal
 pub mod Below
 pub mod Demands
+pub mod Input

@@ -1,7 +1,10 @@
 // The holder's end: every minimal set of credentials that proves the queried membership, ascending (document 01, "The list").
 // It knows of derivations only what `derivation` promises. specs/Minimal.antt says what the answer and the buffer are;
 // specs/Demands.antt states that this is the list that the document means.
+mod input; // input.rt: the listing program's input
 
+pub use input::decode;
+pub use input::list_input;
 use table::Number;
 use table::Query;
 use table::QueryCheck;

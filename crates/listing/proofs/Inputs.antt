@@ -1,0 +1,117 @@
+-- Laws of the listing program's input: how a loop comes by the numbers that the bytes hold, what is told of bytes that are no
+-- input, and that a list's count is within the buffer.
+use Prim.Native.Nat.{ℕ, suc, _+_, _-_, _*_, _/_, _%_, _<_, _≤_}
+use mathlib.Core.Path.{_≡_, refl, sym, ap, _∙_}
+use mathlib.Core.List.{List, [], _∷_, _++_, append-assoc, append-nil}
+use mathlib.Core.Bool.{true, false, not}
+use native.Mathlib.Omega.{arith}
+use native.Mathlib.Numerals.{add-one}
+use lib.Dec.{eqb, leb}
+use lib.ListN.{drop, getD, length, length-drop, length-take, set, take}
+use lib.Seq.{drop-cons, length-take-le, take-all, take-suc-set}
+use borrow.Author.Tests.{eq-eqb, le-leb, leb-true, lt-leb, ne-eqb}
+use Rattle.table.specs.Logic.{_and_, pick}
+use Rattle.table.specs.Outcome.{Outcome, _andThen_, demand}
+use Rattle.table.specs.Outcome.Outcome.{accepted, refused}
+use Rattle.table.specs.Checks.{requestOutcome, told}
+use Rattle.table.specs.declared.Query.{Query}
+use Rattle.table.specs.declared.Refusal.the-variants as reason
+use Rattle.table.proofs.Tests.{and-both, and-is, and-is-off}
+use Rattle.table.proofs.Stages.{demand-true, then-first, then-second}
+use Rattle.listing.specs.Minimal.{bufferAfter, counted, listing, listingTold, minimalSets}
+use Rattle.listing.specs.Input.{countedBytes, inputBuffer, inputOutcome, isWhole, numberOf, numbersOf, queryOf, querySize, tableOf}
+use Rattle.listing.specs.declared.Listing.{Listing}
+use Rattle.listing.specs.declared.Listing.the-variants as listing′
+
+-- two bytes are left, or fewer
+numbers-two : (s : List ℕ) (k : ℕ) → suc k < length s → numbersOf (drop k s) ≡ numberOf (getD s k 0) (getD s (suc k) 0) ∷ numbersOf (drop (suc (suc k)) s)
+unfolding numbersOf
+numbers-two s k h = rw (drop-cons s k 0 (omega arith), drop-cons s (suc k) 0 h)
+
+numbers-end : (s : List ℕ) → length s ≤ 1 → numbersOf s ≡ []
+unfolding numbersOf
+numbers-end [] h = refl
+numbers-end (low ∷ []) h = refl
+numbers-end (low ∷ high ∷ s) h = absurd (omega arith)
+
+-- the first i numbers are in their places, and the rest are still in the bytes
+unfoldable pub decodedUpTo : List ℕ → List ℕ → ℕ → List ℕ
+decodedUpTo bytes places i = take i places ++ numbersOf (drop (2 * i) bytes)
+
+pub decoded-none : (bytes places : List ℕ) → decodedUpTo bytes places 0 ≡ numbersOf bytes
+unfolding decodedUpTo
+decoded-none bytes places = refl
+
+pub decoded-next : (bytes places : List ℕ) (i : ℕ) (x : ℕ) → i < length bytes / 2 → i < length places → x ≡ numberOf (getD bytes (2 * i) 0) (getD bytes (2 * i + 1) 0) → decodedUpTo bytes (set places i x) (i + 1) ≡ decodedUpTo bytes places i
+unfolding decodedUpTo
+decoded-next bytes places i x h room e =
+    let twice : 2 * (i + 1) ≡ suc (suc (2 * i)) = omega arith in
+    let after : 2 * i + 1 ≡ suc (2 * i) = omega arith in
+    rw (twice, add-one i, take-suc-set places i x room, append-assoc, e, after, numbers-two bytes (2 * i) (omega arith))
+
+pub decoded-all : (bytes places : List ℕ) (i : ℕ) → i ≤ length bytes / 2 → length bytes / 2 ≤ i → decodedUpTo bytes places i ≡ numbersOf bytes → take (length bytes / 2) places ≡ numbersOf bytes
+unfolding decodedUpTo
+decoded-all bytes places i h through e =
+    let same : length bytes / 2 ≡ i = omega arith in
+    let none = numbers-end (drop (2 * i) bytes) (rw (length-drop (2 * i) bytes) (omega arith)) in
+    rw same (sym (append-nil (take i places)) ∙ sym (ap (λ (rest : List ℕ). take i places ++ rest) none) ∙ e)
+
+-- which bytes are an input
+pub odd-unwhole : (s : List ℕ) → (length s ≡ 2 * (length s / 2) → ⊥) → isWhole s ≡ false
+unfolding isWhole
+odd-unwhole s h = and-is-off (leb 8 (length s)) (ne-eqb (length s % 2) 0 (λ e. h (omega arith)))
+
+pub short-unwhole : (s : List ℕ) → length s ≡ 2 * (length s / 2) → length s / 2 < querySize → isWhole s ≡ false
+unfolding isWhole
+short-unwhole s even h = and-is (eq-eqb (length s % 2) 0 (omega arith)) (lt-leb 8 (length s) (omega arith))
+
+pub whole : (s : List ℕ) → length s ≡ 2 * (length s / 2) → querySize ≤ length s / 2 → isWhole s ≡ true
+unfolding isWhole
+whole s even h = and-both (eq-eqb (length s % 2) 0 (omega arith)) (le-leb 8 (length s) (omega arith))
+
+-- a call's answer and buffer, for a table and a query, and for the program's input
+abbrev pub Lists : List ℕ → Query → List ℕ → List ℕ → Listing → Type 0
+Lists t q before after r = (listingTold r ≡ listing t q (length before)) × (after ≡ bufferAfter t q before)
+
+abbrev pub Answers : List ℕ → List ℕ → List ℕ → Listing → Type 0
+Answers bytes before after r = (listingTold r ≡ inputOutcome bytes (length before)) × (after ≡ inputBuffer bytes before)
+
+-- the part of the numbers after the query is the table
+pub lists-rest : (s before after : List ℕ) (q : Query) (r : Listing) → Lists (take (length s - querySize) (drop querySize s)) q before after r → Lists (tableOf s) q before after r
+lists-rest s before after q r h =
+    let rest = take-all (length s - querySize) (drop querySize s) (simp length-drop (omega arith)) in
+    rw rest at h
+
+-- the bytes that count
+module _ (bytes read : List ℕ) (counts : read ≡ countedBytes bytes) where
+  pub read-few : length read / 2 ≤ 2048
+  read-few = omega (arith, simp length-take at (ap length counts))
+
+  pub read-length : (places : List ℕ) → length places ≡ 2048 → length read / 2 ≡ length (take (length read / 2) places)
+  read-length places room = let few = read-few in sym (length-take-le (length read / 2) places (omega arith))
+
+  -- what is told of bytes that are no input
+  pub answers-unwhole : (before : List ℕ) → isWhole read ≡ false → Answers bytes before before (listing′.Refused reason.ShortHead)
+  unfolding inputOutcome inputBuffer listingTold told pick demand _andThen_
+  answers-unwhole before h = rw (← counts, h) (refl, refl)
+
+  -- and of an input, by its numbers
+  pub answers-whole : (before numbers after : List ℕ) (r : Listing) → isWhole read ≡ true → numbers ≡ numbersOf read → Lists (tableOf numbers) (queryOf numbers) before after r → Answers bytes before after r
+  unfolding inputOutcome inputBuffer pick demand _andThen_
+  answers-whole before numbers after r h e lists = rw (← counts, ← e, h) lists
+
+-- a list's count is within the buffer
+counted-fits : (cells sets count : ℕ) → counted cells sets ≡ accepted count → count ≤ cells
+unfolding counted
+counted-fits cells sets count e =
+    let some = then-second (demand (not (eqb sets 0)) 9 0) _ count e in
+    let room = demand-true (leb sets cells) 10 0 _ (then-first (demand (leb sets cells) 10 0) _ count some .1) in
+    let all : accepted sets ≡ accepted count = then-second (demand (leb sets cells) 10 0) _ count some in
+    let same : sets ≡ count = cc in
+    omega (arith, leb-true sets cells room)
+
+pub listed-fits : (bytes before after : List ℕ) (r : Listing) (count : ℕ) → r ≡ listing′.Listed count → listingTold r ≡ inputOutcome bytes (length before) → length after ≡ length before → count ≤ length after
+unfolding inputOutcome listing listingTold
+listed-fits bytes before after r count is told same =
+    let counts = then-second (demand (isWhole _) 1 0) _ count (sym told ∙ ap listingTold is) in
+    rw same (counted-fits (length before) _ count (then-second (requestOutcome _ _) _ count counts))

@@ -1,0 +1,111 @@
+// A test: runs stored cases and prints one line for each, which the gate compares with stored answers. A case is a block of 512
+// numbers of 16 bits, low byte first: kind (1 list, 2 verify), the query's four, cells of the buffer, length of the table, length
+// of the record; then the table, the record, and zeros. Each cell holds a pattern beforehand, so that an untouched one shows.
+use derivation::Verdict;
+use libc::STDIN_FILENO;
+use listing::Listing;
+use table::Name;
+use table::Number;
+use table::Principal;
+use table::Query;
+use table::layout;
+ghost use Prim.Native.Nat.{_+_, _≤_};
+ghost use mathlib.Core.Path.{_≡_};
+ghost use lib.ListN.{length};
+
+const BLOCK_BYTES: usize = 1024;
+
+const BLOCK: usize = 512;
+
+const HEAD: usize = 8;
+
+const MOST_CELLS: usize = 64;
+
+const UNTOUCHED: u32 = 2863311530;
+
+const LIST: Number = 1;
+
+const VERIFY: Number = 2;
+
+// A proved loop has to end, and nothing says that the input does: no run uses up so many turns.
+fn main() {
+    let mut turns = u64::MAX;
+    while turns > 0 && run_block() {
+        turns -= 1;
+    }
+}
+
+// Runs one case; false at the end of the input.
+fn run_block() -> bool {
+    let mut block = [0u8; BLOCK_BYTES];
+    if io::read_full(STDIN_FILENO, &mut block) < BLOCK_BYTES {
+        return false;
+    }
+    let mut case = [0; BLOCK];
+    listing::decode(&block, &mut case);
+    run(&case);
+    true
+}
+
+fn run(case: &[Number])
+    requires { ⌜ length (now case) ≡ 512 ⌝ }
+{
+    let cells = layout::wide(case[5]);
+    let record_at = HEAD + layout::wide(case[6]);
+    let end = record_at + layout::wide(case[7]);
+    if MOST_CELLS < cells {
+        print_bad();
+        return;
+    }
+    if BLOCK < end {
+        print_bad();
+        return;
+    }
+    let query = Query {
+        principal: Principal(case[1]),
+        owner: Principal(case[2]),
+        name: Name(case[3]),
+        depth: case[4],
+    };
+    match case[0] {
+        LIST => run_list(&case[HEAD..record_at], query, cells),
+        VERIFY => run_verify(&case[HEAD..record_at], query, &case[record_at..end]),
+        _ => print_bad(),
+    }
+}
+
+fn run_list(table: &[Number], query: Query, cells: usize)
+    requires { ⌜ cells ≤ 64 ⌝ }
+{
+    let mut sets = [UNTOUCHED; MOST_CELLS];
+    run_list_into(table, query, &mut sets[..cells]);
+}
+
+fn run_list_into(table: &[Number], query: Query, sets: &mut [u32]) {
+    match listing::list(table, query, sets) {
+        Listing::Listed(count) => print_row(0, count, sets),
+        Listing::Refused(why) => print_row(why.number(), why.position(), sets),
+    }
+}
+
+fn run_verify(table: &[Number], query: Query, rec: &[Number]) {
+    match derivation::verify(table, query, rec) {
+        Verdict::Accepted(used) => print_row(0, used as usize, &[]),
+        Verdict::Refused(why) => print_row(why.number(), why.position(), &[]),
+    }
+}
+
+// 0 and a value, or a refusal's number and position; then every cell of the buffer afterwards.
+fn print_row(number: u32, value: usize, cells: &[u32]) {
+    let mut out = [0u8; lines::ROOM];
+    let mut used = lines::add_number(&mut out, 0, number as u64);
+    used = lines::add(&mut out, used, b" ");
+    used = lines::add_number(&mut out, used, value as u64);
+    used = lines::add_numbers(&mut out, used, cells, b" ", b"");
+    used = lines::add(&mut out, used, b"\n");
+    lines::finish(&out, used);
+}
+
+fn print_bad() {
+    io::write_all(libc::STDOUT_FILENO, b"bad\n");
+}
