@@ -3,22 +3,22 @@
 use Prim.Native.Nat.{ℕ, suc, _+_, _-_, _*_, _/_, _%_, _<_, _≤_}
 use mathlib.Core.Path.{_≡_, refl, sym, ap, _∙_}
 use mathlib.Core.List.{List, [], _∷_, _++_, append-assoc, append-nil}
-use mathlib.Core.Bool.{true, false, not}
+use mathlib.Core.Bool.{true, false}
 use native.Mathlib.Omega.{arith}
 use native.Mathlib.Numerals.{add-one}
-use lib.Dec.{eqb, leb}
+use lib.Dec.{leb}
 use lib.ListN.{drop, getD, length, length-drop, length-take, set, take}
 use lib.Seq.{drop-cons, length-take-le, take-all, take-suc-set}
-use borrow.Author.Tests.{eq-eqb, le-leb, leb-true, lt-leb, ne-eqb}
+use borrow.Author.Tests.{eq-eqb, le-leb, lt-leb, ne-eqb}
 use Rattle.table.specs.Logic.{_and_, pick}
-use Rattle.table.specs.Outcome.{Outcome, _andThen_, demand}
-use Rattle.table.specs.Outcome.Outcome.{accepted, refused}
+use Rattle.table.specs.Outcome.{_andThen_, demand}
 use Rattle.table.specs.Checks.{requestOutcome, told}
 use Rattle.table.specs.declared.Query.{Query}
 use Rattle.table.specs.declared.Refusal.the-variants as reason
 use Rattle.table.proofs.Tests.{and-both, and-is, and-is-off}
-use Rattle.table.proofs.Stages.{demand-true, then-first, then-second}
-use Rattle.listing.specs.Minimal.{bufferAfter, counted, listing, listingTold, minimalSets}
+use Rattle.table.proofs.Stages.{then-second}
+use Rattle.listing.specs.Minimal.{bufferAfter, listing, listingTold}
+use Rattle.listing.proofs.Counting.{accepted-counted}
 use Rattle.listing.specs.Input.{countedBytes, inputBuffer, inputOutcome, isWhole, numberOf, numbersOf, queryOf, querySize, tableOf}
 use Rattle.listing.specs.declared.Listing.{Listing}
 use Rattle.listing.specs.declared.Listing.the-variants as listing′
@@ -100,18 +100,9 @@ module _ (bytes read : List ℕ) (counts : read ≡ countedBytes bytes) where
   unfolding inputOutcome inputBuffer pick demand _andThen_
   answers-whole before numbers after r h e lists = rw (← counts, ← e, h) lists
 
--- a list's count is within the buffer
-counted-fits : (cells sets count : ℕ) → counted cells sets ≡ accepted count → count ≤ cells
-unfolding counted
-counted-fits cells sets count e =
-    let some = then-second (demand (not (eqb sets 0)) 9 0) _ count e in
-    let room = demand-true (leb sets cells) 10 0 _ (then-first (demand (leb sets cells) 10 0) _ count some .1) in
-    let all : accepted sets ≡ accepted count = then-second (demand (leb sets cells) 10 0) _ count some in
-    let same : sets ≡ count = cc in
-    omega (arith, leb-true sets cells room)
-
+-- a list that is told fits into the buffer
 pub listed-fits : (bytes before after : List ℕ) (r : Listing) (count : ℕ) → r ≡ listing′.Listed count → listingTold r ≡ inputOutcome bytes (length before) → length after ≡ length before → count ≤ length after
 unfolding inputOutcome listing listingTold
 listed-fits bytes before after r count is told same =
     let counts = then-second (demand (isWhole _) 1 0) _ count (sym told ∙ ap listingTold is) in
-    rw same (counted-fits (length before) _ count (then-second (requestOutcome _ _) _ count counts))
+    let (all, few) = accepted-counted (length before) _ count (then-second (requestOutcome _ _) _ count counts) in rw (same, all) few

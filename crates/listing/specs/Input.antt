@@ -1,7 +1,6 @@
 -- Document 01, the listing program's input: at most 4,096 bytes as 16-bit numbers, low byte first, the query's four and then
 -- the table. Later bytes are ignored and not counted.
 use Prim.Native.Nat.{ℕ, _+_, _*_, _%_}
-use mathlib.Core.Path.{_≡_}
 use mathlib.Core.List.{List, [], _∷_}
 use mathlib.Core.Bool.{Bool}
 use lib.ListN.{drop, length, take}
