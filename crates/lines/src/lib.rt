@@ -1,5 +1,5 @@
-// Lines for standard output. They are collected in an array of the caller's, whose first `used` bytes are still to be written, and
-// which is written out when it is full, so that a long list takes few calls.
+// Lines for standard output. They are collected in an array of the caller's, whose first `used` bytes are still to be written,
+// and which is written out when it is full, so that a long list takes few calls.
 use libc::STDOUT_FILENO;
 ghost use Prim.Native.Nat.{_≤_};
 ghost use lib.ListN.{length};

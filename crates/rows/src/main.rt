@@ -9,7 +9,7 @@ use table::Number;
 use table::Principal;
 use table::Query;
 use table::layout;
-ghost use Prim.Native.Nat.{_+_, _≤_};
+ghost use Prim.Native.Nat.{_≤_};
 ghost use mathlib.Core.Path.{_≡_};
 ghost use lib.ListN.{length};
 

@@ -12,7 +12,9 @@ returns : tie.Need-returns
 returns c = sym (take-all _ _ (c .if1 .taken))
 
 slice-aggregate-result : tie.Need-slice-aggregate-result
-slice-aggregate-result c = let h = c .before .if1 .left in sym (length-take-le mostBytes (now (c .before .before .args .bytes)) (omega arith))
+slice-aggregate-result c =
+    let more = c .before .if1 .left in
+    sym (length-take-le mostBytes (now (c .before .before .args .bytes)) (omega arith))
 
 returns-2 : tie.Need-returns-2
 returns-2 c = search needs

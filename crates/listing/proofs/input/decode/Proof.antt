@@ -11,7 +11,8 @@ use Rattle.listing.proofs.input.decode.Tie as tie
 
 abbrev Inv-loop : tie.InvT-loop
 Inv-loop bytes numbers₀ half i₀ numbers i =
-    (i ≤ half) × (half ≡ length bytes / 2) × (half ≤ length numbers₀) × (length numbers ≡ length numbers₀) × (decodedUpTo bytes numbers i ≡ numbersOf bytes)
+    (i ≤ half) × (half ≡ length bytes / 2) × (half ≤ length numbers₀) × (length numbers ≡ length numbers₀)
+    × (decodedUpTo bytes numbers i ≡ numbersOf bytes)
 
 abbrev μ-loop : tie.MeasureT-loop
 μ-loop bytes numbers₀ half i₀ numbers i = half - i
