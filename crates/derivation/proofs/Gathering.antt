@@ -1,16 +1,15 @@
 -- The productive and the reached credentials as the code gathers them: the roles that a credential asks, the definers of a
 -- role, and rounds over the credentials, of which the first i have been looked at.
 use mathlib.Core.Path.{_≡_, refl, sym, ap, _∙_}
-use mathlib.Core.List.{List, [], _∷_, _++_}
+use mathlib.Core.List.{List}
 use mathlib.Core.Bool.{true, false, not}
-use Prim.Native.Nat.{ℕ, zero, suc, _+_, _-_, _*_, _/_, _%_, _^_, _≤_, _<_}
+use Prim.Native.Nat.{ℕ, suc, _+_, _-_, _*_, _/_, _%_, _^_, _≤_, _<_}
 use native.Mathlib.Omega.{arith}
 use native.Mathlib.Decide.{ℕ-discrete}
 use native.Mathlib.Numerals.{add-one}
 use lib.Bits.{bitOr}
 use lib.Dec.{eqb}
-use lib.ListN.{getD, length, take}
-use lib.Seq.{take-suc}
+use lib.ListN.{length, take}
 use borrow.Author.Tests.{eq-eqb, eqb-true, ne-eqb, not-false, not-true}
 use Rattle.table.specs.Logic.{_and_, _or_, pick}
 use Rattle.table.specs.Limits.{mostCredentials, mostParts}
@@ -19,7 +18,7 @@ use Rattle.table.specs.Layout.{Holds, Numbered, credential, credentials}
 use Rattle.table.specs.declared.Role.{Role}
 use Rattle.table.specs.declared.Chain.{Chain}
 use Rattle.table.specs.declared.Credential.{Credential}
-use Rattle.table.proofs.Tests.{and-assoc, and-both, and-false, and-first, and-is, and-is-off, and-on, and-second, false-true, or-first, or-second}
+use Rattle.table.proofs.Tests.{and-both, and-first, and-is, and-is-off, and-on, and-second, false-true, or-first, or-second}
 use Rattle.automata.specs.Sets.{inSet, part, setOf}
 use Rattle.automata.proofs.Members.{inSet-or, inSet-pow, one-bit, part-antisym, part-le, part-or, part-or-left, part-refl, part-shown, part-trans, part-zero}
 use Rattle.derivation.specs.Relevance.{Asking, ChainThere, Round, allDefined, definers, meant, rolesAsked, withDefiners}
@@ -88,45 +87,6 @@ module _ (t : List ℕ) (P i found : ℕ) (r : Role) (so-far : found ≡ definer
         let own = rw (read, add-one i) at means in
         rw (add-one i, one-bit 32 i (omega arith), and-both (eq-eqb _ 1 inside) own, so-far)
 
--- the first i of the roles asked
-module _ (t : List ℕ) (P : ℕ) where
-  defined-append : (xs ys : List Role) → allDefined t P (xs ++ ys) ≡ (allDefined t P xs and allDefined t P ys)
-  unfolding allDefined
-  defined-append [] ys = and-on refl
-  defined-append (r ∷ xs) ys =
-      rw (defined-append xs ys) (sym (and-assoc _ (allDefined t P xs) (allDefined t P ys)))
-
-  with-append : (x : ℕ) (xs ys : List Role)
-      → withDefiners t P x (xs ++ ys) ≡ withDefiners t P (withDefiners t P x xs) ys
-  unfolding withDefiners
-  with-append x [] ys = refl
-  with-append x (r ∷ xs) ys = with-append (bitOr x (definers t P r)) xs ys
-
-  -- one role more, number i from 0; the code has its definers as `here`
-  module _ (roles : List Role) (i : ℕ) (d : Role) (there : i < length roles) (here : ℕ)
-      (found : here ≡ definers t P (getD roles i d)) where
-    pub defined-next : allDefined t P (take i roles) ≡ true → (here ≡ 0 → ⊥) → allDefined t P (take (i + 1) roles) ≡ true
-    unfolding allDefined
-    defined-next so-far by-some =
-        rw (add-one i, take-suc roles i d there, defined-append (take i roles) (getD roles i d ∷ []), ← found)
-        (and-both so-far (and-both (ap not (ne-eqb here 0 by-some)) refl))
-
-    pub with-next : (x y : ℕ) → y ≡ withDefiners t P x (take i roles) → bitOr y here ≡ withDefiners t P x (take (i + 1) roles)
-    unfolding withDefiners
-    with-next x y so-far =
-        rw (add-one i, take-suc roles i d there)
-        (rw (with-append x (take i roles) (getD roles i d ∷ []), so-far, found))
-
-  -- one role that is not defined is enough
-  pub defined-not : (roles : List Role) (n i : ℕ) (d : Role) → i < n → i < length roles
-      → definers t P (getD roles i d) ≡ 0 → allDefined t P (take n roles) ≡ false
-  unfolding allDefined _and_
-  defined-not [] n i d h there none = absurd (omega arith)
-  defined-not (r ∷ roles) zero i d h there none = absurd (omega arith)
-  defined-not (r ∷ roles) (suc n) zero d h there none = rw none
-  defined-not (r ∷ roles) (suc n) (suc i) d h there none =
-      rw (defined-not roles n i d (omega arith) (omega arith) none) (and-false (not (eqb (definers t P r) 0)))
-
 -- a round begins with nothing looked at, and goes on from y to z where nothing is lost
 pub round-starts : (most x : ℕ) {All : Type 0} → All → Round most x x All
 round-starts most x all = record { grows = part-refl x; among = λ h. h; whole = λ e. all }
@@ -177,11 +137,10 @@ module _ (t : List ℕ) (S P more i : ℕ) (round : Round S P more (ProductiveTo
   productive-old old =
       productive-next (λ e inside defined. rw e at (not-false (inSet more i) (and-on inside ∙ old)))
 
-  pub productive-not : (x : Credential) → x ≡ credential t (i + 1) → allDefined t more (rolesAsked t x) ≡ false
+  pub productive-not : allDefined t more (rolesAsked t (credential t (suc i))) ≡ false
       → Round S P more (ProductiveTo t S P (i + 1))
-  productive-not x read undefined =
-      productive-next (λ e inside defined.
-      absurd (false-true (sym (rw (read, add-one i, e) at undefined) ∙ defined)))
+  productive-not undefined =
+      productive-next (λ e inside defined. absurd (false-true (sym (rw e at undefined) ∙ defined)))
 
   pub productive-more : (inSet S i and not (inSet more i)) ≡ true → i < mostCredentials
       → Round S P (bitOr more ((1 * 2 ^ i) % 2 ^ 32)) (ProductiveTo t S P (i + 1))
@@ -215,13 +174,11 @@ module _ (t : List ℕ) (P R more i : ℕ) (round : Round P R more (ReachedTo t 
       round-same P R more round (λ e before.
       below-next (ReachedAt t P R) i before (λ inside. absurd (out (eqb-true _ 1 (rw e inside)))))
 
-  pub reached-more : (x : Credential) → x ≡ credential t (i + 1)
-      → Round P R (withDefiners t P more (rolesAsked t x)) (ReachedTo t P R (i + 1))
-  reached-more x read =
-      let asked = rolesAsked t x in
+  pub reached-more : Round P R (withDefiners t P more (rolesAsked t (credential t (suc i)))) (ReachedTo t P R (i + 1))
+  reached-more =
+      let asked = rolesAsked t (credential t (suc i)) in
       round-on P R more (withDefiners t P more asked) round (with-grows t P more asked) (with-among t P more asked)
       (λ e back before.
       below-next (ReachedAt t P R) i before (λ inside.
-      let own = rolesAsked t (credential t (suc i)) in
-      let same : withDefiners t P R own ≡ R = rw (back, read, add-one i) at e in
-      rw same at (with-more t P 0 R own (part-zero R))))
+      let same : withDefiners t P R asked ≡ R = rw back at e in
+      rw same at (with-more t P 0 R asked (part-zero R))))

@@ -14,6 +14,7 @@ pub mod Searching
 pub mod Admitting
 pub mod Bearing
 pub mod Gathering
+pub mod Indexing
 pub mod DemandTwo
 pub mod Judged
 pub mod Shop

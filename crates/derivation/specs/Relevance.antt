@@ -1,14 +1,14 @@
 -- Which credentials of a set bear on a query: a set outside of which no derivation within the set uses a credential. The listing
 -- knows only this sentence, `Relevant`; the rest says how such a set is found, by roles alone, whoever the members are.
-use Prim.Native.Nat.{ℕ, suc, _≤_, _<_}
+use Prim.Native.Nat.{ℕ, zero, suc, _+_, _*_, _/_, _%_, _≤_, _<_}
 use mathlib.Core.Path.{_≡_}
 use mathlib.Core.List.{List, [], _∷_}
 use mathlib.Core.Bool.{Bool, true, not}
-use lib.ListN.{length, take}
-use lib.Bits.{bitOr}
-use lib.Dec.{eqb}
-use Rattle.table.specs.Logic.{_and_, _or_, pick}
-use Rattle.table.specs.Limits.{mostParts}
+use lib.ListN.{getD, length, take}
+use lib.Bits.{bitAnd, bitOr}
+use lib.Dec.{eqb, ltb}
+use Rattle.table.specs.Logic.{_and_, _or_, anyBelow, pick}
+use Rattle.table.specs.Limits.{mostCredentials, mostParts}
 use Rattle.table.specs.Layout.{Numbered, cells, credential, credentials, name, parts, role}
 use Rattle.table.specs.Checks.{chainOk}
 use Rattle.table.specs.declared.Role.{Role}
@@ -63,6 +63,43 @@ allDefined t P (r ∷ roles) = not (eqb (definers t P r) 0) and allDefined t P r
 unfoldable pub withDefiners : List ℕ → ℕ → ℕ → List Role → ℕ
 withDefiners t P x [] = x
 withDefiners t P x (r ∷ roles) = withDefiners t P (bitOr x (definers t P r)) roles
+
+-- every credential that a table can have
+abbrev pub everyCredential : ℕ
+everyCredential = 1048575
+
+-- a credential's place in the index of a table: how many roles it asks, then for each of them the credentials that define it
+unfoldable pub indexed : List ℕ → List Role → ℕ → ℕ
+indexed t roles zero = length roles
+indexed t roles (suc k) = pick (ltb k (length roles)) (definers t everyCredential (getD roles k (role 0 0))) 0
+
+-- the index: five cells for each credential
+pub record Indexed (t index : List ℕ) : Type 0 where
+  pub room : length index ≡ 100
+  pub each : (j : ℕ) → j < 5 * credentials t
+      → getD index j 0 ≡ indexed t (rolesAsked t (credential t (suc (j / 5)))) (j % 5)
+
+-- the place of credential i + 1 is in the index
+pub record Place (index : List ℕ) (i : ℕ) : Type 0 where
+  pub room : length index ≡ 100
+  pub there : i < mostCredentials
+  pub few : getD index (5 * i) 0 ≤ mostParts
+
+-- the definers in P of role k that credential i + 1 asks, by the index
+abbrev pub met : List ℕ → ℕ → ℕ → ℕ → ℕ
+met index i P k = bitAnd (getD index (5 * i + 1 + k) 0) P
+
+-- each role that the credential asks is defined in P, by the index
+unfoldable pub allMet : List ℕ → ℕ → ℕ → Bool
+allMet index i P = not (anyBelow (λ k. eqb (met index i P k) 0) (getD index (5 * i) 0))
+
+-- those of x, and the definers in P of the first n roles asked, by the index
+unfoldable pub withMetTo : List ℕ → ℕ → ℕ → ℕ → ℕ → ℕ
+withMetTo index i P x zero = x
+withMetTo index i P x (suc n) = bitOr (withMetTo index i P x n) (met index i P n)
+
+abbrev pub withMet : List ℕ → ℕ → ℕ → ℕ → ℕ
+withMet index i P x = withMetTo index i P x (getD index (5 * i) 0)
 
 -- P has every credential of S whose roles asked are all defined in P
 abbrev pub Productive : List ℕ → ℕ → ℕ → Type 0

@@ -25,7 +25,7 @@ ghost use Rattle.derivation.specs.Rules.{goalOf};
 ghost use Rattle.derivation.specs.Reading.{reader};
 ghost use Rattle.derivation.specs.Tally.{automataOf};
 ghost use Rattle.derivation.specs.Search;
-ghost use Rattle.derivation.specs.Relevance.{Relevant};
+ghost use Rattle.derivation.specs.Relevance.{Indexed, Relevant};
 ghost use Rattle.derivation.specs.Verdict.{judged, verdict, verdictTold};
 
 // Accepted, with the used set: credential i counts 2^(i-1).
@@ -97,14 +97,28 @@ pub fn provable(table: &[Number], query: Query, allowed: u32, constraints: Numbe
     )
 }
 
+// What `relevant` asks of a table, made once: which credentials define the roles that each credential asks.
+pub fn index(table: &[Number]) -> [u32; relevance::INDEX_CELLS]
+    requires { ⌜ WellFormed (now table) ⌝ }
+    ensures { λ r. ⌜ Indexed (now (table .entry)) r ⌝ }
+{
+    relevance::index(table)
+}
+
 // A set of allowed credentials such that every derivation of the queried membership that uses only allowed ones uses only these.
-pub fn relevant(table: &[Number], query: Query, allowed: u32) -> u32
+pub fn relevant(table: &[Number], query: Query, index: &[u32], allowed: u32) -> u32
     requires { ⌜ WellFormed (now table) ⌝ }
     requires { ⌜ Valid query ⌝ }
+    requires { ⌜ Indexed (now table) (now index) ⌝ }
     ensures { λ r. ⌜ Relevant (now (table .entry)) query allowed r ⌝ }
 {
     let goal = goal_of(query);
-    relevance::reachable(table, goal.role, relevance::productive(table, allowed))
+    relevance::reachable(
+        table,
+        index,
+        goal.role,
+        relevance::productive(table, index, allowed),
+    )
 }
 
 // The automata attached to the credentials of a set: automaton k counts 2^(k-1).

@@ -20,25 +20,68 @@ ghost use Rattle.table.specs.Limits.{mostCredentials, mostParts};
 ghost use Rattle.table.specs.Logic.{_and_};
 ghost use Rattle.table.specs.Checks.{WellFormed};
 ghost use Rattle.automata.specs.Sets.{inSet, part};
-ghost use Rattle.derivation.specs.Relevance.{Asking, ChainThere, Productive, Reached, Round, allDefined, definers, linkedRoles, meant, rolesAsked, withDefiners};
+ghost use Rattle.derivation.specs.Relevance.{Asking, ChainThere, Indexed, Place, Productive, Reached, Round, allMet, definers, indexed, linkedRoles, meant, rolesAsked, withMet};
+
+// Five cells for each of at most 20 credentials.
+pub const PLACE: usize = 5;
+
+pub const INDEX_CELLS: usize = 100;
+
+// Every credential that a table can have.
+const EVERY: u32 = 1048575;
+
+// The index of the table: for each credential how many roles it asks, and for each of these the credentials that define it.
+pub fn index(table: &[Number]) -> [u32; INDEX_CELLS]
+    requires { ⌜ WellFormed (now table) ⌝ }
+    ensures { λ r. ⌜ Indexed (now (table .entry)) r ⌝ }
+{
+    let n = layout::wide(table[0]);
+    let mut index = [0; INDEX_CELLS];
+    let mut i = 0;
+    while i < PLACE * n {
+        let cell = index_cell(table, layout::credential(table, i / PLACE + 1), i % PLACE);
+        index[i] = cell;
+        i += 1;
+    }
+    index
+}
+
+// Cell k of a credential's place.
+fn index_cell(table: &[Number], c: Credential, k: usize) -> u32
+    requires { ⌜ WellFormed (now table) ⌝ }
+    requires { ⌜ ChainThere (now table) c ⌝ }
+    ensures { λ r. ⌜ r ≡ indexed (now (table .entry)) (rolesAsked (now (table .entry)) c) k ⌝ }
+{
+    let asked = roles_asked(table, c);
+    let len = asked.len;
+    if k == 0 {
+        return len as u32;
+    }
+    if len < k {
+        return 0;
+    }
+    defining(table, EVERY, asked.roles[k - 1])
+}
 
 // The allowed credentials whose premises can all be met, as far as roles go: the least such set, round by round.
-pub fn productive(table: &[Number], allowed: u32) -> u32
+pub fn productive(table: &[Number], index: &[u32], allowed: u32) -> u32
     requires { ⌜ WellFormed (now table) ⌝ }
+    requires { ⌜ Indexed (now table) (now index) ⌝ }
     ensures { λ r. ⌜ (part r allowed ≡ true) × Productive (now (table .entry)) allowed r ⌝ }
 {
     let mut set = 0;
-    let mut next = more_productive(table, allowed, 0);
+    let mut next = more_productive(table, index, allowed, 0);
     while next != set {
         set = next;
-        next = more_productive(table, allowed, set);
+        next = more_productive(table, index, allowed, set);
     }
     set
 }
 
 // One round: the set with each allowed credential all of whose roles asked are defined in it.
-fn more_productive(table: &[Number], allowed: u32, set: u32) -> u32
+fn more_productive(table: &[Number], index: &[u32], allowed: u32, set: u32) -> u32
     requires { ⌜ WellFormed (now table) ⌝ }
+    requires { ⌜ Indexed (now table) (now index) ⌝ }
     ensures { λ r. ⌜ Round allowed set r (Productive (now (table .entry)) allowed set) ⌝ }
 {
     let n = layout::wide(table[0]);
@@ -46,7 +89,7 @@ fn more_productive(table: &[Number], allowed: u32, set: u32) -> u32
     let mut i = 0;
     while i < n {
         if is_new(allowed, more, i) {
-            if is_productive(table, more, layout::credential(table, i + 1)) {
+            if is_productive(index, more, i) {
                 more = more | (1 << i);
             }
         }
@@ -56,22 +99,24 @@ fn more_productive(table: &[Number], allowed: u32, set: u32) -> u32
 }
 
 // The productive credentials that can be reached from the goal's role.
-pub fn reachable(table: &[Number], role: Role, productive: u32) -> u32
+pub fn reachable(table: &[Number], index: &[u32], role: Role, productive: u32) -> u32
     requires { ⌜ WellFormed (now table) ⌝ }
+    requires { ⌜ Indexed (now table) (now index) ⌝ }
     ensures { λ r. ⌜ (part r productive ≡ true) × ((part (definers (now (table .entry)) productive role) r ≡ true) × Reached (now (table .entry)) productive r) ⌝ }
 {
     let mut set = defining(table, productive, role);
-    let mut next = more_reachable(table, productive, set);
+    let mut next = more_reachable(table, index, productive, set);
     while next != set {
         set = next;
-        next = more_reachable(table, productive, set);
+        next = more_reachable(table, index, productive, set);
     }
     set
 }
 
 // One round: the set with each productive credential that defines a role asked by one of it.
-fn more_reachable(table: &[Number], productive: u32, set: u32) -> u32
+fn more_reachable(table: &[Number], index: &[u32], productive: u32, set: u32) -> u32
     requires { ⌜ WellFormed (now table) ⌝ }
+    requires { ⌜ Indexed (now table) (now index) ⌝ }
     ensures { λ r. ⌜ Round productive set r (Reached (now (table .entry)) productive set) ⌝ }
 {
     let n = layout::wide(table[0]);
@@ -79,7 +124,7 @@ fn more_reachable(table: &[Number], productive: u32, set: u32) -> u32
     let mut i = 0;
     while i < n {
         if (more >> i) % 2 == 1 {
-            more = with_defining(table, productive, more, layout::credential(table, i + 1));
+            more = with_defining(index, productive, more, i);
         }
         i += 1;
     }
@@ -97,37 +142,35 @@ fn is_new(allowed: u32, set: u32, i: usize) -> bool
     (set >> i) % 2 != 1
 }
 
-// Each role that the credential asks is defined by some credential of the set.
-fn is_productive(table: &[Number], set: u32, c: Credential) -> bool
-    requires { ⌜ WellFormed (now table) ⌝ }
-    requires { ⌜ ChainThere (now table) c ⌝ }
-    ensures { λ r. ⌜ r ≡ allDefined (now (table .entry)) set (rolesAsked (now (table .entry)) c) ⌝ }
+// Each role that credential i + 1 asks is defined by some credential of the set.
+fn is_productive(index: &[u32], set: u32, i: usize) -> bool
+    requires { ⌜ Place (now index) i ⌝ }
+    ensures { λ r. ⌜ r ≡ allMet (now (index .entry)) i set ⌝ }
 {
-    let asked = roles_asked(table, c);
-    let len = asked.len;
-    let mut i = 0;
-    while i < len {
-        if defining(table, set, asked.roles[i]) == 0 {
+    let at = PLACE * i;
+    let len = index[at] as usize;
+    let mut k = 0;
+    while k < len {
+        if index[at + 1 + k] & set == 0 {
             return false;
         }
-        i += 1;
+        k += 1;
     }
     true
 }
 
-// Those of `reached`, and the credentials of the set that define a role asked by the credential.
-fn with_defining(table: &[Number], set: u32, reached: u32, c: Credential) -> u32
-    requires { ⌜ WellFormed (now table) ⌝ }
-    requires { ⌜ ChainThere (now table) c ⌝ }
-    ensures { λ r. ⌜ r ≡ withDefiners (now (table .entry)) set reached (rolesAsked (now (table .entry)) c) ⌝ }
+// Those of `reached`, and the credentials of the set that define a role asked by credential i + 1.
+fn with_defining(index: &[u32], set: u32, reached: u32, i: usize) -> u32
+    requires { ⌜ Place (now index) i ⌝ }
+    ensures { λ r. ⌜ r ≡ withMet (now (index .entry)) i set reached ⌝ }
 {
-    let asked = roles_asked(table, c);
-    let len = asked.len;
+    let at = PLACE * i;
+    let len = index[at] as usize;
     let mut more = reached;
-    let mut i = 0;
-    while i < len {
-        more = more | defining(table, set, asked.roles[i]);
-        i += 1;
+    let mut k = 0;
+    while k < len {
+        more = more | (index[at + 1 + k] & set);
+        k += 1;
     }
     more
 }

@@ -17,6 +17,7 @@ ghost use lib.ListN.{getD, length, set};
 ghost use Rattle.table.specs.Logic.{anyBelow};
 ghost use Rattle.table.specs.Checks.{Valid, WellFormed};
 ghost use Rattle.automata.specs.Sets.{part};
+ghost use Rattle.derivation.specs.Relevance.{Indexed};
 ghost use Rattle.derivation.specs.Search.{provable};
 ghost use Rattle.derivation.specs.Tally.{automataOf};
 ghost use Rattle.listing.specs.Minimal.{bufferAfter, counted, laid, listing, listingTold, minimalSets};
@@ -48,10 +49,11 @@ fn list_checked(table: &[Number], query: Query, sets: &mut [u32]) -> Listing
     let cells = sets.len();
     let n = layout::wide(table[0]);
     let all = (1 << n) - 1;
-    let usable = derivation::relevant(table, query, all);
+    let index = derivation::index(table);
+    let usable = derivation::relevant(table, query, &index, all);
     let mut found = 0;
     if derivation::provable(table, query, usable, 0) {
-        below(table, query, 0, usable, n, sets, &mut found);
+        below(table, query, &index, 0, usable, n, sets, &mut found);
     }
     if found == 0 {
         return Listing::Refused(Refusal::NoMinimalSet);
@@ -67,12 +69,14 @@ fn list_checked(table: &[Number], query: Query, sets: &mut [u32]) -> Listing
 fn below(
     table: &[Number],
     query: Query,
+    index: &[u32],
     chosen: u32,
     usable: u32,
     next: usize,
     sets: &mut [u32],
     found: &mut usize,
 )
+    requires { ⌜ Indexed (now table) (now index) ⌝ }
     requires { ⌜ WellFormed (now table) ⌝ }
     requires { ⌜ Valid query ⌝ }
     requires { ⌜ Decided (now table) query chosen usable next ⌝ }
@@ -86,12 +90,12 @@ fn below(
     }
     let bit = 1 << (next - 1);
     if usable & bit == 0 {
-        below(table, query, chosen, usable, next - 1, sets, found);
+        below(table, query, index, chosen, usable, next - 1, sets, found);
         return;
     }
-    let fewer = derivation::relevant(table, query, usable ^ bit);
+    let fewer = derivation::relevant(table, query, index, usable ^ bit);
     if is_promising(table, query, chosen, fewer) {
-        below(table, query, chosen, fewer, next - 1, sets, found);
+        below(table, query, index, chosen, fewer, next - 1, sets, found);
         if sets.len() < *found {
             return;
         }
@@ -99,7 +103,7 @@ fn below(
     let more = chosen | bit;
     if !is_any_part(sets, *found, more) {
         if is_met(table, query, usable, chosen, more) {
-            below(table, query, more, usable, next - 1, sets, found);
+            below(table, query, index, more, usable, next - 1, sets, found);
         }
     }
 }

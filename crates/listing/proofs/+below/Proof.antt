@@ -20,29 +20,29 @@ use Rattle.listing.proofs.put.Reads as put-reads
 use Rattle.listing.proofs.+below.{statement}
 use Rattle.listing.proofs.+below.Tie.{close}
 
-abbrev μ-below : Measures 3 below-kinds.ps ℕ
-μ-below κs a = a .1 .1 .1 .1 .0
+abbrev μ-below : Measures 4 below-kinds.ps ℕ
+μ-below κs a = a .1 .1 .1 .1 .1 .0
 
-abbrev below-at : ℕ → In 3 below-kinds.ps
-below-at t = and 3 below-kinds.ps (is 3 below-kinds.ps μ-below t) below.Pre
+abbrev below-at : ℕ → In 4 below-kinds.ps
+below-at t = and 4 below-kinds.ps (is 4 below-kinds.ps μ-below t) below.Pre
 
-abbrev below-below : ℕ → In 3 below-kinds.ps
-below-below t = and 3 below-kinds.ps (falls 3 below-kinds.ps _<_ μ-below t) below.Pre
+abbrev below-below : ℕ → In 4 below-kinds.ps
+below-below t = and 4 below-kinds.ps (falls 4 below-kinds.ps _<_ μ-below t) below.Pre
 
 abbrev below-claims : ℕ → below-lts.Claims
 below-claims t = (put-reads.Asked, put-reads.Learnt, below-below t, below.Post, relevant-reads.Asked, relevant-reads.Learnt, is-promising-reads.Asked, is-promising-reads.Learnt, is-any-part-reads.Asked, is-any-part-reads.Learnt, is-met-reads.Asked, is-met-reads.Learnt)
 
 below-put-requires : (t : ℕ) → below-lts.Need-put-requires (below-claims t) (below-at t) below.Post
 below-put-requires t c κs =
-    let pre = c .before .before .before .before .before .pre in
-    pre .1 .1 .1 .1 .1 .fits
+    let pre = c .before .before .before .before .before .before .pre in
+    pre .1 .1 .1 .1 .1 .1 .fits
 
 below-returns : (t : ℕ) → below-lts.Need-returns (below-claims t) (below-at t) below.Post
 below-returns t c =
-    let pre = c .before .before .before .before .before .before .before .before .pre in
+    let pre = c .before .before .before .before .before .before .before .before .before .pre in
     let if1 = c .before .before .before .before .before .if1 in
     let put = c .before .before .put in
-    block-ends _ _ _ _ _ _ _ (pre .1) (if1 .taken) _ _ (put .ensures .0) (put .ensures .1)
+    block-ends _ _ _ _ _ _ _ (pre .1 .1) (if1 .taken) _ _ (put .ensures .0) (put .ensures .1)
 
 below-same-length : (t : ℕ) → below-lts.Need-same-length (below-claims t) (below-at t) below.Post
 below-same-length t c = upto-length _ _ _ _ _ _ (below-returns t c)
@@ -52,13 +52,13 @@ below-sub-bit t c = omega (arith, c .if1 .left)
 
 below-cast-bit : (t : ℕ) → below-lts.Need-cast-bit (below-claims t) (below-at t) below.Post
 below-cast-bit t c =
-    let pre = c .before .before .before .pre in
-    omega (arith, few _ _ _ _ _ _ _ (pre .1))
+    let pre = c .before .before .before .before .pre in
+    omega (arith, few _ _ _ _ _ _ _ (pre .1 .1))
 
 below-shl-bit : (t : ℕ) → below-lts.Need-shl-bit (below-claims t) (below-at t) below.Post
 below-shl-bit t c =
-    let pre = c .before .before .before .pre in
-    omega (arith, few _ _ _ _ _ _ _ (pre .1))
+    let pre = c .before .before .before .before .pre in
+    omega (arith, few _ _ _ _ _ _ _ (pre .1 .1))
 
 below-sub-below : (t : ℕ) → below-lts.Need-sub-below (below-claims t) (below-at t) below.Post
 below-sub-below t c =
@@ -67,31 +67,31 @@ below-sub-below t c =
 
 below-below-requires : (t : ℕ) → below-lts.Need-below-requires (below-claims t) (below-at t) below.Post
 below-below-requires t c κs =
-    let pre = c .before .before .before .before .before .before .pre in
+    let pre = c .before .before .before .before .before .before .before .pre in
     let if1 = c .before .before .before .if1 in
     let if2 = c .before .before .if2 in
-    (omega (arith, pre .0, if1 .left), unusable-asked _ _ _ _ _ _ _ (pre .1) (if1 .left) (if2 .taken))
+    (omega (arith, pre .0, if1 .left), (pre .1 .0, unusable-asked _ _ _ _ _ _ _ (pre .1 .1) (if1 .left) (if2 .taken)))
 
 below-returns-2 : (t : ℕ) → below-lts.Need-returns-2 (below-claims t) (below-at t) below.Post
 below-returns-2 t c =
-    let pre = c .before .before .before .before .before .before .before .before .before .pre in
+    let pre = c .before .before .before .before .before .before .before .before .before .before .pre in
     let if1 = c .before .before .before .before .before .before .if1 in
     let if2 = c .before .before .before .before .before .if2 in
     let below = c .before .before .below in
-    unusable-ends _ _ _ _ _ _ _ (pre .1) (if1 .left) (if2 .taken) _ _ (below .ensures)
+    unusable-ends _ _ _ _ _ _ _ (pre .1 .1) (if1 .left) (if2 .taken) _ _ (below .ensures)
 
 below-same-length-2 : (t : ℕ) → below-lts.Need-same-length-2 (below-claims t) (below-at t) below.Post
 below-same-length-2 t c = upto-length _ _ _ _ _ _ (below-returns-2 t c)
 
 below-relevant-requires : (t : ℕ) → below-lts.Need-relevant-requires (below-claims t) (below-at t) below.Post
 below-relevant-requires t c κs =
-    let pre = c .before .before .before .before .pre in
-    (pre .1 .0, pre .1 .1 .0)
+    let pre = c .before .before .before .before .before .pre in
+    (pre .1 .1 .0, (pre .1 .1 .1 .0, pre .1 .0))
 
 below-is-promising-requires : (t : ℕ) → below-lts.Need-is-promising-requires (below-claims t) (below-at t) below.Post
 below-is-promising-requires t c κs =
-    let pre = c .before .before .before .before .before .pre in
-    (pre .1 .0, pre .1 .1 .0)
+    let pre = c .before .before .before .before .before .before .pre in
+    (pre .1 .1 .0, pre .1 .1 .1 .0)
 
 below-sub-below-2 : (t : ℕ) → below-lts.Need-sub-below-2 (below-claims t) (below-at t) below.Post
 below-sub-below-2 t c =
@@ -100,37 +100,40 @@ below-sub-below-2 t c =
 
 below-below-requires-2 : (t : ℕ) → below-lts.Need-below-requires-2 (below-claims t) (below-at t) below.Post
 below-below-requires-2 t c κs =
-    let pre = c .before .before .before .before .before .before .before .before .before .pre in
+    let pre = c .before .before .before .before .before .before .before .before .before .before .pre in
     let if1 = c .before .before .before .before .before .before .if1 in
     let if2 = c .before .before .before .before .before .if2 in
     let relevant = c .before .before .before .before .relevant in
     let is-promising = c .before .before .before .is-promising in
     let if3 = c .before .before .if3 in (
       omega (arith, pre .0, if1 .left),
-      out-asked _ _ _ _ _ _ _ (pre .1) (if1 .left) (if2 .left) _ (relevant .ensures)
-          (is-promising .ensures) (if3 .taken),
+      (
+        pre .1 .0,
+        out-asked _ _ _ _ _ _ _ (pre .1 .1) (if1 .left) (if2 .left) _ (relevant .ensures)
+            (is-promising .ensures) (if3 .taken),
+      ),
     )
 
 below-returns-3 : (t : ℕ) → below-lts.Need-returns-3 (below-claims t) (below-at t) below.Post
 below-returns-3 t c =
-    let pre = c .before .before .before .before .before .before .before .before .before .before .before .before .before .before .pre in
+    let pre = c .before .before .before .before .before .before .before .before .before .before .before .before .before .before .before .pre in
     let if1 = c .before .before .before .before .before .before .before .before .before .before .before .if1 in
     let below2 = c .before .before .before .before .below2 in
-    out-full _ _ _ _ _ _ _ (pre .1) (if1 .left) _ _ (below2 .ensures) (c .if4 .taken)
+    out-full _ _ _ _ _ _ _ (pre .1 .1) (if1 .left) _ _ (below2 .ensures) (c .if4 .taken)
 
 below-same-length-3 : (t : ℕ) → below-lts.Need-same-length-3 (below-claims t) (below-at t) below.Post
 below-same-length-3 t c = upto-length _ _ _ _ _ _ (below-returns-3 t c)
 
 -- where the two ways to the middle meet
-halfway : (t : ℕ) (c : below-lts.Joined3 (below-claims t) (below-at t) below.Post) → let args = c .before .before .before .before .before .before .before .args in Halfway (now (args .table)) (args .query) (args .chosen) (args .next) (now (args .sets)) (c .if3 .sets) (c .if3 .found)
+halfway : (t : ℕ) (c : below-lts.Joined3 (below-claims t) (below-at t) below.Post) → let args = c .before .before .before .before .before .before .before .before .args in Halfway (now (args .table)) (args .query) (args .chosen) (args .next) (now (args .sets)) (c .if3 .sets) (c .if3 .found)
 halfway t c =
-    let pre = c .before .before .before .before .before .before .before .pre in
+    let pre = c .before .before .before .before .before .before .before .before .pre in
     let if1 = c .before .before .before .before .if1 in
     let if2 = c .before .before .before .if2 in
     let relevant = c .before .before .relevant in
     ⊎-elim (λ w. halfway-same _ _ _ _ _ _ _ _ _ record { upto = w .3 .ensures; fits = w .7 .left } (w .8) (w .9))
     (λ w.
-    let none = out-none _ _ _ _ _ _ _ (pre .1) (if1 .left) (if2 .left) _ (relevant .ensures)
+    let none = out-none _ _ _ _ _ _ _ (pre .1 .1) (if1 .left) (if2 .left) _ (relevant .ensures)
     (c .before .is-promising .ensures) (w .0 .left) in
     halfway-same _ _ _ _ _ _ _ _ _ none (w .1) (w .2))
     (c .if3 .came)
@@ -140,8 +143,8 @@ below-is-any-part-requires t c κs = halfway t (c .before .before) .fits
 
 below-is-met-requires : (t : ℕ) → below-lts.Need-is-met-requires (below-claims t) (below-at t) below.Post
 below-is-met-requires t c κs =
-    let pre = c .before .before .before .before .before .before .before .before .before .before .before .pre in
-    (pre .1 .0, (pre .1 .1 .0, pre .1 .1 .1 .1 .0 .met))
+    let pre = c .before .before .before .before .before .before .before .before .before .before .before .before .pre in
+    (pre .1 .1 .0, (pre .1 .1 .1 .0, pre .1 .1 .1 .1 .1 .0 .met))
 
 below-sub-below-3 : (t : ℕ) → below-lts.Need-sub-below-3 (below-claims t) (below-at t) below.Post
 below-sub-below-3 t c =
@@ -150,7 +153,7 @@ below-sub-below-3 t c =
 
 below-below-requires-3 : (t : ℕ) → below-lts.Need-below-requires-3 (below-claims t) (below-at t) below.Post
 below-below-requires-3 t c κs =
-    let pre = c .before .before .before .before .before .before .before .before .before .before .before .before .before .before .before .pre in
+    let pre = c .before .before .before .before .before .before .before .before .before .before .before .before .before .before .before .before .pre in
     let if1 = c .before .before .before .before .before .before .before .before .before .before .before .before .if1 in
     let if2 = c .before .before .before .before .before .before .before .before .before .before .before .if2 in
     let is-any-part = c .before .before .before .before .before .is-any-part in
@@ -158,18 +161,21 @@ below-below-requires-3 t c κs =
     let is-met = c .before .before .before .is-met in
     let if6 = c .before .before .if6 in (
       omega (arith, pre .0, if1 .left),
-      in-asked _ _ _ _ _ _ _ (pre .1) (if1 .left) (if2 .left) _ _
-          (halfway t (c .before .before .before .before .before .before .before .before))
-          (failed (is-any-part .ensures) (if5 .taken)) (is-met .ensures) (if6 .taken),
+      (
+        pre .1 .0,
+        in-asked _ _ _ _ _ _ _ (pre .1 .1) (if1 .left) (if2 .left) _ _
+            (halfway t (c .before .before .before .before .before .before .before .before))
+            (failed (is-any-part .ensures) (if5 .taken)) (is-met .ensures) (if6 .taken),
+      ),
     )
 
 below-returns-4 : (t : ℕ) → below-lts.Need-returns-4 (below-claims t) (below-at t) below.Post
 below-returns-4 t c =
-    let pre = c .before .before .before .before .before .before .before .before .before .before .before .before .before .before .before .before .before .before .pre in
+    let pre = c .before .before .before .before .before .before .before .before .before .before .before .before .before .before .before .before .before .before .before .pre in
     let if1 = c .before .before .before .before .before .before .before .before .before .before .before .before .before .before .before .if1 in
     let if2 = c .before .before .before .before .before .before .before .before .before .before .before .before .before .before .if2 in
     let below3 = c .before .before .below3 in
-    in-through _ _ _ _ _ _ _ (pre .1) (if1 .left) (if2 .left) _ _
+    in-through _ _ _ _ _ _ _ (pre .1 .1) (if1 .left) (if2 .left) _ _
     (halfway t (c .before .before .before .before .before .before .before .before .before .before .before)) _ _
     (below3 .ensures)
 
@@ -178,11 +184,11 @@ below-same-length-4 t c = upto-length _ _ _ _ _ _ (below-returns-4 t c)
 
 below-returns-5 : (t : ℕ) → below-lts.Need-returns-5 (below-claims t) (below-at t) below.Post
 below-returns-5 t c =
-    let pre = c .before .before .before .before .before .before .before .before .before .before .before .before .before .pre in
+    let pre = c .before .before .before .before .before .before .before .before .before .before .before .before .before .before .pre in
     let if1 = c .before .before .before .before .before .before .before .before .before .before .if1 in
     let if2 = c .before .before .before .before .before .before .before .before .before .if2 in
     let is-met = c .before .is-met in
-    in-unmet _ _ _ _ _ _ _ (pre .1) (if1 .left) (if2 .left) _ _
+    in-unmet _ _ _ _ _ _ _ (pre .1 .1) (if1 .left) (if2 .left) _ _
     (halfway t (c .before .before .before .before .before .before)) (is-met .ensures) (c .if6 .left)
 
 below-same-length-5 : (t : ℕ) → below-lts.Need-same-length-5 (below-claims t) (below-at t) below.Post
@@ -190,11 +196,11 @@ below-same-length-5 t c = upto-length _ _ _ _ _ _ (below-returns-5 t c)
 
 below-returns-6 : (t : ℕ) → below-lts.Need-returns-6 (below-claims t) (below-at t) below.Post
 below-returns-6 t c =
-    let pre = c .before .before .before .before .before .before .before .before .before .before .before .pre in
+    let pre = c .before .before .before .before .before .before .before .before .before .before .before .before .pre in
     let if1 = c .before .before .before .before .before .before .before .before .if1 in
     let if2 = c .before .before .before .before .before .before .before .if2 in
     let is-any-part = c .before .is-any-part in
-    in-included _ _ _ _ _ _ _ (pre .1) (if1 .left) (if2 .left) _ _ (halfway t (c .before .before .before .before))
+    in-included _ _ _ _ _ _ _ (pre .1 .1) (if1 .left) (if2 .left) _ _ (halfway t (c .before .before .before .before))
     (passed (is-any-part .ensures) (c .if5 .left))
 
 below-same-length-6 : (t : ℕ) → below-lts.Need-same-length-6 (below-claims t) (below-at t) below.Post

@@ -17,6 +17,7 @@ use Rattle.listing.proofs.list_checked.Reads as reads
 use Rattle.listing.proofs.list_checked.Lts as lts
 use Rattle.listing.proofs.below.Reads as below-reads
 use Rattle.derivation.proofs.provable.Reads as provable-reads
+use Rattle.derivation.proofs.index.Reads as index-reads
 use Rattle.derivation.proofs.relevant.Reads as relevant-reads
 use Rattle.table.proofs.layout.wide.Reads as wide-reads
 
@@ -43,29 +44,40 @@ sub-all c =
     let pre = c .before .before .before .before .pre in
     head-some _ (args .query) (pre .0) _ (c .wide .ensures .0)
 
+index-requires : tie.Need-index-requires
+index-requires c κs = search needs
+
+slice-aggregate-relevant : tie.Need-slice-aggregate-relevant
+slice-aggregate-relevant c = search needs
+
 relevant-requires : tie.Need-relevant-requires
 relevant-requires c κs = search needs
 
 provable-requires : tie.Need-provable-requires
 provable-requires c κs = search needs
 
+slice-aggregate-below : tie.Need-slice-aggregate-below
+slice-aggregate-below c = search needs
+
 below-requires : tie.Need-below-requires
 below-requires c κs =
-    let pre = c .before .before .before .before .before .before .before .before .before .pre in
-    let wide = c .before .before .before .before .before .wide in
-    let relevant = c .before .before .before .before .relevant in
-    let provable = c .before .before .before .provable in
-    let if1 = c .before .before .if1 in
-    start-asked _ _ (pre .0) _ (wide .ensures .0) _ (relevant .ensures) (pre .1)
-    (provable .ensures) (if1 .taken) _
+    let pre = c .before .before .before .before .before .before .before .before .before .before .before .before .pre in
+    let wide = c .before .before .before .before .before .before .before .before .wide in
+    let relevant = c .before .before .before .before .before .relevant in
+    let provable = c .before .before .before .before .provable in
+    let if1 = c .before .before .before .if1 in
+    let index = c .before .before .before .before .before .before .before .index in (
+      index .ensures,
+      start-asked _ _ (pre .0) _ (wide .ensures .0) _ (relevant .ensures) (pre .1) (provable .ensures) (if1 .taken) _,
+    )
 
 -- where the ways meet: the search, or none
-through : (c : lts.Joined1 (wide-reads.Asked, wide-reads.Learnt, relevant-reads.Asked, relevant-reads.Learnt, provable-reads.Asked, provable-reads.Learnt, below-reads.Asked, below-reads.Learnt) reads.Pre reads.Post) → let args = c .before .before .before .before .before .before .before .args in FoundUpTo (now (args .table)) (args .query) (0 + 2 ^ (c .before .before .before .wide .result)) (now (args .sets)) (c .if1 .sets) (c .if1 .found)
+through : (c : lts.Joined1 (wide-reads.Asked, wide-reads.Learnt, index-reads.Asked, index-reads.Learnt, relevant-reads.Asked, relevant-reads.Learnt, provable-reads.Asked, provable-reads.Learnt, below-reads.Asked, below-reads.Learnt) reads.Pre reads.Post) → let args = c .before .before .before .before .before .before .before .before .before .args in FoundUpTo (now (args .table)) (args .query) (0 + 2 ^ (c .before .before .before .before .before .wide .result)) (now (args .sets)) (c .if1 .sets) (c .if1 .found)
 through c =
-    let pre = c .before .before .before .before .before .before .before .pre in
-    let wide = c .before .before .before .wide in
+    let pre = c .before .before .before .before .before .before .before .before .before .pre in
+    let wide = c .before .before .before .before .before .wide in
     let relevant = c .before .before .relevant in
-    ⊎-elim (λ w. upto-same _ _ _ _ _ _ _ _ (w .3 .ensures) (w .6) (w .7))
+    ⊎-elim (λ w. upto-same _ _ _ _ _ _ _ _ (w .4 .ensures) (w .7) (w .8))
     (λ w.
     let none = start-none _ _ (pre .0) _ (wide .ensures .0) _ (relevant .ensures) (c .before .provable .ensures)
     (w .0 .left) _ in
@@ -78,7 +90,7 @@ same-length c = upto-length _ _ _ _ _ _ (through (c .before))
 returns : tie.Need-returns
 unfolding listingTold told
 returns c =
-    let wide = c .before .before .before .before .wide in
+    let wide = c .before .before .before .before .before .before .wide in
     none-told _ _ _ (wide .ensures .0) _ _ _ (through (c .before)) (c .if2 .taken)
 
 same-length-2 : tie.Need-same-length-2
@@ -87,7 +99,7 @@ same-length-2 c = upto-length _ _ _ _ _ _ (through (c .before .before))
 returns-2 : tie.Need-returns-2
 unfolding listingTold told
 returns-2 c =
-    let wide = c .before .before .before .before .before .wide in
+    let wide = c .before .before .before .before .before .before .before .wide in
     longer-told _ _ _ (wide .ensures .0) _ _ _ (through (c .before .before)) (c .if3 .taken)
 
 same-length-3 : tie.Need-same-length-3
@@ -96,7 +108,7 @@ same-length-3 c = upto-length _ _ _ _ _ _ (through (c .before .before))
 returns-3 : tie.Need-returns-3
 unfolding listingTold
 returns-3 c =
-    let wide = c .before .before .before .before .before .wide in
+    let wide = c .before .before .before .before .before .before .before .wide in
     let if2 = c .before .if2 in
     listed-told _ _ _ (wide .ensures .0) _ _ _ (through (c .before .before)) (if2 .left) (c .if3 .left)
 
@@ -109,8 +121,11 @@ list-checked-spec =
     cast-all
     shl-all
     sub-all
+    index-requires
+    slice-aggregate-relevant
     relevant-requires
     provable-requires
+    slice-aggregate-below
     below-requires
     same-length
     returns

@@ -1,65 +1,76 @@
--- `derivation::relevance::is_productive` meets its contract: the first i of the roles asked are defined. Assumes nothing.
-use mathlib.Core.Path.{_∙_, _≡_, refl, sym, ap}
-use mathlib.Core.Bool.{true}
-use Prim.Native.Nat.{_-_, _≤_}
+-- `derivation::relevance::is_productive` meets its contract: the first k of the roles asked are defined. Assumes nothing.
+use mathlib.Core.Path.{_≡_, refl, sym, ap}
+use mathlib.Core.Bool.{false, not}
+use Prim.Native.Nat.{_-_, _*_, _≤_}
 use native.Mathlib.Omega.{arith}
-use lib.ListN.{take}
-use Rattle.derivation.specs.Relevance.{allDefined}
-use Rattle.derivation.proofs.Gathering.{defined-next, defined-not}
+use denote.Ref.{now}
+use lib.ListN.{getD}
+use lib.Dec.{eqb}
+use borrow.Author.Tests.{eq-eqb, ne-eqb}
+use Rattle.table.specs.Logic.{anyBelow}
+use Rattle.table.proofs.Tests.{any-next, any-reached}
+use Rattle.derivation.specs.Relevance.{allMet, met}
 use borrow.Author.Needs.{needs}
 use Rattle.derivation.proofs.relevance.is_productive.Statement.{statement}
 use Rattle.derivation.proofs.relevance.is_productive.Tie as tie
 
 abbrev Inv-loop : tie.InvT-loop
-Inv-loop table set asked len i₀ i = (i ≤ len) × (allDefined table set (take i (asked .roles)) ≡ true)
+Inv-loop index set i at len k₀ k = (k ≤ len) × (anyBelow (λ j. eqb (met index i set j) 0) k ≡ false)
 
 abbrev μ-loop : tie.MeasureT-loop
-μ-loop table set asked len i₀ i = len - i
+μ-loop index set i at len k₀ k = len - k
 
-roles-asked-requires : tie.Need-roles-asked-requires Inv-loop μ-loop
-roles-asked-requires c κs = c .before .pre
+mul-at : tie.Need-mul-at Inv-loop μ-loop
+mul-at c = omega (arith, c .pre .there)
+
+mul-len : tie.Need-mul-len Inv-loop μ-loop
+mul-len c = omega (arith, c .pre .there)
+
+shared-slice-read-len : tie.Need-shared-slice-read-len Inv-loop μ-loop
+shared-slice-read-len c = omega (arith, c .before .pre .room, c .before .pre .there, c .before .pre .few)
+
+cast-len : tie.Need-cast-len Inv-loop μ-loop
+cast-len c = omega (arith, c .before .pre .room, c .before .pre .there, c .before .pre .few)
 
 loop-holds : tie.Need-loop-holds Inv-loop μ-loop
-unfolding allDefined
+unfolding anyBelow
 loop-holds c = (omega arith, refl)
 
-mul-defining : tie.Need-mul-defining Inv-loop μ-loop
-mul-defining c = omega (arith, c .before .before .roles-asked .ensures .few)
+add-if1 : tie.Need-add-if1 Inv-loop μ-loop
+add-if1 c = omega (arith, c .before .before .before .pre .room, c .before .before .before .pre .there, c .before .before .before .pre .few)
 
-element-copy-out-defining : tie.Need-element-copy-out-defining Inv-loop μ-loop
-element-copy-out-defining c = omega (arith, c .before .before .roles-asked .ensures .few)
+add-if1-2 : tie.Need-add-if1-2 Inv-loop μ-loop
+add-if1-2 c = omega (arith, c .before .before .before .pre .room, c .before .before .before .pre .there, c .before .before .before .pre .few)
 
-defining-requires : tie.Need-defining-requires Inv-loop μ-loop
-defining-requires c κs = c .before .before .before .before .before .pre .0
+mul-if1 : tie.Need-mul-if1 Inv-loop μ-loop
+mul-if1 c = omega (arith, c .before .before .before .pre .room, c .before .before .before .pre .there, c .before .before .before .pre .few)
+
+shared-slice-read-if1 : tie.Need-shared-slice-read-if1 Inv-loop μ-loop
+shared-slice-read-if1 c = omega (arith, c .before .before .before .before .pre .room, c .before .before .before .before .pre .there, c .before .before .before .before .pre .few)
 
 returns : tie.Need-returns Inv-loop μ-loop
+unfolding allMet
 returns c =
-    let asked = c .before .before .before .before .before .roles-asked .ensures in
-    let loop-test = c .before .before .before .loop-test in
-    sym (ap (allDefined _ _) (sym (asked .roles)) ∙ defined-not _ _ _ _ _ _ (loop-test .taken)
-    (omega (arith, asked .few, asked .room)) (sym (c .before .defining .ensures) ∙ c .if1 .taken))
+    let loop = c .before .before .before .loop in
+    let loop-test = c .before .before .loop-test in
+    sym (ap not (any-reached _ _ (loop .k) (loop-test .taken) (eq-eqb _ _ (c .if1 .taken))))
 
-add-i : tie.Need-add-i Inv-loop μ-loop
-add-i c = search needs
+add-k : tie.Need-add-k Inv-loop μ-loop
+add-k c = search needs
 
 loop-less : tie.Need-loop-less Inv-loop μ-loop
 loop-less c = search needs
 
 loop-again : tie.Need-loop-again Inv-loop μ-loop
-loop-again c =
-    let asked = c .before .before .before .before .before .roles-asked in
-    let loop = c .before .before .before .before .loop in (
-      omega arith,
-      defined-next _ _ (asked .result .roles) (loop .i) _
-          (omega (arith, asked .ensures .few, asked .ensures .room)) _ (c .before .defining .ensures)
-          (loop .inv .1) (c .if1 .left),
-    )
+loop-again c = (omega arith, any-next _ _ (c .before .before .before .loop .inv .1) (ne-eqb _ _ (c .if1 .left)))
 
 returns-2 : tie.Need-returns-2 Inv-loop μ-loop
+unfolding allMet
 returns-2 c =
-    let asked = c .before .before .roles-asked in
-    let all : c .before .loop .i ≡ asked .result .len = omega arith in
-    sym (ap (allDefined _ _) (sym (asked .ensures .roles)) ∙ (rw all at (c .before .loop .inv .1)))
+    let loop = c .before .loop in
+    let args = c .before .before .before .args in
+    let all : loop .k ≡ getD (now (args .index)) (5 * args .i) 0 = omega arith in
+    sym (ap not (rw all at (loop .inv .1)))
 
 pub is-productive-spec : {M : Type 1} → statement M
 is-productive-spec =
@@ -67,13 +78,17 @@ is-productive-spec =
     (tie.spec
     Inv-loop
     μ-loop
-    roles-asked-requires
+    mul-at
+    mul-len
+    shared-slice-read-len
+    cast-len
     loop-holds
-    mul-defining
-    element-copy-out-defining
-    defining-requires
+    add-if1
+    add-if1-2
+    mul-if1
+    shared-slice-read-if1
     returns
-    add-i
+    add-k
     loop-less
     loop-again
     returns-2)

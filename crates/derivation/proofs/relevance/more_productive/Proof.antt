@@ -8,21 +8,22 @@ use denote.Ref.{now}
 use Rattle.table.specs.Layout.{credentials}
 use Rattle.table.proofs.WellFormed.{wf-sized}
 use Rattle.derivation.specs.Relevance.{Round}
-use Rattle.derivation.proofs.Gathering.{ProductiveTo, chain-whole, productive-more, productive-not, productive-old, round-starts}
+use Rattle.derivation.proofs.Gathering.{ProductiveTo, productive-more, productive-not, productive-old, round-starts}
+use Rattle.derivation.proofs.Indexing.{all-met, place}
 use borrow.Author.Needs.{needs}
 use Rattle.derivation.proofs.relevance.more_productive.Statement.{statement}
 use Rattle.derivation.proofs.relevance.more_productive.Tie as tie
 
 abbrev Inv-loop : tie.InvT-loop
-Inv-loop table allowed set n more₀ i₀ more i = (i ≤ n) × Round allowed set more (ProductiveTo table allowed set i)
+Inv-loop table index allowed set n more₀ i₀ more i = (i ≤ n) × Round allowed set more (ProductiveTo table allowed set i)
 
 abbrev μ-loop : tie.MeasureT-loop
-μ-loop table allowed set n more₀ i₀ more i = n - i
+μ-loop table index allowed set n more₀ i₀ more i = n - i
 
 shared-slice-read-wide : tie.Need-shared-slice-read-wide Inv-loop μ-loop
 shared-slice-read-wide c =
-    let pre = c .before .before .pre in
-    omega (arith, wf-sized _ pre .counted .head)
+    let pre = c .before .before .before .pre in
+    omega (arith, wf-sized _ (pre .0) .counted .head)
 
 wide-requires : tie.Need-wide-requires Inv-loop μ-loop
 wide-requires c κs = search needs
@@ -32,31 +33,23 @@ loop-holds c = (omega arith, round-starts _ _ (λ c h. absurd (omega arith)))
 
 is-new-requires : tie.Need-is-new-requires Inv-loop μ-loop
 is-new-requires c κs =
-    let pre = c .before .before .before .before .before .pre in
-    omega (arith, wf-sized _ pre .counted .fewCredentials)
-
-add-credential : tie.Need-add-credential Inv-loop μ-loop
-add-credential c = search needs
-
-credential-requires : tie.Need-credential-requires Inv-loop μ-loop
-credential-requires c κs =
-    let pre = c .before .before .before .before .before .before .before .pre in
-    (wf-sized _ pre, record { first = omega arith; last = omega arith })
+    let pre = c .before .before .before .before .before .before .pre in
+    omega (arith, wf-sized _ (pre .0) .counted .fewCredentials)
 
 is-productive-requires : tie.Need-is-productive-requires Inv-loop μ-loop
 is-productive-requires c κs =
     let pre = c .before .before .before .before .before .before .before .before .pre in
-    (pre, chain-whole _ pre _ (record { first = omega arith; last = omega arith }) _ (c .credential .ensures))
+    place _ _ (pre .0) (pre .1) _ (omega arith)
 
 cast-more : tie.Need-cast-more Inv-loop μ-loop
 cast-more c =
     let pre = c .before .before .before .before .before .before .before .before .before .before .pre in
-    omega (arith, wf-sized _ pre .counted .fewCredentials)
+    omega (arith, wf-sized _ (pre .0) .counted .fewCredentials)
 
 shl-more : tie.Need-shl-more Inv-loop μ-loop
 shl-more c =
     let pre = c .before .before .before .before .before .before .before .before .before .before .pre in
-    omega (arith, wf-sized _ pre .counted .fewCredentials)
+    omega (arith, wf-sized _ (pre .0) .counted .fewCredentials)
 
 add-i : tie.Need-add-i Inv-loop μ-loop
 add-i c = search needs
@@ -66,26 +59,27 @@ loop-less c = search needs
 
 loop-again : tie.Need-loop-again Inv-loop μ-loop
 loop-again c =
-    let pre = c .before .before .before .before .before .before .before .pre in
+    let pre = c .before .before .before .before .before .before .before .before .pre in
     let round = c .before .before .before .loop .inv .1 in
     let new = c .before .is-new in
     ⊎-elim
     (λ w. (
       omega arith,
-      rw (w .4) (productive-more _ _ _ _ _ round (sym (new .ensures) ∙ w .0 .taken)
-          (omega (arith, wf-sized _ pre .counted .fewCredentials))),
+      rw (w .3) (productive-more _ _ _ _ _ round (sym (new .ensures) ∙ w .0 .taken)
+          (omega (arith, wf-sized _ (pre .0) .counted .fewCredentials))),
     ))
     (⊎-elim
     (λ w. (
       omega arith,
-      rw (w .4) (productive-not _ _ _ _ _ round _ (w .1 .ensures) (sym (w .2 .ensures) ∙ w .3 .left)),
+      rw (w .3) (productive-not _ _ _ _ _ round
+          (sym (all-met _ _ (pre .0) (pre .1) _ (omega arith) _) ∙ sym (w .1 .ensures) ∙ w .2 .left)),
     ))
     (λ w. (omega arith, rw (w .1) (productive-old _ _ _ _ _ round (sym (new .ensures) ∙ w .0 .left)))))
     (c .if1 .came)
 
 returns : tie.Need-returns Inv-loop μ-loop
 returns c =
-    let args = c .before .before .before .before .before .args in
+    let args = c .before .before .before .before .before .before .args in
     let all : c .before .loop .i ≡ credentials (now (args .table)) = omega arith in
     rw all at (c .before .loop .inv .1)
 
@@ -99,8 +93,6 @@ more-productive-spec =
     wide-requires
     loop-holds
     is-new-requires
-    add-credential
-    credential-requires
     is-productive-requires
     cast-more
     shl-more

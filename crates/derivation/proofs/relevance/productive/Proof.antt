@@ -11,20 +11,20 @@ use Rattle.derivation.proofs.relevance.productive.Statement.{statement}
 use Rattle.derivation.proofs.relevance.productive.Tie as tie
 
 abbrev Inv-loop : tie.InvT-loop
-Inv-loop table allowed set₀ next₀ set next =
+Inv-loop table index allowed set₀ next₀ set next =
     (part set allowed ≡ true) × Round allowed set next (Productive table allowed set)
 
 abbrev μ-loop : tie.MeasureT-loop
-μ-loop table allowed set₀ next₀ set next = allowed - set
+μ-loop table index allowed set₀ next₀ set next = allowed - set
 
 more-productive-requires : tie.Need-more-productive-requires Inv-loop μ-loop
-more-productive-requires c κs = c .before .pre
+more-productive-requires c κs = c .before .before .pre
 
 loop-holds : tie.Need-loop-holds Inv-loop μ-loop
 loop-holds c = (part-zero _, c .more-productive .ensures)
 
 more-productive-requires-2 : tie.Need-more-productive-requires-2 Inv-loop μ-loop
-more-productive-requires-2 c κs = c .before .before .before .before .pre
+more-productive-requires-2 c κs = c .before .before .before .before .before .pre
 
 loop-less : tie.Need-loop-less Inv-loop μ-loop
 loop-less c =

@@ -12,23 +12,23 @@ use Rattle.derivation.proofs.relevance.reachable.Statement.{statement}
 use Rattle.derivation.proofs.relevance.reachable.Tie as tie
 
 abbrev Inv-loop : tie.InvT-loop
-Inv-loop table productive set₀ next₀ set next =
+Inv-loop table index productive set₀ next₀ set next =
     (part set productive ≡ true) × (part set₀ set ≡ true) × Round productive set next (Reached table productive set)
 
 abbrev μ-loop : tie.MeasureT-loop
-μ-loop table productive set₀ next₀ set next = productive - set
+μ-loop table index productive set₀ next₀ set next = productive - set
 
 defining-requires : tie.Need-defining-requires Inv-loop μ-loop
-defining-requires c κs = c .before .pre
+defining-requires c κs = c .before .before .pre .0
 
 more-reachable-requires : tie.Need-more-reachable-requires Inv-loop μ-loop
-more-reachable-requires c κs = c .before .before .pre
+more-reachable-requires c κs = c .before .before .before .pre
 
 loop-holds : tie.Need-loop-holds Inv-loop μ-loop
 loop-holds c = (rw (c .before .defining .ensures) (definers-among _ _ _), part-refl _, c .more-reachable .ensures)
 
 more-reachable-requires-2 : tie.Need-more-reachable-requires-2 Inv-loop μ-loop
-more-reachable-requires-2 c κs = c .before .before .before .before .before .pre
+more-reachable-requires-2 c κs = c .before .before .before .before .before .before .pre
 
 loop-less : tie.Need-loop-less Inv-loop μ-loop
 loop-less c =

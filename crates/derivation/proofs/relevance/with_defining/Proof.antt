@@ -1,58 +1,66 @@
--- `derivation::relevance::with_defining` meets its contract: the definers of the first i of the roles asked are taken in.
--- Assumes nothing.
-use mathlib.Core.Path.{_∙_, _≡_, refl, ap}
-use Prim.Native.Nat.{_-_, _≤_}
+-- `derivation::relevance::with_defining` meets its contract: the definers of the first k of the roles asked are taken in. Assumes nothing.
+use mathlib.Core.Path.{_≡_, refl}
+use Prim.Native.Nat.{_-_, _*_, _≤_}
 use native.Mathlib.Omega.{arith}
-use lib.ListN.{take}
-use Rattle.derivation.specs.Relevance.{withDefiners}
-use Rattle.derivation.proofs.Gathering.{with-next}
+use denote.Ref.{now}
+use lib.ListN.{getD}
+use Rattle.derivation.specs.Relevance.{withMetTo}
+use Rattle.derivation.proofs.Indexing.{met-next}
 use borrow.Author.Needs.{needs}
 use Rattle.derivation.proofs.relevance.with_defining.Statement.{statement}
 use Rattle.derivation.proofs.relevance.with_defining.Tie as tie
 
 abbrev Inv-loop : tie.InvT-loop
-Inv-loop table set reached asked len more₀ i₀ more i =
-    (i ≤ len) × (more ≡ withDefiners table set reached (take i (asked .roles)))
+Inv-loop index set reached i at len more₀ k₀ more k = (k ≤ len) × (more ≡ withMetTo index i set reached k)
 
 abbrev μ-loop : tie.MeasureT-loop
-μ-loop table set reached asked len more₀ i₀ more i = len - i
+μ-loop index set reached i at len more₀ k₀ more k = len - k
 
-roles-asked-requires : tie.Need-roles-asked-requires Inv-loop μ-loop
-roles-asked-requires c κs = c .before .pre
+mul-at : tie.Need-mul-at Inv-loop μ-loop
+mul-at c = omega (arith, c .pre .there)
+
+mul-len : tie.Need-mul-len Inv-loop μ-loop
+mul-len c = omega (arith, c .pre .there)
+
+shared-slice-read-len : tie.Need-shared-slice-read-len Inv-loop μ-loop
+shared-slice-read-len c = omega (arith, c .before .pre .room, c .before .pre .there, c .before .pre .few)
+
+cast-len : tie.Need-cast-len Inv-loop μ-loop
+cast-len c = omega (arith, c .before .pre .room, c .before .pre .there, c .before .pre .few)
 
 loop-holds : tie.Need-loop-holds Inv-loop μ-loop
-unfolding withDefiners
+unfolding withMetTo
 loop-holds c = (omega arith, refl)
 
-mul-defining : tie.Need-mul-defining Inv-loop μ-loop
-mul-defining c = omega (arith, c .before .before .roles-asked .ensures .few)
+add-more : tie.Need-add-more Inv-loop μ-loop
+add-more c = omega (arith, c .before .before .before .pre .room, c .before .before .before .pre .there, c .before .before .before .pre .few)
 
-element-copy-out-defining : tie.Need-element-copy-out-defining Inv-loop μ-loop
-element-copy-out-defining c = omega (arith, c .before .before .roles-asked .ensures .few)
+add-more-2 : tie.Need-add-more-2 Inv-loop μ-loop
+add-more-2 c = omega (arith, c .before .before .before .pre .room, c .before .before .before .pre .there, c .before .before .before .pre .few)
 
-defining-requires : tie.Need-defining-requires Inv-loop μ-loop
-defining-requires c κs = c .before .before .before .before .before .pre .0
+mul-more : tie.Need-mul-more Inv-loop μ-loop
+mul-more c = omega (arith, c .before .before .before .pre .room, c .before .before .before .pre .there, c .before .before .before .pre .few)
 
-add-i : tie.Need-add-i Inv-loop μ-loop
-add-i c = search needs
+shared-slice-read-more : tie.Need-shared-slice-read-more Inv-loop μ-loop
+shared-slice-read-more c = omega (arith, c .before .before .before .before .pre .room, c .before .before .before .before .pre .there, c .before .before .before .before .pre .few)
+
+add-k : tie.Need-add-k Inv-loop μ-loop
+add-k c = search needs
 
 loop-less : tie.Need-loop-less Inv-loop μ-loop
 loop-less c = search needs
 
 loop-again : tie.Need-loop-again Inv-loop μ-loop
 loop-again c =
-    let asked = c .before .before .before .before .roles-asked in
-    let loop = c .before .before .before .loop in (
-      omega arith,
-      with-next _ _ (asked .result .roles) (loop .i) _
-          (omega (arith, asked .ensures .few, asked .ensures .room)) _ (c .defining .ensures) _ _ (loop .inv .1),
-    )
+    let loop = c .before .before .loop in
+    (omega arith, met-next _ _ _ _ (loop .k) _ (loop .inv .1))
 
 returns : tie.Need-returns Inv-loop μ-loop
 returns c =
-    let asked = c .before .before .roles-asked in
-    let all : c .before .loop .i ≡ asked .result .len = omega arith in
-    (rw all at (c .before .loop .inv .1)) ∙ ap (withDefiners _ _ _) (asked .ensures .roles)
+    let loop = c .before .loop in
+    let args = c .before .before .before .args in
+    let all : loop .k ≡ getD (now (args .index)) (5 * args .i) 0 = omega arith in
+    rw all at (loop .inv .1)
 
 pub with-defining-spec : {M : Type 1} → statement M
 with-defining-spec =
@@ -60,12 +68,16 @@ with-defining-spec =
     (tie.spec
     Inv-loop
     μ-loop
-    roles-asked-requires
+    mul-at
+    mul-len
+    shared-slice-read-len
+    cast-len
     loop-holds
-    mul-defining
-    element-copy-out-defining
-    defining-requires
-    add-i
+    add-more
+    add-more-2
+    mul-more
+    shared-slice-read-more
+    add-k
     loop-less
     loop-again
     returns)
