@@ -76,33 +76,44 @@ pub fn layers(layers: u16) -> Wallet {
     from_records(credentials, cells)
 }
 
-/// A ladder of ten credentials of kind 3: five principals own two roles each,
-/// which are the two sides. Whoever is in a role on one side is in the role on
-/// the other side of each principal from whom the way leads there, and ways
-/// lead to the next principal and to the one after.
-pub fn ladder() -> Wallet {
+/// A ladder of two credentials of kind 3 for each of 2 to 5 principals, who own
+/// two roles each, which are the two sides. Whoever is in a role on one side is
+/// in the role on the other side of each principal from whom the way leads
+/// there, and ways lead to the next principal and to the one after.
+pub fn ladder(principals: u16) -> Wallet {
     const LEFT: u16 = 1;
     const RIGHT: u16 = 2;
     const WAY: u16 = 3;
     let mut credentials = Vec::new();
-    for principal in 1..=5 {
+    for principal in 1..=principals {
         credentials.push([principal, LEFT, 3, WAY, RIGHT, 0]);
         credentials.push([principal, RIGHT, 3, WAY, LEFT, 0]);
     }
-    for principal in 1..=5 {
-        let next = principal % 5 + 1;
+    for principal in 1..=principals {
+        let next = principal % principals + 1;
         credentials.push([principal, WAY, 1, next, 0, 0]);
-        if principal < 5 {
-            credentials.push([principal, WAY, 1, next % 5 + 1, 0, 0]);
+        if principal < principals {
+            credentials.push([principal, WAY, 1, next % principals + 1, 0, 0]);
         }
     }
-    credentials.push([4, RIGHT, 1, MEMBER, 0, 0]);
+    credentials.push([principals - 1, RIGHT, 1, MEMBER, 0, 0]);
     from_records(credentials, Vec::new())
+}
+
+/// A chain of four roles, each of which 1 to 4 credentials define: one set for
+/// each choice of four.
+pub fn choices(each: u16) -> Wallet {
+    let cells = (1..=4).map(|part| [1, part + 1, if part == 4 { 0 } else { part + 1 }]);
+    let mut credentials = vec![[1, 1, 4, 1, 0, 0]];
+    for part in 1..=4 {
+        credentials.extend((0..each).map(|_| [1, part + 1, 1, MEMBER, 0, 0]));
+    }
+    from_records(credentials, cells.collect())
 }
 
 /// The ladder with an automaton on the credential that every derivation uses.
 pub fn constrained_ladder(constraint: &Constraint) -> Wallet {
-    let mut wallet = ladder();
+    let mut wallet = ladder(5);
     let mut random = Random::new(0);
     let number = constraints::add(&mut random, &mut wallet.records, constraint);
     let last = wallet.records.credentials.last_mut();

@@ -54,7 +54,14 @@ pub fn time_lists(random: &mut Random) {
         let what = format!("four different roles, layers {layers}");
         report(&what, vec![families::layers(layers)]);
     }
-    report("ladder of ten of kind 3", vec![families::ladder()]);
+    for each in 1..=4 {
+        let what = format!("four roles, each defined {each} times");
+        report(&what, vec![families::choices(each)]);
+    }
+    for principals in 2..=5 {
+        let what = format!("ladder of {} of kind 3", 2 * principals);
+        report(&what, vec![families::ladder(principals)]);
+    }
     let constraints = [
         ("at most 5 roles", Constraint::at_most(5)),
         ("role 2.2 nowhere", Constraint::nowhere((2, 2))),
