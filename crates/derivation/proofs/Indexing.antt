@@ -1,6 +1,6 @@
 -- The index of a table: what its cells hold, and that by it the roles asked are met, and their definers taken in, as they are by the table.
 use mathlib.Core.Path.{_≡_, refl, sym, ap, _∙_}
-use mathlib.Core.List.{List, [], _∷_, _++_, map}
+use mathlib.Core.List.{List, [], _∷_, _++_}
 use mathlib.Core.Bool.{Bool, true, false, not}
 use Prim.Native.Nat.{ℕ, zero, suc, _+_, _-_, _*_, _/_, _%_, _≤_, _<_}
 use native.Mathlib.Omega.{arith}
@@ -8,7 +8,7 @@ use native.Mathlib.Decide.{ℕ-discrete}
 use native.Mathlib.Numerals.{add-one}
 use lib.Bits.{bitAnd, bitOr}
 use lib.Dec.{eqb, ltb}
-use lib.ListN.{getD, length, set, take}
+use lib.ListN.{getD, length, length-map, set, take}
 use lib.Seq.{getD-set-other, getD-set-same, getD-take, length-take-le, take-length, take-suc}
 use borrow.Author.Tests.{le-ltb, leb-true, lt-ltb, ltb-true}
 use Rattle.table.specs.Logic.{_and_, _or_, anyBelow, pick}
@@ -61,10 +61,6 @@ definers-within t P r few = same-members _ _ each
         ∙ sym (setOf-members (λ c. inSet P c and meaning c) (credentials t) c)
 
 -- a credential asks at most four roles
-map-length : (f : ℕ → Role) (l : List ℕ) → length (map f l) ≡ length l
-map-length f [] = refl
-map-length f (x ∷ l) = ap suc (map-length f l)
-
 roles-few : (t : List ℕ) (c : Credential) → ChainThere t c → length (rolesAsked t c) ≤ mostParts
 unfolding chainOk within parts
 roles-few t c chained = go (ℕ-discrete (c .kind) 2) (ℕ-discrete (c .kind) 3) (ℕ-discrete (c .kind) 4)
@@ -73,7 +69,7 @@ roles-few t c chained = go (ℕ-discrete (c .kind) 2) (ℕ-discrete (c .kind) 3)
     go (yes h2) h3 h4 = rw (roles-2 t c h2) (omega arith)
     go (no h2) (yes h3) h4 = rw (roles-3 t c h3) (omega arith)
     go (no h2) (no h3) (yes h4) =
-        rw (roles-4 t c h4, map-length (λ (k : ℕ). cell t k .role) (chain t (c .first)))
+        rw (roles-4 t c h4, length-map (chain t (c .first)) (λ (k : ℕ). cell t k .role))
         (leb-true _ _ (and-second _ _ (chained .whole h4)))
     go (no h2) (no h3) (no h4) = rw (roles-none t c h2 h3 h4) (omega arith)
 

@@ -68,30 +68,36 @@ withDefiners t P x (r ∷ roles) = withDefiners t P (bitOr x (definers t P r)) r
 abbrev pub everyCredential : ℕ
 everyCredential = 1048575
 
--- a credential's place in the index of a table: how many roles it asks, then for each of them the credentials that define it
+-- the index of a table: five cells for each of at most 20 credentials
+abbrev pub placeCells : ℕ
+placeCells = 5
+
+abbrev pub indexCells : ℕ
+indexCells = 100
+
+-- a credential's place in it: how many roles it asks, then for each of them the credentials that define it
 unfoldable pub indexed : List ℕ → List Role → ℕ → ℕ
 indexed t roles zero = length roles
 indexed t roles (suc k) = pick (ltb k (length roles)) (definers t everyCredential (getD roles k (role 0 0))) 0
 
--- the index: five cells for each credential
 pub record Indexed (t index : List ℕ) : Type 0 where
-  pub room : length index ≡ 100
-  pub each : (j : ℕ) → j < 5 * credentials t
-      → getD index j 0 ≡ indexed t (rolesAsked t (credential t (suc (j / 5)))) (j % 5)
+  pub room : length index ≡ indexCells
+  pub each : (j : ℕ) → j < placeCells * credentials t
+      → getD index j 0 ≡ indexed t (rolesAsked t (credential t (suc (j / placeCells)))) (j % placeCells)
 
 -- the place of credential i + 1 is in the index
 pub record Place (index : List ℕ) (i : ℕ) : Type 0 where
-  pub room : length index ≡ 100
+  pub room : length index ≡ indexCells
   pub there : i < mostCredentials
-  pub few : getD index (5 * i) 0 ≤ mostParts
+  pub few : getD index (placeCells * i) 0 ≤ mostParts
 
 -- the definers in P of role k that credential i + 1 asks, by the index
 abbrev pub met : List ℕ → ℕ → ℕ → ℕ → ℕ
-met index i P k = bitAnd (getD index (5 * i + 1 + k) 0) P
+met index i P k = bitAnd (getD index (placeCells * i + 1 + k) 0) P
 
 -- each role that the credential asks is defined in P, by the index
 unfoldable pub allMet : List ℕ → ℕ → ℕ → Bool
-allMet index i P = not (anyBelow (λ k. eqb (met index i P k) 0) (getD index (5 * i) 0))
+allMet index i P = not (anyBelow (λ k. eqb (met index i P k) 0) (getD index (placeCells * i) 0))
 
 -- those of x, and the definers in P of the first n roles asked, by the index
 unfoldable pub withMetTo : List ℕ → ℕ → ℕ → ℕ → ℕ → ℕ
@@ -99,7 +105,7 @@ withMetTo index i P x zero = x
 withMetTo index i P x (suc n) = bitOr (withMetTo index i P x n) (met index i P n)
 
 abbrev pub withMet : List ℕ → ℕ → ℕ → ℕ → ℕ
-withMet index i P x = withMetTo index i P x (getD index (5 * i) 0)
+withMet index i P x = withMetTo index i P x (getD index (placeCells * i) 0)
 
 -- P has every credential of S whose roles asked are all defined in P
 abbrev pub Productive : List ℕ → ℕ → ℕ → Type 0

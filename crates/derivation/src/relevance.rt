@@ -23,7 +23,7 @@ ghost use Rattle.automata.specs.Sets.{inSet, part};
 ghost use Rattle.derivation.specs.Relevance.{Asking, ChainThere, Indexed, Place, Productive, Reached, Round, allMet, definers, indexed, linkedRoles, meant, rolesAsked, withMet};
 
 // Five cells for each of at most 20 credentials.
-pub const PLACE: usize = 5;
+const PLACE: usize = 5;
 
 pub const INDEX_CELLS: usize = 100;
 

@@ -43,10 +43,11 @@ laid sets buffer = take (length buffer) sets ++ drop (length sets) buffer
 unfoldable pub counted : ℕ → ℕ → Outcome
 counted cells count = demand (not (eqb count 0)) 9 0 andThen demand (leb count cells) 10 0 andThen accepted count
 
--- the buffer changes only where rows 1 to 8 find nothing; with no minimal set nothing is laid
+-- rows 1 to 8, then 9, 10 or the count
 unfoldable pub listing : List ℕ → Query → ℕ → Outcome
 listing t q cells = requestOutcome t q andThen counted cells (length (minimalSets t q))
 
+-- the buffer changes only where rows 1 to 8 find nothing; with no minimal set nothing is laid
 unfoldable pub afterwards : Outcome → List ℕ → List ℕ → List ℕ
 afterwards (accepted value) sets buffer = laid sets buffer
 afterwards (refused number position) sets buffer = buffer
