@@ -1,0 +1,109 @@
+//! Names for a table's numbers, and how its records are said with them.
+
+use std::collections::BTreeMap;
+
+use crate::table::{Body, Credential, Edge, Label, Role, Table};
+
+/// The names of a wallet's numbers. A number without a name has a name made
+/// of the number, so that everything can be said.
+#[derive(Clone, Debug, Default, PartialEq, Eq)]
+pub struct Names {
+    /// The principals' names, by number.
+    pub principals: BTreeMap<u16, String>,
+    /// The role names, by number.
+    pub roles: BTreeMap<u16, String>,
+    /// The constraints' names, by automaton number.
+    pub constraints: BTreeMap<u16, String>,
+    /// The states' names, by automaton number and state.
+    pub states: BTreeMap<(u16, u16), String>,
+}
+
+impl Names {
+    /// A principal's name, `P7` for a 7 without one.
+    pub fn principal(&self, number: u16) -> String {
+        named(&self.principals, &number, || format!("P{number}"))
+    }
+
+    /// A role name's name, `r7` for a 7 without one.
+    pub fn role_name(&self, number: u16) -> String {
+        named(&self.roles, &number, || format!("r{number}"))
+    }
+
+    /// A constraint's name, `constraint-7` for a 7 without one.
+    pub fn constraint(&self, automaton: u16) -> String {
+        named(&self.constraints, &automaton, || {
+            format!("constraint-{automaton}")
+        })
+    }
+
+    /// A state's name, its number where it has none.
+    pub fn state(&self, automaton: u16, state: u16) -> String {
+        named(&self.states, &(automaton, state), || state.to_string())
+    }
+
+    /// A role: `Shop.discount`.
+    pub fn role(&self, role: Role) -> String {
+        format!(
+            "{}.{}",
+            self.principal(role.owner),
+            self.role_name(role.name)
+        )
+    }
+
+    /// A membership: `Ann in Shop.discount`.
+    pub fn goal(&self, principal: u16, role: Role) -> String {
+        format!("{} in {}", self.principal(principal), self.role(role))
+    }
+
+    /// A credential's text without its constraint:
+    /// `Shop.discount <- Shop.accredited.student`.
+    pub fn arrow(&self, table: &Table, credential: &Credential) -> String {
+        let body = match credential.body {
+            Body::Member(principal) => self.principal(principal),
+            Body::Contained(role) => self.role(role),
+            Body::Linked { first, second } => format!(
+                "{}.{}.{}",
+                self.principal(credential.role.owner),
+                self.role_name(first),
+                self.role_name(second)
+            ),
+            Body::Parts(first) => {
+                let parts = table.parts(first);
+                let roles: Vec<String> = parts.iter().map(|role| self.role(*role)).collect();
+                roles.join(" & ")
+            }
+        };
+        format!("{} <- {body}", self.role(credential.role))
+    }
+
+    /// A credential's text, with the constraint that is attached to it:
+    /// `School.student <- Ann under not-for-discounts`.
+    pub fn credential(&self, table: &Table, credential: &Credential) -> String {
+        let arrow = self.arrow(table, credential);
+        match credential.automaton {
+            0 => arrow,
+            automaton => format!("{arrow} under {}", self.constraint(automaton)),
+        }
+    }
+
+    /// An edge's text: `0 -- not Shop.discount --> 1`.
+    pub fn edge(&self, edge: &Edge) -> String {
+        let label = match edge.label {
+            Label::Only(role) => self.role(role),
+            Label::Any => "any".to_string(),
+            Label::Not(role) => format!("not {}", self.role(role)),
+        };
+        let from = self.state(edge.automaton, edge.from);
+        let to = self.state(edge.automaton, edge.to);
+        format!("{from} -- {label} --> {to}")
+    }
+}
+
+/// The name of a key, or the one that is made for it.
+fn named<Key: Ord>(
+    names: &BTreeMap<Key, String>,
+    key: &Key,
+    made: impl FnOnce() -> String,
+) -> String {
+    names.get(key).cloned().unwrap_or_else(made)
+}

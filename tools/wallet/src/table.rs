@@ -1,0 +1,237 @@
+//! A table by its records, as document 01 lays it out, and its numbers.
+//!
+//! The checker takes numbers; everything here that speaks of a credential, a
+//! part cell, an automaton or an edge takes these. `Table::numbers` and
+//! `Table::of_numbers` go from one to the other and lose nothing.
+
+/// A role: an owner, who is a principal, and a role name, both 1 to 64.
+#[derive(Clone, Copy, Debug, PartialEq, Eq, PartialOrd, Ord)]
+pub struct Role {
+    /// The principal who owns the role.
+    pub owner: u16,
+    /// The role's name.
+    pub name: u16,
+}
+
+/// What stands behind a credential's arrow.
+#[derive(Clone, Copy, Debug, PartialEq, Eq)]
+pub enum Body {
+    /// Kind 1: this principal is in the role.
+    Member(u16),
+    /// Kind 2: whoever is in this role is in the role.
+    Contained(Role),
+    /// Kind 3: whoever is in M.second, for some M in owner.first.
+    Linked {
+        /// The name of the role whose members are the middles.
+        first: u16,
+        /// The name of the middle's role.
+        second: u16,
+    },
+    /// Kind 4: whoever is in the role of every cell of the chain that begins
+    /// at this part cell.
+    Parts(u16),
+}
+
+/// A credential. It defines `role`.
+#[derive(Clone, Copy, Debug, PartialEq, Eq)]
+pub struct Credential {
+    /// The role that it defines.
+    pub role: Role,
+    /// What it says of that role.
+    pub body: Body,
+    /// The automaton attached to it, from 1; 0 for none.
+    pub automaton: u16,
+}
+
+/// A part cell: a role and the cell behind it, 0 for none.
+#[derive(Clone, Copy, Debug, PartialEq, Eq)]
+pub struct Cell {
+    /// The part's role.
+    pub role: Role,
+    /// The next cell of the chain, from 1; 0 where the chain ends.
+    pub next: u16,
+}
+
+/// An automaton: two sets of states, in which state s counts 2^s.
+#[derive(Clone, Copy, Debug, PartialEq, Eq)]
+pub struct Automaton {
+    /// The starting states.
+    pub start: u16,
+    /// The accepting states.
+    pub accept: u16,
+}
+
+/// Which roles an edge reads.
+#[derive(Clone, Copy, Debug, PartialEq, Eq)]
+pub enum Label {
+    /// Label 1: this role.
+    Only(Role),
+    /// Label 2: every role.
+    Any,
+    /// Label 3: every role but this one.
+    Not(Role),
+}
+
+impl Label {
+    /// Whether an edge with this label reads a role.
+    pub fn matches(self, role: Role) -> bool {
+        match self {
+            Label::Only(own) => own == role,
+            Label::Any => true,
+            Label::Not(own) => own != role,
+        }
+    }
+}
+
+/// An edge of an automaton.
+#[derive(Clone, Copy, Debug, PartialEq, Eq)]
+pub struct Edge {
+    /// The automaton, from 1.
+    pub automaton: u16,
+    /// The state that it leaves, 0 to 15.
+    pub from: u16,
+    /// The roles that it reads.
+    pub label: Label,
+    /// The state that it leads to, 0 to 15.
+    pub to: u16,
+}
+
+/// A table: credentials, part cells, automata and edges, each numbered from 1.
+#[derive(Clone, Debug, Default, PartialEq, Eq)]
+pub struct Table {
+    /// At most 20.
+    pub credentials: Vec<Credential>,
+    /// At most 63.
+    pub cells: Vec<Cell>,
+    /// At most 8.
+    pub automata: Vec<Automaton>,
+    /// At most 128.
+    pub edges: Vec<Edge>,
+}
+
+/// The numbers of a table's head.
+const HEAD: usize = 4;
+
+impl Table {
+    /// The table as numbers: the head's four counts, then the records.
+    pub fn numbers(&self) -> Vec<u16> {
+        let mut numbers = vec![
+            self.credentials.len() as u16,
+            self.cells.len() as u16,
+            self.automata.len() as u16,
+            self.edges.len() as u16,
+        ];
+        numbers.extend(self.credentials.iter().flat_map(credential_numbers));
+        numbers.extend(self.cells.iter().flat_map(cell_numbers));
+        numbers.extend(self.automata.iter().flat_map(|a| [a.start, a.accept]));
+        numbers.extend(self.edges.iter().flat_map(edge_numbers));
+        numbers
+    }
+
+    /// The records of a table that the checker accepts; its refusal of any
+    /// other.
+    pub fn of_numbers(numbers: &[u16]) -> Result<Table, bwlchareg::Refusal> {
+        bwlchareg::check(numbers)?;
+        let counts = &numbers[..HEAD];
+        let mut rest = &numbers[HEAD..];
+        let mut records = |count: u16, size: usize| {
+            let (these, behind) = rest.split_at(usize::from(count) * size);
+            rest = behind;
+            these.chunks_exact(size)
+        };
+        Ok(Table {
+            credentials: records(counts[0], 6).map(credential).collect(),
+            cells: records(counts[1], 3).map(cell).collect(),
+            automata: records(counts[2], 2).map(automaton).collect(),
+            edges: records(counts[3], 6).map(edge).collect(),
+        })
+    }
+
+    /// The roles of the chain that begins at a part cell.
+    pub fn parts(&self, first: u16) -> Vec<Role> {
+        let mut roles = Vec::new();
+        let mut next = first;
+        while next != 0 {
+            let cell = self.cells[usize::from(next) - 1];
+            roles.push(cell.role);
+            next = cell.next;
+        }
+        roles
+    }
+}
+
+fn credential_numbers(credential: &Credential) -> [u16; 6] {
+    let (kind, first, second) = match credential.body {
+        Body::Member(principal) => (1, principal, 0),
+        Body::Contained(role) => (2, role.owner, role.name),
+        Body::Linked { first, second } => (3, first, second),
+        Body::Parts(cell) => (4, cell, 0),
+    };
+    let Role { owner, name } = credential.role;
+    [owner, name, kind, first, second, credential.automaton]
+}
+
+fn cell_numbers(cell: &Cell) -> [u16; 3] {
+    [cell.role.owner, cell.role.name, cell.next]
+}
+
+fn edge_numbers(edge: &Edge) -> [u16; 6] {
+    let (label, owner, name) = match edge.label {
+        Label::Only(role) => (1, role.owner, role.name),
+        Label::Any => (2, 0, 0),
+        Label::Not(role) => (3, role.owner, role.name),
+    };
+    [edge.automaton, edge.from, label, owner, name, edge.to]
+}
+
+// The checker has accepted the numbers that the functions below are given, so
+// every kind and label is one of those that are told apart.
+
+fn credential(numbers: &[u16]) -> Credential {
+    let (first, second) = (numbers[3], numbers[4]);
+    Credential {
+        role: role(numbers),
+        body: match numbers[2] {
+            1 => Body::Member(first),
+            2 => Body::Contained(role(&numbers[3..])),
+            3 => Body::Linked { first, second },
+            _ => Body::Parts(first),
+        },
+        automaton: numbers[5],
+    }
+}
+
+fn cell(numbers: &[u16]) -> Cell {
+    Cell {
+        role: role(numbers),
+        next: numbers[2],
+    }
+}
+
+fn automaton(numbers: &[u16]) -> Automaton {
+    Automaton {
+        start: numbers[0],
+        accept: numbers[1],
+    }
+}
+
+fn edge(numbers: &[u16]) -> Edge {
+    let own = role(&numbers[3..]);
+    Edge {
+        automaton: numbers[0],
+        from: numbers[1],
+        label: match numbers[2] {
+            1 => Label::Only(own),
+            2 => Label::Any,
+            _ => Label::Not(own),
+        },
+        to: numbers[5],
+    }
+}
+
+fn role(numbers: &[u16]) -> Role {
+    Role {
+        owner: numbers[0],
+        name: numbers[1],
+    }
+}
