@@ -9,12 +9,6 @@ pub mod Readings
 pub mod Using
 pub mod Complying
 pub mod Judging
-pub mod Trying
-pub mod Searching
-pub mod Admitting
-pub mod Bearing
-pub mod Gathering
-pub mod Indexing
 pub mod DemandTwo
 pub mod Judged
 pub mod Shop

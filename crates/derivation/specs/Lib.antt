@@ -6,5 +6,3 @@ pub mod Tally
 pub mod Held
 pub mod Verdict
 pub mod DemandTwo
-pub mod Search
-pub mod Relevance

@@ -3,9 +3,7 @@
 // answer means; specs/DemandTwo.antt states that it is right.
 mod branches; // branches.rt: the goals above a node
 mod reader; // reader.rt: a record, node by node
-mod relevance; // relevance.rt: which credentials bear on a query
-mod rules; // rules.rt: which goals a credential asks
-mod search; // search.rt: whether a set of credentials proves a goal
+pub mod rules; // rules.rt: which goals a credential asks
 mod words; // words.rt: row 14
 
 use automata::StateSets;
@@ -24,8 +22,6 @@ ghost use Rattle.table.specs.Checks.{Valid, WellFormed, told};
 ghost use Rattle.derivation.specs.Rules.{goalOf};
 ghost use Rattle.derivation.specs.Reading.{reader};
 ghost use Rattle.derivation.specs.Tally.{automataOf};
-ghost use Rattle.derivation.specs.Search;
-ghost use Rattle.derivation.specs.Relevance.{Indexed, Relevant};
 ghost use Rattle.derivation.specs.Verdict.{judged, verdict, verdictTold};
 
 // Accepted, with the used set: credential i counts 2^(i-1).
@@ -35,7 +31,7 @@ pub enum Verdict {
 }
 
 // Which goals a credential asks: the first `len`; or that it does not apply.
-struct Premises {
+pub struct Premises {
     pub applies: bool,
     pub len: usize,
     pub goals: [Goal; layout::MOST_PARTS],
@@ -45,7 +41,7 @@ struct Premises {
 const MOST_LEVELS: usize = 16;
 
 // The goals above a node: the first `len`.
-struct Branch {
+pub struct Branch {
     pub len: usize,
     pub goals: [Goal; MOST_LEVELS],
 }
@@ -59,13 +55,6 @@ struct Step {
     pub goals: [Goal; layout::MOST_PARTS],
 }
 
-// The credentials that may be used, credential i counting 2^(i-1), and the automata that must accept every word, automaton k
-// counting 2^(k-1).
-struct Terms {
-    pub allowed: u32,
-    pub constraints: Number,
-}
-
 // Whether the record derives the queried membership and complies: rows 1 to 8, then 11 to 14, for any three inputs.
 pub fn verify(table: &[Number], query: Query, rec: &[Number]) -> Verdict
     ensures { λ r. ⌜ verdictTold r ≡ verdict (now (table .entry)) query (now (rec .entry)) ⌝ }
@@ -76,51 +65,6 @@ pub fn verify(table: &[Number], query: Query, rec: &[Number]) -> Verdict
     }
 }
 
-// Whether some derivation of the queried membership uses only allowed credentials, and each of its words is accepted by each of
-// the automata `constraints`.
-pub fn provable(table: &[Number], query: Query, allowed: u32, constraints: Number) -> bool
-    requires { ⌜ WellFormed (now table) ⌝ }
-    requires { ⌜ Valid query ⌝ }
-    ensures { λ r. ⌜ r ≡ Search.provable (now (table .entry)) query allowed constraints ⌝ }
-{
-    let terms = Terms {
-        allowed: allowed,
-        constraints: constraints,
-    };
-    search::goal_search(
-        table,
-        terms,
-        goal_of(query),
-        layout::wide(query.depth),
-        StateSets::start(table),
-        Branch::empty(),
-    )
-}
-
-// What `relevant` asks of a table, made once: which credentials define the roles that each credential asks.
-pub fn index(table: &[Number]) -> [u32; relevance::INDEX_CELLS]
-    requires { ⌜ WellFormed (now table) ⌝ }
-    ensures { λ r. ⌜ Indexed (now (table .entry)) r ⌝ }
-{
-    relevance::index(table)
-}
-
-// A set of allowed credentials such that every derivation of the queried membership that uses only allowed ones uses only these.
-pub fn relevant(table: &[Number], query: Query, index: &[u32], allowed: u32) -> u32
-    requires { ⌜ WellFormed (now table) ⌝ }
-    requires { ⌜ Valid query ⌝ }
-    requires { ⌜ Indexed (now table) (now index) ⌝ }
-    ensures { λ r. ⌜ Relevant (now (table .entry)) query allowed r ⌝ }
-{
-    let goal = goal_of(query);
-    relevance::reachable(
-        table,
-        index,
-        goal.role,
-        relevance::productive(table, index, allowed),
-    )
-}
-
 // The automata attached to the credentials of a set: automaton k counts 2^(k-1).
 pub fn automata_of(table: &[Number], set: u32) -> Number
     requires { ⌜ WellFormed (now table) ⌝ }
@@ -129,7 +73,8 @@ pub fn automata_of(table: &[Number], set: u32) -> Number
     words::automata_of(table, set)
 }
 
-fn goal_of(query: Query) -> Goal
+// The queried membership.
+pub fn goal_of(query: Query) -> Goal
     ensures { λ r. ⌜ r ≡ goalOf query ⌝ }
 {
     let principal = query.principal;

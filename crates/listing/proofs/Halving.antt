@@ -14,8 +14,8 @@ use Rattle.table.proofs.Tests.{and-first, and-is, and-second}
 use Rattle.table.proofs.WellFormed.{wf-sized}
 use Rattle.automata.specs.Sets.{inSet, part}
 use Rattle.automata.proofs.Members.{one-bit, part-or}
-use Rattle.derivation.specs.Relevance.{Relevant}
-use Rattle.derivation.specs.Search.{provable}
+use Rattle.search.specs.Relevance.{Relevant}
+use Rattle.search.specs.Search.{provable}
 use Rattle.derivation.specs.Tally.{automataOf}
 use Rattle.listing.specs.Minimal.{isMinimal}
 use Rattle.listing.specs.Below.{Decided, Found, FoundUpTo, Promising, promising}

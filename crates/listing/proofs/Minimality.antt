@@ -17,12 +17,12 @@ use Rattle.table.proofs.Tests.{and-both, and-first, and-second, any-none, any-n
 use Rattle.automata.specs.Sets.{inSet, part}
 use Rattle.automata.proofs.Members.{part-antisym, part-le, part-member, part-or-left, part-refl, part-shown, part-trans}
 use Rattle.derivation.specs.Tally.{automataOf}
-use Rattle.derivation.specs.Relevance.{Relevant}
+use Rattle.search.specs.Relevance.{Relevant}
 use Rattle.derivation.specs.Verdict.{Accepted}
 use Rattle.listing.specs.Minimal.{admits, isMinimal}
 use Rattle.listing.specs.Below.{Decided, Promising, promising}
-use Rattle.derivation.proofs.Searching.{provable-mono}
-use Rattle.derivation.proofs.Admitting.{accepted-provable, automata-mono, provable-accepted, relevant-used}
+use Rattle.search.proofs.Searching.{provable-mono}
+use Rattle.search.proofs.Admitting.{accepted-provable, automata-mono, provable-accepted, relevant-used}
 use Rattle.listing.proofs.Blocks.{block-part, halves, lower-undecided, lower-without, part-without, upper-ends, upper-has, upper-own, upper-joins, upper-undecided, without-other, without-own}
 
 -- no minimal set stands from x up to y

@@ -13,7 +13,7 @@ use Rattle.automata.proofs.Members.{part-le, part-trans}
 use Rattle.derivation.proofs.DemandTwo.{demand-two}
 use Rattle.listing.specs.Minimal.{admits, isMinimal, minimalSets}
 use Rattle.listing.specs.Demands.{Admitted, Minimal, MinimalSets, Used}
-use Rattle.derivation.proofs.Admitting.{accepted-fits, accepted-provable, provable-accepted}
+use Rattle.search.proofs.Admitting.{accepted-fits, accepted-provable, provable-accepted}
 use Rattle.listing.proofs.Minimality.{minimal-accepted, minimal-least, minimal-shown, minimal-within}
 use Rattle.listing.proofs.Ascending.{one-list, those-numbers}
 

@@ -14,7 +14,7 @@ use Rattle.automata.specs.Sets.{inSet, meets, part, setOf}
 use Rattle.automata.specs.Automata.{acceptingSet, acceptsFrom, each, leads, matches, moved, movedBy, movedSets, starting, startingSets, together}
 use Rattle.derivation.specs.Rules.{asks, fresh, premises}
 use Rattle.derivation.specs.Tally.{automataOf, automataUpTo}
-use Rattle.derivation.specs.Search.{everyGoal, isMember, mayUse, provable, provedPremises, proves, provesBy, tries}
+use Rattle.search.specs.Search.{everyGoal, isMember, mayUse, provable, provedPremises, proves, provesBy, tries}
 use Rattle.derivation.specs.Verdict.{verdict}
 use Rattle.derivation.proofs.Shop as records
 use Rattle.listing.specs.Minimal.{admits, afterwards, bufferAfter, counted, isMinimal, laid, listing, minimalSets, those}

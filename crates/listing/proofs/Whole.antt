@@ -17,12 +17,12 @@ use Rattle.table.proofs.Stages.{demand-off, demand-on}
 use Rattle.table.proofs.Tests.{and-is, and-is-off}
 use Rattle.table.proofs.WellFormed.{wf-sized}
 use Rattle.automata.proofs.Members.{inSet-zero, one-bit, part-member, part-zero}
-use Rattle.derivation.specs.Relevance.{Relevant}
-use Rattle.derivation.specs.Search.{provable}
+use Rattle.search.specs.Relevance.{Relevant}
+use Rattle.search.specs.Search.{provable}
 use Rattle.derivation.specs.Tally.{automataOf, automataUpTo}
 use Rattle.listing.specs.Minimal.{afterwards, bufferAfter, counted, laid, minimalSets}
 use Rattle.listing.specs.Below.{Decided, FoundUpTo, promising}
-use Rattle.derivation.proofs.Admitting.{relevant-used}
+use Rattle.search.proofs.Admitting.{relevant-used}
 use Rattle.listing.proofs.Blocks.{all-below, part-all}
 use Rattle.listing.proofs.Minimality.{bare-unpromising, minimal-accepted}
 use Rattle.listing.proofs.Finding.{found-ends, found-none, upto-bare}

@@ -9,7 +9,7 @@ use Rattle.table.specs.Logic.{_and_}
 use Rattle.table.specs.Layout.{credentials}
 use Rattle.table.specs.declared.Query.{Query}
 use Rattle.automata.specs.Sets.{inSet, part}
-use Rattle.derivation.specs.Search.{provable}
+use Rattle.search.specs.Search.{provable}
 use Rattle.derivation.specs.Tally.{automataOf}
 use Rattle.listing.specs.Minimal.{isMinimal, laid, those}
 

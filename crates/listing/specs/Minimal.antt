@@ -12,7 +12,7 @@ use Rattle.table.specs.Layout.{credentials}
 use Rattle.table.specs.Checks.{requestOutcome, told}
 use Rattle.table.specs.declared.Query.{Query}
 use Rattle.automata.specs.Sets.{part}
-use Rattle.derivation.specs.Search.{provable}
+use Rattle.search.specs.Search.{provable}
 use Rattle.derivation.specs.Tally.{automataOf}
 use Rattle.listing.specs.declared.Listing.{Listing}
 use Rattle.listing.specs.declared.Listing.the-variants as listing′

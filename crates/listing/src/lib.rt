@@ -17,8 +17,8 @@ ghost use lib.ListN.{getD, length, set};
 ghost use Rattle.table.specs.Logic.{anyBelow};
 ghost use Rattle.table.specs.Checks.{Valid, WellFormed};
 ghost use Rattle.automata.specs.Sets.{part};
-ghost use Rattle.derivation.specs.Relevance.{Indexed};
-ghost use Rattle.derivation.specs.Search.{provable};
+ghost use Rattle.search.specs.Relevance.{Indexed};
+ghost use Rattle.search.specs.Search.{provable};
 ghost use Rattle.derivation.specs.Tally.{automataOf};
 ghost use Rattle.listing.specs.Minimal.{bufferAfter, counted, laid, listing, listingTold, minimalSets};
 ghost use Rattle.listing.specs.Below.{Decided, Found, FoundUpTo, Promising, promising};
@@ -49,10 +49,10 @@ fn list_checked(table: &[Number], query: Query, sets: &mut [u32]) -> Listing
     let cells = sets.len();
     let n = layout::wide(table[0]);
     let all = (1 << n) - 1;
-    let index = derivation::index(table);
-    let usable = derivation::relevant(table, query, &index, all);
+    let index = search::index(table);
+    let usable = search::relevant(table, query, &index, all);
     let mut found = 0;
-    if derivation::provable(table, query, usable, 0) {
+    if search::provable(table, query, usable, 0) {
         below(table, query, &index, 0, usable, n, sets, &mut found);
     }
     if found == 0 {
@@ -93,7 +93,7 @@ fn below(
         below(table, query, index, chosen, usable, next - 1, sets, found);
         return;
     }
-    let fewer = derivation::relevant(table, query, index, usable ^ bit);
+    let fewer = search::relevant(table, query, index, usable ^ bit);
     if is_promising(table, query, chosen, fewer) {
         below(table, query, index, chosen, fewer, next - 1, sets, found);
         if sets.len() < *found {
@@ -117,7 +117,7 @@ fn is_promising(table: &[Number], query: Query, chosen: u32, usable: u32) -> boo
     if chosen & usable != chosen {
         return false;
     }
-    derivation::provable(table, query, usable, derivation::automata_of(table, chosen))
+    search::provable(table, query, usable, derivation::automata_of(table, chosen))
 }
 
 // The constraints of `more` can be met, where those of `chosen` can: mostly they are the same.
@@ -131,7 +131,7 @@ fn is_met(table: &[Number], query: Query, usable: u32, chosen: u32, more: u32) -
     if constraints == derivation::automata_of(table, chosen) {
         return true;
     }
-    derivation::provable(table, query, usable, constraints)
+    search::provable(table, query, usable, constraints)
 }
 
 // One of the first `found` sets is a part of the set.

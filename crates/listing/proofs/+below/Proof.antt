@@ -15,7 +15,7 @@ use Rattle.listing.proofs.+below.Lts-below as below-lts
 use Rattle.listing.proofs.is_any_part.Reads as is-any-part-reads
 use Rattle.listing.proofs.is_met.Reads as is-met-reads
 use Rattle.listing.proofs.is_promising.Reads as is-promising-reads
-use Rattle.derivation.proofs.relevant.Reads as relevant-reads
+use Rattle.search.proofs.relevant.Reads as relevant-reads
 use Rattle.listing.proofs.put.Reads as put-reads
 use Rattle.listing.proofs.+below.{statement}
 use Rattle.listing.proofs.+below.Tie.{close}

@@ -1,6 +1,6 @@
 -- `listing::is_met` meets its contract: with the same constraints nothing is to be searched. Assumes nothing.
 use mathlib.Core.Path.{sym, ap, _∙_}
-use Rattle.derivation.specs.Search.{provable}
+use Rattle.search.specs.Search.{provable}
 use borrow.Author.Needs.{needs}
 use Rattle.listing.proofs.is_met.Statement.{statement}
 use Rattle.listing.proofs.is_met.Tie as tie

@@ -16,9 +16,9 @@ use Rattle.listing.proofs.list_checked.Tie as tie
 use Rattle.listing.proofs.list_checked.Reads as reads
 use Rattle.listing.proofs.list_checked.Lts as lts
 use Rattle.listing.proofs.below.Reads as below-reads
-use Rattle.derivation.proofs.provable.Reads as provable-reads
-use Rattle.derivation.proofs.index.Reads as index-reads
-use Rattle.derivation.proofs.relevant.Reads as relevant-reads
+use Rattle.search.proofs.provable.Reads as provable-reads
+use Rattle.search.proofs.index.Reads as index-reads
+use Rattle.search.proofs.relevant.Reads as relevant-reads
 use Rattle.table.proofs.layout.wide.Reads as wide-reads
 
 shared-slice-read-wide : tie.Need-shared-slice-read-wide

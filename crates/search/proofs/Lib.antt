@@ -1,0 +1,7 @@
+-- Laws that belong to no one function; crates above cite those marked `pub mod`.
+pub mod Trying
+pub mod Searching
+pub mod Admitting
+pub mod Bearing
+pub mod Gathering
+pub mod Indexing

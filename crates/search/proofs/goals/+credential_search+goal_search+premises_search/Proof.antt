@@ -1,0 +1,455 @@
+-- Goal search, credential search and the search of what a credential asks meet their contracts, by the levels left: each loop knows
+-- that what it has tried so far does not prove the goal, or, over the premises, that each of them is proved. Assumes nothing.
+use Prim.Native.Nat.{_*_, _+_, _-_, _≤_}
+use Rattle.automata.specs.Automata.{acceptingSet}
+use Rattle.automata.specs.Sets.{part}
+use Rattle.search.proofs.Trying.{AtMiddle, any-all, asked-proved, every-more, every-not, goal-again, goal-decided, level-none, met-by, middle-found, middle-next, middle-over, middle-starts, proved-all, proved-given, proved-goals, proved-none, proves-here, proves-later, provesAt, word-proved}
+use Rattle.derivation.specs.Held.{above}
+use Rattle.derivation.specs.Rules.{goal, premises}
+use Rattle.search.specs.Search.{everyGoal, proves}
+use Rattle.table.proofs.Tests.{and-is, and-is-off, failed, passed}
+use Rattle.table.proofs.WellFormed.{wf-sized}
+use Rattle.table.specs.Limits.{mostPrincipals}
+use Rattle.table.specs.Logic.{anyBelow}
+use lib.ListN.{length, take}
+use mathlib.Core.Bool.{false, true}
+use mathlib.Core.Path.{_∙_, _≡_, refl, sym}
+use native.Mathlib.Omega.{arith}
+use Prim.Native.Nat.{ℕ, _<_}
+use borrow.Fn.Kinds.{In}
+use borrow.Fn.PlainCycle.{Measures, is, falls, and}
+use Rattle.search.proofs.goals.credential_search.Reads as credential-search
+use Rattle.search.proofs.goals.credential_search.Kinds as credential-search-kinds
+use Rattle.search.proofs.goals.+credential_search+goal_search+premises_search.Lts-credential_search as credential-search-lts
+use Rattle.search.proofs.goals.goal_search.Reads as goal-search
+use Rattle.search.proofs.goals.goal_search.Kinds as goal-search-kinds
+use Rattle.search.proofs.goals.+credential_search+goal_search+premises_search.Lts-goal_search as goal-search-lts
+use Rattle.search.proofs.goals.premises_search.Reads as premises-search
+use Rattle.search.proofs.goals.premises_search.Kinds as premises-search-kinds
+use Rattle.search.proofs.goals.+credential_search+goal_search+premises_search.Lts-premises_search as premises-search-lts
+use Rattle.automata.proofs.StateSets.accepting.Reads as accepting-reads
+use Rattle.automata.proofs.StateSets.moved.Reads as moved-reads
+use Rattle.derivation.proofs.Branch.is_fresh.Reads as is-fresh-reads
+use Rattle.derivation.proofs.Branch.with.Reads as with-reads
+use Rattle.derivation.proofs.rules.premises.Reads as premises-reads
+use Rattle.search.proofs.goals.is_asked_before.Reads as is-asked-before-reads
+use Rattle.search.proofs.goals.may_use.Reads as may-use-reads
+use Rattle.search.proofs.goals.next_middle.Reads as next-middle-reads
+use Rattle.search.proofs.goals.+credential_search+goal_search+premises_search.{statement}
+use Rattle.search.proofs.goals.+credential_search+goal_search+premises_search.Tie.{close}
+
+abbrev μ-credential-search : Measures 1 credential-search-kinds.ps ℕ
+μ-credential-search κs a = 3 * (a .1 .1 .1 .1 .0) + 2
+
+abbrev μ-goal-search : Measures 1 goal-search-kinds.ps ℕ
+μ-goal-search κs a = 3 * (a .1 .1 .1 .0)
+
+abbrev μ-premises-search : Measures 1 premises-search-kinds.ps ℕ
+μ-premises-search κs a = 3 * (a .1 .1 .1 .0) + 1
+
+abbrev credential-search-at : ℕ → In 1 credential-search-kinds.ps
+credential-search-at t =
+    and
+    1
+    credential-search-kinds.ps
+    (is 1 credential-search-kinds.ps μ-credential-search t)
+    credential-search.Pre
+
+abbrev credential-search-below : ℕ → In 1 credential-search-kinds.ps
+credential-search-below t =
+    and
+    1
+    credential-search-kinds.ps
+    (falls 1 credential-search-kinds.ps _<_ μ-credential-search t)
+    credential-search.Pre
+
+abbrev goal-search-at : ℕ → In 1 goal-search-kinds.ps
+goal-search-at t =
+    and 1 goal-search-kinds.ps (is 1 goal-search-kinds.ps μ-goal-search t) goal-search.Pre
+
+abbrev goal-search-below : ℕ → In 1 goal-search-kinds.ps
+goal-search-below t =
+    and 1 goal-search-kinds.ps (falls 1 goal-search-kinds.ps _<_ μ-goal-search t) goal-search.Pre
+
+abbrev premises-search-at : ℕ → In 1 premises-search-kinds.ps
+premises-search-at t =
+    and
+    1
+    premises-search-kinds.ps
+    (is 1 premises-search-kinds.ps μ-premises-search t)
+    premises-search.Pre
+
+abbrev premises-search-below : ℕ → In 1 premises-search-kinds.ps
+premises-search-below t =
+    and
+    1
+    premises-search-kinds.ps
+    (falls 1 premises-search-kinds.ps _<_ μ-premises-search t)
+    premises-search.Pre
+
+abbrev credential-search-Inv-loop : credential-search-lts.InvT-loop
+credential-search-Inv-loop table terms goal c levels states branch middle₀ middle =
+    AtMiddle table (terms .allowed) (proves table (terms .allowed) (terms .constraints) levels (above branch)
+    states) (part (terms .constraints) (acceptingSet table states)) goal c middle
+
+abbrev credential-search-μ-loop : credential-search-lts.MeasureT-loop
+credential-search-μ-loop table terms goal c levels states branch middle₀ middle = mostPrincipals + 1 - middle
+
+abbrev credential-search-claims : ℕ → credential-search-lts.Claims
+credential-search-claims t = (next-middle-reads.Asked, next-middle-reads.Learnt, premises-reads.Asked, premises-reads.Learnt, premises-search-below t, premises-search.Post)
+
+abbrev goal-search-claims : ℕ → goal-search-lts.Claims
+goal-search-claims t = (is-fresh-reads.Asked, is-fresh-reads.Learnt, moved-reads.Asked, moved-reads.Learnt, with-reads.Asked, with-reads.Learnt, may-use-reads.Asked, may-use-reads.Learnt, credential-search-below t, credential-search.Post)
+
+abbrev premises-search-claims : ℕ → premises-search-lts.Claims
+premises-search-claims t = (accepting-reads.Asked, accepting-reads.Learnt, is-asked-before-reads.Asked, is-asked-before-reads.Learnt, goal-search-below t, goal-search.Post)
+
+credential-search-next-middle-requires : (t : ℕ) → credential-search-lts.Need-next-middle-requires (credential-search-claims t) (credential-search-at t)
+    credential-search.Post
+    credential-search-Inv-loop
+    credential-search-μ-loop
+credential-search-next-middle-requires t c κs = ((c .before .pre .1 .0), (c .before .pre .1 .1 .1, omega arith))
+
+credential-search-loop-holds : (t : ℕ) → credential-search-lts.Need-loop-holds (credential-search-claims t) (credential-search-at t)
+    credential-search.Post
+    credential-search-Inv-loop
+    credential-search-μ-loop
+credential-search-loop-holds t c = middle-starts _ _ _ _ _ _ _ (c .next-middle .ensures)
+
+credential-search-premises-requires : (t : ℕ) → credential-search-lts.Need-premises-requires (credential-search-claims t) (credential-search-at t)
+    credential-search.Post
+    credential-search-Inv-loop
+    credential-search-μ-loop
+credential-search-premises-requires t c κs =
+    let pre = c .before .before .before .before .pre in
+    (pre .1 .0)
+
+credential-search-premises-search-requires :
+    (t : ℕ) → credential-search-lts.Need-premises-search-requires (credential-search-claims t) (credential-search-at t)
+    credential-search.Post
+    credential-search-Inv-loop
+    credential-search-μ-loop
+credential-search-premises-search-requires t c κs =
+    let pre = c .before .before .before .before .before .before .pre in
+    (omega (arith, pre .0), ((pre .1 .0), (pre .1 .1 .0, c .before .premises .ensures .0)))
+
+credential-search-returns : (t : ℕ) → credential-search-lts.Need-returns (credential-search-claims t) (credential-search-at t)
+    credential-search.Post
+    credential-search-Inv-loop
+    credential-search-μ-loop
+credential-search-returns t c =
+    let loop = c .before .before .before .before .before .loop in
+    let loop-test = c .before .before .before .before .loop-test in
+    let asked = c .before .before .before .premises in
+    let if1 = c .before .before .if1 in
+    middle-found _ _ _ _ _ _ _ (loop .inv) (loop-test .taken) (proved-given _ _ _ (asked .ensures .1) (if1 .taken)
+    (sym (c .if2 .taken) ∙ c .before .premises-search .ensures))
+
+credential-search-add-next-middle : (t : ℕ) → credential-search-lts.Need-add-next-middle (credential-search-claims t) (credential-search-at t)
+    credential-search.Post
+    credential-search-Inv-loop
+    credential-search-μ-loop
+credential-search-add-next-middle t c = omega arith
+
+credential-search-next-middle-requires-2 :
+    (t : ℕ) → credential-search-lts.Need-next-middle-requires-2 (credential-search-claims t) (credential-search-at t)
+    credential-search.Post
+    credential-search-Inv-loop
+    credential-search-μ-loop
+credential-search-next-middle-requires-2 t c κs =
+    let pre = c .before .before .before .before .before .before .pre in
+    let loop-test = c .before .before .loop-test in
+    ((pre .1 .0), (pre .1 .1 .1, omega (arith, loop-test .taken)))
+
+credential-search-loop-less : (t : ℕ) → credential-search-lts.Need-loop-less (credential-search-claims t) (credential-search-at t)
+    credential-search.Post
+    credential-search-Inv-loop
+    credential-search-μ-loop
+credential-search-loop-less t c =
+    let loop-test = c .before .before .before .loop-test in
+    omega (arith, c .next-middle2 .ensures .later, loop-test .taken)
+
+credential-search-loop-again : (t : ℕ) → credential-search-lts.Need-loop-again (credential-search-claims t) (credential-search-at t)
+    credential-search.Post
+    credential-search-Inv-loop
+    credential-search-μ-loop
+credential-search-loop-again t c =
+    let loop = c .before .before .before .before .loop in
+    let asked = c .before .before .premises in
+    middle-next _ _ _ _ _ _ _ _ (loop .inv) (met-by (λ way. proved-given _ _ _ (asked .ensures .1) (way .0 .taken)
+    (sym (way .2 .left) ∙ way .1 .ensures)) (λ way. proved-none _ _ _ (asked .ensures .1) (way .left)) (c .before .if1 .came))
+    (c .next-middle2 .ensures)
+
+credential-search-returns-2 : (t : ℕ) → credential-search-lts.Need-returns-2 (credential-search-claims t) (credential-search-at t)
+    credential-search.Post
+    credential-search-Inv-loop
+    credential-search-μ-loop
+credential-search-returns-2 t c = middle-over _ _ _ _ _ _ _ (c .before .loop .inv) (c .loop-test .left)
+
+abbrev goal-search-Inv-loop : goal-search-lts.InvT-loop
+goal-search-Inv-loop table terms goal levels below deeper n i₀ i =
+    (i ≤ n) × (anyBelow (provesAt table (terms .allowed) (proves table (terms .allowed) (terms .constraints)
+    (levels - 1) (above deeper) below) (part (terms .constraints) (acceptingSet table below)) goal) i ≡ false)
+
+abbrev goal-search-μ-loop : goal-search-lts.MeasureT-loop
+goal-search-μ-loop table terms goal levels below deeper n i₀ i = n - i
+
+goal-search-returns : (t : ℕ) → goal-search-lts.Need-returns (goal-search-claims t) (goal-search-at t) goal-search.Post goal-search-Inv-loop goal-search-μ-loop
+goal-search-returns t c = level-none _ _ _ _ _ _ _ (c .if1 .taken)
+
+goal-search-is-fresh-requires : (t : ℕ) → goal-search-lts.Need-is-fresh-requires (goal-search-claims t) (goal-search-at t) goal-search.Post goal-search-Inv-loop goal-search-μ-loop
+goal-search-is-fresh-requires t c κs =
+    let pre = c .before .before .pre in
+    pre .1 .1 .0
+
+goal-search-returns-2 : (t : ℕ) → goal-search-lts.Need-returns-2 (goal-search-claims t) (goal-search-at t) goal-search.Post goal-search-Inv-loop goal-search-μ-loop
+goal-search-returns-2 t c =
+    let if1 = c .before .before .if1 in
+    goal-again _ _ _ _ _ _ _ (if1 .left) (failed (c .before .is-fresh .ensures) (c .if2 .taken))
+
+goal-search-moved-requires : (t : ℕ) → goal-search-lts.Need-moved-requires (goal-search-claims t) (goal-search-at t) goal-search.Post goal-search-Inv-loop goal-search-μ-loop
+goal-search-moved-requires t c κs =
+    let pre = c .before .before .before .before .pre in
+    (pre .1 .0)
+
+goal-search-with-requires : (t : ℕ) → goal-search-lts.Need-with-requires (goal-search-claims t) (goal-search-at t) goal-search.Post goal-search-Inv-loop goal-search-μ-loop
+goal-search-with-requires t c κs =
+    let pre = c .before .before .before .before .before .pre in
+    let if1 = c .before .before .before .if1 in
+    (pre .1 .1 .0, omega (arith, if1 .left, pre .1 .1 .1))
+
+goal-search-shared-slice-read-n : (t : ℕ) → goal-search-lts.Need-shared-slice-read-n (goal-search-claims t) (goal-search-at t) goal-search.Post goal-search-Inv-loop goal-search-μ-loop
+goal-search-shared-slice-read-n t c =
+    let pre = c .before .before .before .before .before .before .before .pre in
+    omega (arith, wf-sized _ (pre .1 .0) .counted .head)
+
+goal-search-loop-holds : (t : ℕ) → goal-search-lts.Need-loop-holds (goal-search-claims t) (goal-search-at t) goal-search.Post goal-search-Inv-loop goal-search-μ-loop
+unfolding anyBelow
+goal-search-loop-holds t c = (omega arith, refl)
+
+goal-search-add-may-use : (t : ℕ) → goal-search-lts.Need-add-may-use (goal-search-claims t) (goal-search-at t) goal-search.Post goal-search-Inv-loop goal-search-μ-loop
+goal-search-add-may-use t c =
+    let pre = c .before .before .before .before .before .before .before .before .before .pre in
+    omega (arith, wf-sized _ (pre .1 .0) .counted .fewCredentials, c .loop-test .taken)
+
+goal-search-may-use-requires : (t : ℕ) → goal-search-lts.Need-may-use-requires (goal-search-claims t) (goal-search-at t) goal-search.Post goal-search-Inv-loop goal-search-μ-loop
+goal-search-may-use-requires t c κs =
+    let pre = c .before .before .before .before .before .before .before .before .before .pre in
+    ((pre .1 .0), record { first = omega arith; last = omega (arith, c .loop-test .taken) })
+
+goal-search-add-credential-search : (t : ℕ) → goal-search-lts.Need-add-credential-search (goal-search-claims t) (goal-search-at t) goal-search.Post goal-search-Inv-loop goal-search-μ-loop
+goal-search-add-credential-search t c =
+    let pre = c .before .before .before .before .before .before .before .before .before .before .before .pre in
+    let loop-test = c .before .before .loop-test in
+    omega (arith, wf-sized _ (pre .1 .0) .counted .fewCredentials, loop-test .taken)
+
+goal-search-sub-credential-search : (t : ℕ) → goal-search-lts.Need-sub-credential-search (goal-search-claims t) (goal-search-at t) goal-search.Post goal-search-Inv-loop goal-search-μ-loop
+goal-search-sub-credential-search t c =
+    let if1 = c .before .before .before .before .before .before .before .before .before .if1 in
+    omega (arith, if1 .left)
+
+goal-search-credential-search-requires : (t : ℕ) → goal-search-lts.Need-credential-search-requires (goal-search-claims t) (goal-search-at t) goal-search.Post goal-search-Inv-loop goal-search-μ-loop
+goal-search-credential-search-requires t c κs =
+    let pre = c .before .before .before .before .before .before .before .before .before .before .before .pre in
+    let if1 = c .before .before .before .before .before .before .before .before .before .if1 in
+    let with = c .before .before .before .before .before .with in
+    let loop-test = c .before .before .loop-test in (
+      omega (arith, pre .0, if1 .left),
+      (
+        (pre .1 .0),
+        (
+          (
+            with .ensures .0,
+            omega (
+              arith,
+              with .ensures .1 .0,
+              if1 .left,
+              pre .1 .1 .1,
+            ),
+          ),
+          record { first = omega arith; last = omega (arith, loop-test .taken) },
+        ),
+      ),
+    )
+
+goal-search-returns-3 : (t : ℕ) → goal-search-lts.Need-returns-3 (goal-search-claims t) (goal-search-at t) goal-search.Post goal-search-Inv-loop goal-search-μ-loop
+goal-search-returns-3 t c =
+    let if1 = c .before .before .before .before .before .before .before .before .before .before .before .if1 in
+    let is-fresh = c .before .before .before .before .before .before .before .before .before .before .is-fresh in
+    let if2 = c .before .before .before .before .before .before .before .before .before .if2 in
+    let moved′ = c .before .before .before .before .before .before .before .before .moved in
+    let with = c .before .before .before .before .before .before .before .with in
+    let loop-test = c .before .before .before .before .loop-test in
+    let may-use = c .before .before .before .may-use in
+    let if3 = c .before .before .if3 in
+    goal-decided _ _ _ _ _ _ _ _ _ (if1 .left) (passed (is-fresh .ensures) (if2 .left)) (moved′ .ensures) (with .ensures .1 .1)
+    (proves-here _ _ _ _ _ _ _ (loop-test .taken) (sym (may-use .ensures) ∙ if3 .taken) (sym (c .before .credential-search .ensures)
+    ∙ c .if4 .taken))
+
+goal-search-add-i : (t : ℕ) → goal-search-lts.Need-add-i (goal-search-claims t) (goal-search-at t) goal-search.Post goal-search-Inv-loop goal-search-μ-loop
+goal-search-add-i t c =
+    let pre = c .before .before .before .before .before .before .before .before .before .before .before .pre in
+    let loop-test = c .before .before .loop-test in
+    omega (arith, wf-sized _ (pre .1 .0) .counted .fewCredentials, loop-test .taken)
+
+goal-search-loop-less : (t : ℕ) → goal-search-lts.Need-loop-less (goal-search-claims t) (goal-search-at t) goal-search.Post goal-search-Inv-loop goal-search-μ-loop
+goal-search-loop-less t c = omega arith
+
+goal-search-loop-again : (t : ℕ) → goal-search-lts.Need-loop-again (goal-search-claims t) (goal-search-at t) goal-search.Post goal-search-Inv-loop goal-search-μ-loop
+goal-search-loop-again t c =
+    let loop = c .before .before .before .loop in (
+      omega arith,
+      proves-later _ _ _ _ _ _ (loop .inv .1) (met-by (λ way. and-is (sym (c .before .may-use .ensures)
+          ∙ way .0 .taken) (sym (way .1 .ensures) ∙ way .2 .left)) (λ way. and-is-off _ (sym (c .before .may-use .ensures)
+          ∙ way .left)) (c .if3 .came)),
+    )
+
+goal-search-returns-4 : (t : ℕ) → goal-search-lts.Need-returns-4 (goal-search-claims t) (goal-search-at t) goal-search.Post goal-search-Inv-loop goal-search-μ-loop
+goal-search-returns-4 t c =
+    let if1 = c .before .before .before .before .before .before .before .if1 in
+    let is-fresh = c .before .before .before .before .before .before .is-fresh in
+    let if2 = c .before .before .before .before .before .if2 in
+    let moved′ = c .before .before .before .before .moved in
+    let with = c .before .before .before .with in
+    goal-decided _ _ _ _ _ _ _ _ _ (if1 .left) (passed (is-fresh .ensures) (if2 .left)) (moved′ .ensures) (with .ensures .1 .1)
+    (any-all _ _ _ (omega (arith, c .before .loop .inv .0, c .loop-test .left)) (c .before .loop .inv .1))
+
+abbrev premises-search-Inv-loop : premises-search-lts.InvT-loop
+premises-search-Inv-loop table terms levels states branch premises len i₀ i =
+    (i ≤ len) × (everyGoal (proves table (terms .allowed) (terms .constraints) levels (above branch) states)
+    (take i (premises .goals)) ≡ true)
+
+abbrev premises-search-μ-loop : premises-search-lts.MeasureT-loop
+premises-search-μ-loop table terms levels states branch premises len i₀ i = len - i
+
+premises-search-accepting-requires : (t : ℕ) → premises-search-lts.Need-accepting-requires (premises-search-claims t) (premises-search-at t) premises-search.Post premises-search-Inv-loop premises-search-μ-loop
+premises-search-accepting-requires t c κs =
+    let pre = c .before .before .pre in
+    (pre .1 .0)
+
+premises-search-returns : (t : ℕ) → premises-search-lts.Need-returns (premises-search-claims t) (premises-search-at t) premises-search.Post premises-search-Inv-loop premises-search-μ-loop
+premises-search-returns t c = word-proved _ _ _ _ _ _ _ (c .accepting .ensures) (c .before .if1 .taken)
+
+premises-search-loop-holds : (t : ℕ) → premises-search-lts.Need-loop-holds (premises-search-claims t) (premises-search-at t) premises-search.Post premises-search-Inv-loop premises-search-μ-loop
+unfolding everyGoal
+premises-search-loop-holds t c = (omega arith, refl)
+
+premises-search-is-asked-before-requires :
+    (t : ℕ) → premises-search-lts.Need-is-asked-before-requires (premises-search-claims t) (premises-search-at t) premises-search.Post premises-search-Inv-loop premises-search-μ-loop
+premises-search-is-asked-before-requires t c κs =
+    let pre = c .before .before .before .before .pre in
+    (pre .1 .1 .1, c .loop-test .taken)
+
+premises-search-mul-goal-search : (t : ℕ) → premises-search-lts.Need-mul-goal-search (premises-search-claims t) (premises-search-at t) premises-search.Post premises-search-Inv-loop premises-search-μ-loop
+premises-search-mul-goal-search t c =
+    let pre = c .before .before .before .before .before .before .pre in
+    let loop-test = c .before .before .loop-test in
+    omega (arith, pre .1 .1 .1 .fits, loop-test .taken)
+
+premises-search-element-copy-out-goal-search :
+    (t : ℕ) → premises-search-lts.Need-element-copy-out-goal-search (premises-search-claims t) (premises-search-at t) premises-search.Post premises-search-Inv-loop premises-search-μ-loop
+premises-search-element-copy-out-goal-search t c =
+    let pre = c .before .before .before .before .before .before .pre in
+    let loop-test = c .before .before .loop-test in
+    omega (arith, pre .1 .1 .1 .fits, pre .1 .1 .1 .size, loop-test .taken)
+
+premises-search-goal-search-requires : (t : ℕ) → premises-search-lts.Need-goal-search-requires (premises-search-claims t) (premises-search-at t) premises-search.Post premises-search-Inv-loop premises-search-μ-loop
+premises-search-goal-search-requires t c κs =
+    let pre = c .before .before .before .before .before .before .before .pre in
+    (omega (arith, pre .0), ((pre .1 .0), pre .1 .1 .0))
+
+premises-search-returns-2 : (t : ℕ) → premises-search-lts.Need-returns-2 (premises-search-claims t) (premises-search-at t) premises-search.Post premises-search-Inv-loop premises-search-μ-loop
+premises-search-returns-2 t c =
+    let if1 = c .before .before .before .before .before .before .before .if1 in
+    let pre = c .before .before .before .before .before .before .before .before .before .pre in
+    let loop-test = c .before .before .before .before .before .loop-test in
+    proved-goals _ _ _ _ (if1 .left) (omega (arith, pre .1 .1 .1 .fits, pre .1 .1 .1 .size)) (every-not _ _ _ _
+    (loop-test .taken) (omega (arith, pre .1 .1 .1 .fits, pre .1 .1 .1 .size)) (failed (c .before .goal-search .ensures)
+    (c .if3 .taken)))
+
+premises-search-add-i : (t : ℕ) → premises-search-lts.Need-add-i (premises-search-claims t) (premises-search-at t) premises-search.Post premises-search-Inv-loop premises-search-μ-loop
+premises-search-add-i t c =
+    let pre = c .before .before .before .before .before .before .pre in
+    omega (arith, pre .1 .1 .1 .fits)
+
+premises-search-loop-less : (t : ℕ) → premises-search-lts.Need-loop-less (premises-search-claims t) (premises-search-at t) premises-search.Post premises-search-Inv-loop premises-search-μ-loop
+premises-search-loop-less t c = omega arith
+
+premises-search-loop-again : (t : ℕ) → premises-search-lts.Need-loop-again (premises-search-claims t) (premises-search-at t) premises-search.Post premises-search-Inv-loop premises-search-μ-loop
+premises-search-loop-again t c =
+    let loop = c .before .before .before .loop in
+    let args = c .before .before .before .before .before .before .args in
+    let pre = c .before .before .before .before .before .before .pre in
+    let loop-test = c .before .before .loop-test in
+    let room : loop .i < length (args .t3 .goals) = omega (
+      arith,
+      pre .1 .1 .1 .fits,
+      pre .1 .1 .1 .size,
+      loop-test .taken,
+    ) in (
+      omega arith,
+      every-more _ _ _ room (loop .inv .1) (met-by (λ way. passed (way .2 .ensures)
+          (way .3 .left)) (λ way. asked-proved _ _ _ room (passed (c .before .is-asked-before .ensures) (way .left))
+          (loop .inv .1)) (c .if2 .came)),
+    )
+
+premises-search-returns-3 : (t : ℕ) → premises-search-lts.Need-returns-3 (premises-search-claims t) (premises-search-at t) premises-search.Post premises-search-Inv-loop premises-search-μ-loop
+premises-search-returns-3 t c =
+    let if1 = c .before .before .if1 in
+    let pre = c .before .before .before .before .pre in
+    proved-all _ _ _ _ (c .before .loop .i) (if1 .left) (omega (arith, pre .1 .1 .1 .fits, pre .1 .1 .1 .size))
+    (omega (arith, c .before .loop .inv .0, c .loop-test .left)) (c .before .loop .inv .1)
+
+pub +credential-search+goal-search+premises-search-spec : {M : Type 1} → statement M
++credential-search+goal-search+premises-search-spec =
+    close μ-credential-search μ-goal-search μ-premises-search (λ t. credential-search-lts.spec (credential-search-claims t) (credential-search-at t)
+    credential-search.Post
+    credential-search-Inv-loop
+    credential-search-μ-loop
+    (credential-search-next-middle-requires t)
+    (credential-search-loop-holds t)
+    (credential-search-premises-requires t)
+    (credential-search-premises-search-requires t)
+    (credential-search-returns t)
+    (credential-search-add-next-middle t)
+    (credential-search-next-middle-requires-2 t)
+    (credential-search-loop-less t)
+    (credential-search-loop-again t)
+    (credential-search-returns-2 t))
+    (λ t. goal-search-lts.spec (goal-search-claims t) (goal-search-at t)
+    goal-search.Post
+    goal-search-Inv-loop
+    goal-search-μ-loop
+    (goal-search-returns t)
+    (goal-search-is-fresh-requires t)
+    (goal-search-returns-2 t)
+    (goal-search-moved-requires t)
+    (goal-search-with-requires t)
+    (goal-search-shared-slice-read-n t)
+    (goal-search-loop-holds t)
+    (goal-search-add-may-use t)
+    (goal-search-may-use-requires t)
+    (goal-search-add-credential-search t)
+    (goal-search-sub-credential-search t)
+    (goal-search-credential-search-requires t)
+    (goal-search-returns-3 t)
+    (goal-search-add-i t)
+    (goal-search-loop-less t)
+    (goal-search-loop-again t)
+    (goal-search-returns-4 t))
+    λ t. premises-search-lts.spec (premises-search-claims t) (premises-search-at t)
+    premises-search.Post
+    premises-search-Inv-loop
+    premises-search-μ-loop
+    (premises-search-accepting-requires t)
+    (premises-search-returns t)
+    (premises-search-loop-holds t)
+    (premises-search-is-asked-before-requires t)
+    (premises-search-mul-goal-search t)
+    (premises-search-element-copy-out-goal-search t)
+    (premises-search-goal-search-requires t)
+    (premises-search-returns-2 t)
+    (premises-search-add-i t)
+    (premises-search-loop-less t)
+    (premises-search-loop-again t)
+    (premises-search-returns-3 t)

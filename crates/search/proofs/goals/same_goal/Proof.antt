@@ -1,0 +1,22 @@
+-- `same_goal`: equal principals and equal roles, tested one after the other. Assumes nothing.
+use Rattle.search.specs.Search.{sameGoal}
+use Rattle.table.proofs.Tests.{and-is-off, and-on}
+use borrow.Author.Tests.{eq-eqb, ne-eqb}
+use mathlib.Core.Path.{_∙_, sym}
+use borrow.Author.Needs.{needs}
+use Rattle.search.proofs.goals.same_goal.Statement.{statement}
+use Rattle.search.proofs.goals.same_goal.Tie as tie
+
+returns : tie.Need-returns
+unfolding sameGoal
+returns c = sym (and-is-off _ (ne-eqb _ _ (c .if1 .taken)))
+
+same-requires : tie.Need-same-requires
+same-requires c κs = search needs
+
+returns-2 : tie.Need-returns-2
+unfolding sameGoal
+returns-2 c = c .same .ensures ∙ and-on (eq-eqb _ _ (c .before .if1 .left))
+
+pub same-goal-spec : {M : Type 1} → statement M
+same-goal-spec = tie.close (tie.spec returns same-requires returns-2)

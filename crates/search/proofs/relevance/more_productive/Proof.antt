@@ -1,0 +1,102 @@
+-- `derivation::relevance::more_productive` meets its contract: one round, in which the first i credentials
+-- have been looked at; where nothing came in, those of them that are productive were there. Assumes nothing.
+use mathlib.Core.Path.{_∙_, _≡_, sym}
+use mathlib.Core.Logic.{⊎-elim}
+use Prim.Native.Nat.{_-_, _≤_}
+use native.Mathlib.Omega.{arith}
+use denote.Ref.{now}
+use Rattle.table.specs.Layout.{credentials}
+use Rattle.table.proofs.WellFormed.{wf-sized}
+use Rattle.search.specs.Relevance.{Round}
+use Rattle.search.proofs.Gathering.{ProductiveTo, productive-more, productive-not, productive-old, round-starts}
+use Rattle.search.proofs.Indexing.{all-met, place}
+use borrow.Author.Needs.{needs}
+use Rattle.search.proofs.relevance.more_productive.Statement.{statement}
+use Rattle.search.proofs.relevance.more_productive.Tie as tie
+
+abbrev Inv-loop : tie.InvT-loop
+Inv-loop table index allowed set n more₀ i₀ more i = (i ≤ n) × Round allowed set more (ProductiveTo table allowed set i)
+
+abbrev μ-loop : tie.MeasureT-loop
+μ-loop table index allowed set n more₀ i₀ more i = n - i
+
+shared-slice-read-wide : tie.Need-shared-slice-read-wide Inv-loop μ-loop
+shared-slice-read-wide c =
+    let pre = c .before .before .before .pre in
+    omega (arith, wf-sized _ (pre .0) .counted .head)
+
+wide-requires : tie.Need-wide-requires Inv-loop μ-loop
+wide-requires c κs = search needs
+
+loop-holds : tie.Need-loop-holds Inv-loop μ-loop
+loop-holds c = (omega arith, round-starts _ _ (λ c h. absurd (omega arith)))
+
+is-new-requires : tie.Need-is-new-requires Inv-loop μ-loop
+is-new-requires c κs =
+    let pre = c .before .before .before .before .before .before .pre in
+    omega (arith, wf-sized _ (pre .0) .counted .fewCredentials)
+
+is-productive-requires : tie.Need-is-productive-requires Inv-loop μ-loop
+is-productive-requires c κs =
+    let pre = c .before .before .before .before .before .before .before .before .pre in
+    place _ _ (pre .0) (pre .1) _ (omega arith)
+
+cast-more : tie.Need-cast-more Inv-loop μ-loop
+cast-more c =
+    let pre = c .before .before .before .before .before .before .before .before .before .before .pre in
+    omega (arith, wf-sized _ (pre .0) .counted .fewCredentials)
+
+shl-more : tie.Need-shl-more Inv-loop μ-loop
+shl-more c =
+    let pre = c .before .before .before .before .before .before .before .before .before .before .pre in
+    omega (arith, wf-sized _ (pre .0) .counted .fewCredentials)
+
+add-i : tie.Need-add-i Inv-loop μ-loop
+add-i c = search needs
+
+loop-less : tie.Need-loop-less Inv-loop μ-loop
+loop-less c = search needs
+
+loop-again : tie.Need-loop-again Inv-loop μ-loop
+loop-again c =
+    let pre = c .before .before .before .before .before .before .before .before .pre in
+    let round = c .before .before .before .loop .inv .1 in
+    let new = c .before .is-new in
+    ⊎-elim
+    (λ w. (
+      omega arith,
+      rw (w .3) (productive-more _ _ _ _ _ round (sym (new .ensures) ∙ w .0 .taken)
+          (omega (arith, wf-sized _ (pre .0) .counted .fewCredentials))),
+    ))
+    (⊎-elim
+    (λ w. (
+      omega arith,
+      rw (w .3) (productive-not _ _ _ _ _ round
+          (sym (all-met _ _ (pre .0) (pre .1) _ (omega arith) _) ∙ sym (w .1 .ensures) ∙ w .2 .left)),
+    ))
+    (λ w. (omega arith, rw (w .1) (productive-old _ _ _ _ _ round (sym (new .ensures) ∙ w .0 .left)))))
+    (c .if1 .came)
+
+returns : tie.Need-returns Inv-loop μ-loop
+returns c =
+    let args = c .before .before .before .before .before .before .args in
+    let all : c .before .loop .i ≡ credentials (now (args .table)) = omega arith in
+    rw all at (c .before .loop .inv .1)
+
+pub more-productive-spec : {M : Type 1} → statement M
+more-productive-spec =
+    tie.close
+    (tie.spec
+    Inv-loop
+    μ-loop
+    shared-slice-read-wide
+    wide-requires
+    loop-holds
+    is-new-requires
+    is-productive-requires
+    cast-more
+    shl-more
+    add-i
+    loop-less
+    loop-again
+    returns)
