@@ -53,8 +53,8 @@
 //! threads at once.
 //!
 //! A check takes time in proportion to the table, a verification in proportion
-//! to the record. Listing is a search: wallets as people have them take
-//! microseconds to milliseconds, but the time can double with each credential.
+//! to the record. Listing is a search, whose time can grow exponentially with
+//! the number of credentials; `docs/ARCHITECTURE.md` has measured times.
 //!
 //! # Linking
 //!
@@ -74,6 +74,11 @@ mod sets;
 
 #[doc = include_str!("../../LAYOUT.md")]
 pub mod layout {}
+
+// The README's program is run with the other examples.
+#[cfg(doctest)]
+#[doc = include_str!("../README.md")]
+struct Readme;
 
 pub use calls::{check, check_query, list, verify};
 pub use query::Query;
