@@ -1,6 +1,8 @@
 /* Bwlchareg: a compliance checker for usage-constrained RT0 credentials.
  *
- * Link with target/staticlib/libbwlchareg.a (x86-64 Linux), which `rt staticlib bwlchareg` proves and writes.
+ * Link with target/staticlib/libbwlchareg.a (x86-64 Linux), which `rt staticlib bwlchareg` proves and writes. It needs nothing else but
+ * memcpy and memset. What the numbers of a table, a query, a record and a set mean is in bindings/LAYOUT.md; bindings/c/example.c makes
+ * every call.
  *
  * What holds of every call, for every input of every length, and is proved (crates/bwlchareg and the crates it is over):
  *
@@ -11,6 +13,8 @@
  *
  * What the caller must see to, since nothing checks it: a pointer leads to as many numbers as its length says (it may be any
  * aligned address where the length is 0, but not null), and the last parameter overlaps none of them.
+ *
+ * A call keeps nothing for the next one and takes no memory but the stack, so calls may be made from several threads at once.
  */
 #ifndef BWLCHAREG_H
 #define BWLCHAREG_H

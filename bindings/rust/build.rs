@@ -11,7 +11,11 @@ fn main() {
     let directory = library_directory();
     let archive = directory.join("libbwlchareg.a");
     if !archive.exists() {
-        println!("cargo:warning={} is not there yet", archive.display());
+        println!(
+            "cargo:warning={} is not there; `rt staticlib bwlchareg` writes it to \
+             target/staticlib, and BWLCHAREG_LIB_DIR names another directory",
+            archive.display()
+        );
     }
     println!("cargo:rerun-if-env-changed=BWLCHAREG_LIB_DIR");
     println!("cargo:rerun-if-changed={}", archive.display());

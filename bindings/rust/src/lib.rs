@@ -1,57 +1,86 @@
 //! Safe calls into the proved checker for RT0 credentials.
 //!
-//! A table is a slice of 16-bit numbers: a head of four counts, then the
-//! credentials, part cells, automata and edges. [`check`] says whether it is
-//! accepted; [`check_query`] says the same of a table and a query together.
-//! [`verify`] says whether a proof record, two numbers for each node, derives
-//! what is queried and complies with every automaton that it uses. [`list`]
-//! gives all minimal sets: the used sets of accepted records, but for those
-//! that have another one as a proper part.
+//! A holder has a wallet of credentials, some with constraints on how they may
+//! be used. A verifier asks whether somebody is in a role. This crate has a
+//! call for each end, and a check for the input of both:
+//!
+//! | call | what it answers |
+//! |---|---|
+//! | [`check`] | is this a table of credentials? |
+//! | [`check_query`] | is it, and is this a query? |
+//! | [`list`] | which minimal sets of credentials prove the queried membership? |
+//! | [`verify`] | is this record a proof of it that keeps to every constraint it uses? |
+//!
+//! Everything is given as numbers; [`layout`] says what each of them means.
+//! Every call takes any slices and any query. What is not accepted is answered
+//! with a [`Refusal`]: a number, a position, and both in words.
 //!
 //! ```
+//! use bwlchareg::{check, list, verify, Query};
+//!
 //! // Shop 1, School 2, Ann 4; discount 1, student 2, accredited 3.
 //! let table = [
-//!     4, 0, 0, 0, //
-//!     1, 1, 3, 3, 2, 0, //
-//!     1, 3, 1, 2, 0, 0, //
-//!     2, 2, 1, 4, 0, 0, //
-//!     1, 1, 1, 4, 0, 0, //
+//!     4, 0, 0, 0, // four credentials, no part cells, automata or edges
+//!     1, 1, 3, 3, 2, 0, // Shop.discount <- Shop.accredited.student
+//!     1, 3, 1, 2, 0, 0, // Shop.accredited <- School
+//!     2, 2, 1, 4, 0, 0, // School.student <- Ann
+//!     1, 1, 1, 4, 0, 0, // Shop.discount <- Ann
 //! ];
-//! assert_eq!(bwlchareg::check(&table), Ok(()));
+//! check(&table)?;
 //!
-//! let query = bwlchareg::Query { principal: 4, owner: 1, name: 1, depth: 0 };
-//! let refusal = bwlchareg::check_query(&table, query).unwrap_err();
-//! assert_eq!((refusal.number, refusal.position), (8, 4));
-//!
-//! // Ann has Shop's discount as a student of School: credentials 1, 2, 3.
-//! let query = bwlchareg::Query { depth: 2, ..query };
-//! assert_eq!(bwlchareg::verify(&table, query, &[1, 2, 2, 0, 3, 0]), Ok(0b111));
-//!
-//! // Those three, or credential 4 alone: no other set has nothing needless.
+//! // Is Ann in Shop.discount, within two levels? Credentials 1, 2 and 3
+//! // together say so, and so does credential 4 alone. Credential i counts
+//! // 2^(i-1) in a set.
+//! let query = Query { principal: 4, owner: 1, name: 1, depth: 2 };
 //! let mut cells = [0; 4];
-//! assert_eq!(bwlchareg::list(&table, query, &mut cells), Ok(2));
-//! assert_eq!(cells, [0b111, 0b1000, 0, 0]);
+//! let count = list(&table, query, &mut cells)?;
+//! assert_eq!(cells[..count], [0b0111, 0b1000]);
+//!
+//! // Ann shows the first: credential 1 with School as the middle, and below
+//! // it credentials 2 and 3. The answer is the set that the record uses.
+//! let used = verify(&table, query, &[1, 2, 2, 0, 3, 0])?;
+//! assert_eq!(used, 0b0111);
+//! # Ok::<(), bwlchareg::Refusal>(())
 //! ```
+//!
+//! # What can be relied on
+//!
+//! The library's side of every call is proved to meet its contract, for every
+//! input of every length: it ends, it reads only what it is lent, it writes
+//! only the cells that [`list`] names, and it answers what `layout` and the
+//! table at [`Refusal`] say. No call panics, keeps anything for the next one or
+//! takes memory other than the stack, so calls may be made from several
+//! threads at once.
+//!
+//! A check takes time in proportion to the table, a verification in proportion
+//! to the record. Listing is a search, whose time can grow exponentially with
+//! the number of credentials; `docs/ARCHITECTURE.md` has measured times.
+//!
+//! # Linking
+//!
+//! The build links `libbwlchareg.a` from `target/staticlib` of the repository,
+//! or from the directory that the environment variable `BWLCHAREG_LIB_DIR`
+//! names. `bindings/rust/README.md` shows a program outside the repository.
 
 #![deny(unsafe_code)]
-#![warn(missing_docs)]
+#![deny(missing_docs)]
 
+mod answer;
+mod calls;
 mod ffi;
+mod query;
 mod refusal;
+mod sets;
 
-pub use ffi::{check, check_query, list, verify};
+#[doc = include_str!("../../LAYOUT.md")]
+pub mod layout {}
+
+// The README's program is run with the other examples.
+#[cfg(doctest)]
+#[doc = include_str!("../README.md")]
+struct Readme;
+
+pub use calls::{check, check_query, list, verify};
+pub use query::Query;
 pub use refusal::Refusal;
-
-/// What is asked of a table: is the principal in the role `owner.name`, by a
-/// derivation of at most `depth` levels?
-#[derive(Clone, Copy, Debug, PartialEq, Eq)]
-pub struct Query {
-    /// The principal, 1 to 64.
-    pub principal: u16,
-    /// The principal who owns the role, 1 to 64.
-    pub owner: u16,
-    /// The role's name, 1 to 64.
-    pub name: u16,
-    /// The depth limit, 1 to 16.
-    pub depth: u16,
-}
+pub use sets::credentials;

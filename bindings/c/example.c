@@ -1,0 +1,129 @@
+/* The shop of document 01, from C: tables are checked, minimal sets listed and proof records verified. Every answer is printed in
+ * words and held against document 01; the program ends with 1 if any differs. bindings/LAYOUT.md says what the numbers mean. */
+#include "bwlchareg.h"
+
+#include <inttypes.h>
+#include <stdio.h>
+
+enum { SHOP = 1, SCHOOL = 2, ANN = 4 };                 /* principals */
+enum { DISCOUNT = 1, STUDENT = 2, ACCREDITED = 3 };     /* names */
+
+static const uint16_t T[] = {
+    4, 0, 0, 0,                                         /* four credentials, no part cells, no automata, no edges */
+    SHOP, DISCOUNT, 3, ACCREDITED, STUDENT, 0,          /* 1: Shop.discount <- Shop.accredited.student */
+    SHOP, ACCREDITED, 1, SCHOOL, 0, 0,                  /* 2: Shop.accredited <- School */
+    SCHOOL, STUDENT, 1, ANN, 0, 0,                      /* 3: School.student <- Ann */
+    SHOP, DISCOUNT, 1, ANN, 0, 0,                       /* 4: Shop.discount <- Ann */
+};
+
+/* The same credentials, and an automaton attached to credential 3. It rejects every word that begins with Shop.discount. */
+static const uint16_t U[] = {
+    4, 0, 1, 2,
+    SHOP, DISCOUNT, 3, ACCREDITED, STUDENT, 0,   SHOP, ACCREDITED, 1, SCHOOL, 0, 0,
+    SCHOOL, STUDENT, 1, ANN, 0, 1,               SHOP, DISCOUNT, 1, ANN, 0, 0,
+    1, 2,                                               /* it starts in state 0 and accepts in state 1 */
+    1, 0, 3, SHOP, DISCOUNT, 1,                         /* from 0 by every role but Shop.discount to 1 */
+    1, 1, 2, 0, 0, 1,                                   /* from 1 by every role to 1 */
+};
+
+static const uint16_t empty[] = {0, 0, 0, 0};
+static const uint16_t mistaken[] = {1, 0, 0, 0, SHOP, DISCOUNT, 1, 65, 0, 0}; /* there is no principal 65 */
+
+/* Ann is in Shop.discount by credential 1, since the middle, School, is in Shop.accredited by 2, and Ann in School.student by 3. */
+static const uint16_t record[] = {1, SCHOOL, 2, 0, 3, 0};
+static const uint16_t misled[] = {1, ANN, 2, 0, 3, 0};  /* with another middle, whom credential 2 does not name */
+
+/* Each refusal in words, by its number. */
+static const char *const words[] = {
+    "accepted",
+    "the table has fewer than 4 numbers",
+    "a count in the head is over its limit",
+    "the table's length is not what its head says",
+    "this credential has a field outside what its kind allows",
+    "this part cell has a field out of range",
+    "this credential's chain is not of 2 to 4 cells",
+    "this edge has a field out of range",
+    "this field of the query is out of range",
+    "there is no minimal set",
+    "there are more minimal sets than cells",
+    "this node has fewer than two numbers left, or the tree ends before it and numbers are left over",
+    "this node's credential or middle does not fit its goal",
+    "this node is too deep, or its role is already on the branch",
+    "this automaton is used and rejects a word",
+};
+
+#define LENGTH(array) (sizeof(array) / sizeof((array)[0]))
+#define SLICE(array) (array), LENGTH(array)
+#define UNCHANGED UINT32_MAX                            /* what a cell holds before a listing; no set is so great */
+#define UNWRITTEN UINT64_MAX                            /* what the value holds before a call; no call writes it */
+
+static uint64_t value = UNWRITTEN;                      /* what a call writes: a refusal's position, a count or a used set */
+static uint32_t cells[3] = {UNCHANGED, UNCHANGED, UNCHANGED};
+static int differing;                                   /* how many answers are not those of document 01 */
+
+/* Prints the answer to what was asked, and holds number and value against those of document 01. */
+static void tell(const char *asked, uint32_t number, uint32_t right_number, uint64_t right_value)
+{
+    const char *said = number < LENGTH(words) ? words[number] : "no number of document 01";
+    if (number == 0)
+        printf("%s: %s, value %" PRIu64 "\n", asked, said, value);
+    else
+        printf("%s: refused %" PRIu32 " at %" PRIu64 ", %s\n", asked, number, value, said);
+    if (number != right_number || value != right_value) {
+        printf("  but document 01 has %" PRIu32 ", %" PRIu64 "\n", right_number, right_value);
+        differing++;
+    }
+    value = UNWRITTEN;
+}
+
+/* Prints the sets in the cells, holds all cells against what document 01 leaves in them, and clears them for the next list. */
+static void tell_cells(uint32_t first, uint32_t second)
+{
+    const uint32_t right[LENGTH(cells)] = {first, second, UNCHANGED};
+    for (size_t i = 0; i < LENGTH(cells); i++) {
+        if (cells[i] != UNCHANGED) {
+            printf("  set %" PRIu32 " has credentials", cells[i]);
+            for (int c = 1; c <= 20; c++)
+                if (cells[i] >> (c - 1) & 1) printf(" %d", c);
+            printf("\n");
+        }
+        if (cells[i] != right[i]) {
+            printf("  but document 01 has %" PRIu32 " in cell %zu\n", right[i], i + 1);
+            differing++;
+        }
+        cells[i] = UNCHANGED;
+    }
+}
+
+int main(void)
+{
+    tell("check T", bwlchareg_check(SLICE(T), &value), 0, 0);
+    tell("check U", bwlchareg_check(SLICE(U), &value), 0, 0);
+    tell("check three numbers of T", bwlchareg_check(T, 3, &value), 1, 0);
+    tell("check a table with principal 65", bwlchareg_check(SLICE(mistaken), &value), 4, 1);
+    tell("check T, and depth 0", bwlchareg_check_query(SLICE(T), ANN, SHOP, DISCOUNT, 0, &value), 8, 4);
+    tell("check T, and depth 17", bwlchareg_check_query(SLICE(T), ANN, SHOP, DISCOUNT, 17, &value), 8, 4);
+
+    tell("list T", bwlchareg_list(SLICE(T), ANN, SHOP, DISCOUNT, 2, SLICE(cells), &value), 0, 2);
+    tell_cells(7, 8);
+    tell("list T, depth 1", bwlchareg_list(SLICE(T), ANN, SHOP, DISCOUNT, 1, SLICE(cells), &value), 0, 1);
+    tell_cells(8, UNCHANGED);
+    tell("list U", bwlchareg_list(SLICE(U), ANN, SHOP, DISCOUNT, 2, SLICE(cells), &value), 0, 1);
+    tell_cells(8, UNCHANGED);
+    tell("list U, School.student", bwlchareg_list(SLICE(U), ANN, SCHOOL, STUDENT, 1, SLICE(cells), &value), 0, 1);
+    tell_cells(4, UNCHANGED);
+    tell("list T, one cell", bwlchareg_list(SLICE(T), ANN, SHOP, DISCOUNT, 2, cells, 1, &value), 10, 0);
+    tell_cells(7, UNCHANGED);
+    tell("list no credentials", bwlchareg_list(SLICE(empty), ANN, SHOP, DISCOUNT, 2, SLICE(cells), &value), 9, 0);
+    tell_cells(UNCHANGED, UNCHANGED);
+
+    /* The value of an accepted record is its used set: 7 is credentials 1, 2 and 3. */
+    tell("verify with T", bwlchareg_verify(SLICE(T), ANN, SHOP, DISCOUNT, 2, SLICE(record), &value), 0, 7);
+    tell("verify with U", bwlchareg_verify(SLICE(U), ANN, SHOP, DISCOUNT, 2, SLICE(record), &value), 14, 1);
+    tell("verify with T, depth 1", bwlchareg_verify(SLICE(T), ANN, SHOP, DISCOUNT, 1, SLICE(record), &value), 13, 2);
+    tell("verify two nodes of it", bwlchareg_verify(SLICE(T), ANN, SHOP, DISCOUNT, 2, record, 4, &value), 11, 3);
+    tell("verify another middle", bwlchareg_verify(SLICE(T), ANN, SHOP, DISCOUNT, 2, SLICE(misled), &value), 12, 2);
+
+    printf("%d answers differ from document 01\n", differing);
+    return differing != 0;
+}

@@ -1,0 +1,363 @@
+//! The calls take any slices: whatever their length, numbers and place in
+//! memory, the answer is accepted or a refusal that document 01 allows there,
+//! and no cell is written that it does not name.
+
+mod drawn;
+
+use bwlchareg::{check, check_query, list, verify, Query, Refusal};
+use drawn::{Random, LONGEST};
+
+const SEED: u64 = 2015;
+const CASES: usize = 30_000;
+
+/// What is given to the calls: a table, a query, a record and how many cells.
+struct Input {
+    table: Vec<u16>,
+    query: Query,
+    record: Vec<u16>,
+    cells: usize,
+}
+
+/// What the calls then answer.
+#[derive(Debug, PartialEq)]
+struct Answers {
+    check: Result<(), Refusal>,
+    check_query: Result<(), Refusal>,
+    verify: Result<u32, Refusal>,
+    list: Result<usize, Refusal>,
+    cells: Vec<u32>,
+}
+
+fn drawn_input(random: &mut Random) -> Input {
+    let table = drawn::table(random);
+    let query = drawn::query(random, &table);
+    Input {
+        query,
+        record: drawn::record(random, &table, query),
+        cells: random.up_to(6),
+        table,
+    }
+}
+
+/// What a cell holds before a listing: no set, and different in each cell.
+fn before(cell: usize) -> u32 {
+    0xC000_0000 + cell as u32
+}
+
+/// The answers to the slices as they are.
+fn answers(input: &Input) -> Answers {
+    let mut cells: Vec<u32> = (0..input.cells).map(before).collect();
+    let list = list(&input.table, input.query, &mut cells);
+    Answers {
+        check: check(&input.table),
+        check_query: check_query(&input.table, input.query),
+        verify: verify(&input.table, input.query, &input.record),
+        list,
+        cells,
+    }
+}
+
+/// The answers to the same numbers inside larger slices, with other numbers
+/// around them, at offsets that are odd as often as even. The larger slices
+/// must not change, but for the lent cells.
+fn answers_inside(input: &Input, random: &mut Random) -> Answers {
+    let (table, table_at) = surrounded(&input.table, random);
+    let (record, record_at) = surrounded(&input.record, random);
+    let kept = (table.clone(), record.clone());
+    let front = random.up_to(5);
+    let guard = |index: usize| 0xE000_0000 + index as u32;
+    let mut cells: Vec<u32> = (0..front).map(guard).collect();
+    cells.extend((0..input.cells).map(before));
+    let behind = cells.len();
+    cells.extend((0..8).map(guard));
+
+    let table_inside = &table[table_at..table_at + input.table.len()];
+    let record_inside = &record[record_at..record_at + input.record.len()];
+    let list = list(table_inside, input.query, &mut cells[front..behind]);
+    let answers = Answers {
+        check: check(table_inside),
+        check_query: check_query(table_inside, input.query),
+        verify: verify(table_inside, input.query, record_inside),
+        list,
+        cells: cells[front..behind].to_vec(),
+    };
+    assert!(cells[..front].iter().copied().eq((0..front).map(guard)));
+    assert!(cells[behind..].iter().copied().eq((0..8).map(guard)));
+    assert_eq!((table, record), kept);
+    answers
+}
+
+/// A slice with numbers before and behind it, and where it begins.
+fn surrounded(slice: &[u16], random: &mut Random) -> (Vec<u16>, usize) {
+    let front = random.up_to(5);
+    let mut larger: Vec<u16> = (0..front).map(|_| random.between(0, 5)).collect();
+    larger.extend(slice);
+    larger.extend((0..8).map(|_| random.between(0, 5)));
+    (larger, front)
+}
+
+/// One of the head's counts, 0 where there is no head.
+fn count(table: &[u16], place: usize) -> u64 {
+    table.get(place).copied().unwrap_or(0).into()
+}
+
+/// Whether document 01 allows this position for a refusal of this number.
+fn is_place(refusal: Refusal, table: &[u16], nodes: usize) -> bool {
+    let nodes = nodes as u64;
+    let most = match refusal.number {
+        1..=3 | 9 | 10 => return refusal.position == 0,
+        4 | 6 => count(table, 0),
+        5 => count(table, 1),
+        7 => count(table, 3),
+        8 => 4,
+        11 => nodes + 1,
+        12 | 13 => nodes,
+        14 => count(table, 2),
+        _ => return false,
+    };
+    (1..=most).contains(&refusal.position)
+}
+
+/// The refusals of rows 1 to 3, by the head and the length alone.
+fn head_refusal(table: &[u16]) -> Option<u32> {
+    if table.len() < 4 {
+        return Some(1);
+    }
+    let [n, q, a, e] = [0, 1, 2, 3].map(|place| count(table, place));
+    if n > 20 || q > 63 || a > 8 || e > 128 {
+        return Some(2);
+    }
+    let length = 4 + 6 * n + 3 * q + 2 * a + 6 * e;
+    (table.len() as u64 != length).then_some(3)
+}
+
+/// What every answer must be, whatever the input.
+fn judge(input: &Input, answers: &Answers) {
+    let table = &input.table;
+    let nodes = input.record.len() / 2;
+    let place = |refusal: Refusal| is_place(refusal, table, nodes);
+
+    match (answers.check, head_refusal(table)) {
+        (Err(refusal), Some(number)) => assert_eq!(refusal.number, number),
+        (Err(refusal), None) => assert!((4..=7).contains(&refusal.number)),
+        (Ok(()), told) => assert_eq!(told, None),
+    }
+    match answers.check {
+        Err(refusal) => {
+            assert!(place(refusal), "{refusal:?}");
+            assert_eq!(answers.check_query, Err(refusal));
+        }
+        Ok(()) => assert!(answers.check_query.is_ok() || number(answers.check_query) == 8),
+    }
+    if let Err(refusal) = answers.check_query {
+        assert!(place(refusal), "{refusal:?}");
+        assert_eq!(answers.verify, Err(refusal));
+        assert_eq!(answers.list, Err(refusal));
+    } else {
+        judge_verdict(answers.verify, table, nodes);
+        if let Err(refusal) = answers.list {
+            assert!([9, 10].contains(&refusal.number), "{refusal:?}");
+            assert!(place(refusal), "{refusal:?}");
+        }
+    }
+    judge_cells(answers, table);
+}
+
+/// The number of a refusal, 0 for accepted.
+fn number<Value>(answer: Result<Value, Refusal>) -> u32 {
+    answer.err().map_or(0, |refusal| refusal.number)
+}
+
+/// A verdict on a record, with an accepted table and a valid query.
+fn judge_verdict(verdict: Result<u32, Refusal>, table: &[u16], nodes: usize) {
+    match verdict {
+        Ok(used) => {
+            assert!(used != 0 && u64::from(used) < 1 << count(table, 0));
+            assert!(used.count_ones() as usize <= nodes);
+        }
+        Err(refusal) => {
+            assert!((11..=14).contains(&refusal.number), "{refusal:?}");
+            assert!(is_place(refusal, table, nodes), "{refusal:?}");
+        }
+    }
+}
+
+/// The cells after a listing: ascending sets, none a part of another, and
+/// behind them what was there before.
+fn judge_cells(answers: &Answers, table: &[u16]) {
+    let written = match answers.list {
+        Ok(count) => count,
+        Err(refusal) if refusal.number == Refusal::LONGER => answers.cells.len(),
+        Err(_) => 0,
+    };
+    let (sets, rest) = answers.cells.split_at(written);
+    assert!(rest
+        .iter()
+        .copied()
+        .eq((written..).map(before).take(rest.len())));
+    for (index, set) in sets.iter().enumerate() {
+        assert!(*set != 0 && u64::from(*set) < 1 << count(table, 0));
+        for later in &sets[index + 1..] {
+            assert!(set < later && set & later != *set);
+        }
+    }
+}
+
+#[test]
+fn every_answer_is_one_that_the_document_allows() {
+    let mut random = Random::new(SEED);
+    let mut told = [[0; 15]; 3];
+    for _ in 0..CASES {
+        let input = drawn_input(&mut random);
+        let answers = answers(&input);
+        judge(&input, &answers);
+        told[0][number(answers.check_query) as usize] += 1;
+        told[1][number(answers.verify) as usize] += 1;
+        told[2][number(answers.list) as usize] += 1;
+    }
+    // The draws are no use unless they reach every answer of every call.
+    let reached = |call: usize, numbers: &[usize]| numbers.iter().all(|no| told[call][*no] >= 20);
+    assert!(reached(0, &[0, 1, 2, 3, 4, 5, 6, 7, 8]), "{:?}", told[0]);
+    assert!(reached(1, &[0, 8, 11, 12, 13, 14]), "{:?}", told[1]);
+    assert!(reached(2, &[0, 8, 9, 10]), "{:?}", told[2]);
+}
+
+#[test]
+fn what_stands_around_a_slice_is_neither_read_nor_written() {
+    let mut random = Random::new(SEED + 1);
+    for _ in 0..CASES / 3 {
+        let input = drawn_input(&mut random);
+        let inside = answers_inside(&input, &mut random);
+        assert_eq!(inside, answers(&input));
+        judge(&input, &inside);
+    }
+}
+
+#[test]
+fn a_short_buffer_has_the_first_sets_of_the_whole_list() {
+    let mut random = Random::new(SEED + 5);
+    let mut short = 0;
+    for _ in 0..3_000 {
+        let table = drawn::accepted(&mut random);
+        let query = drawn::query(&mut random, &table);
+        let mut whole = [0; 70]; // eight credentials have no longer list
+        let Ok(count) = list(&table, query, &mut whole) else {
+            continue;
+        };
+        for length in 0..count {
+            let mut cells = vec![0; length];
+            let refusal = list(&table, query, &mut cells).unwrap_err();
+            assert_eq!((refusal.number, refusal.position), (Refusal::LONGER, 0));
+            assert_eq!(cells, whole[..length]);
+            short += 1;
+        }
+        assert_eq!(list(&table, query, &mut whole[..count]), Ok(count));
+    }
+    assert!(short >= 500, "{short}");
+}
+
+#[test]
+fn every_length_of_plain_slices_is_answered() {
+    let query = drawn::query(&mut Random::new(SEED), &[]);
+    let lengths = (0..=40).chain([1_097, 1_098, 65_535, 65_536, 65_537, LONGEST]);
+    for length in lengths {
+        for filling in [0, 1, 20, u16::MAX] {
+            let input = Input {
+                table: vec![filling; length],
+                query,
+                record: vec![filling; length],
+                cells: length % 3,
+            };
+            judge(&input, &answers(&input));
+        }
+    }
+    // All zeros are a table exactly where they are a head.
+    assert!((0..=40).all(|length| check(&vec![0; length]).is_ok() == (length == 4)));
+}
+
+#[test]
+fn long_records_are_read_with_an_accepted_table() {
+    let mut random = Random::new(SEED + 2);
+    let table = [1, 0, 0, 0, 1, 1, 1, 1, 0, 0]; // principal 1 is in the role 1.1
+    let query = Query {
+        principal: 1,
+        owner: 1,
+        name: 1,
+        depth: 1,
+    };
+    for _ in 0..100 {
+        let mut record = vec![random.between(0, 2); random.up_to(LONGEST)];
+        record.truncate(random.up_to(LONGEST));
+        let verdict = verify(&table, query, &record);
+        judge_verdict(verdict, &table, record.len() / 2);
+        // The tree is one node; whatever follows is left over.
+        let mut record = vec![1, 0];
+        record.resize(random.up_to(LONGEST - 3) + 3, 1);
+        let refusal = verify(&table, query, &record).unwrap_err();
+        assert_eq!((refusal.number, refusal.position), (11, 2));
+    }
+}
+
+/// Eight levels: whoever is four times in a role of one level is in the role of
+/// the level above. The record has every node there can be.
+fn full_tree() -> (Vec<u16>, Query, Vec<u16>) {
+    const LEVELS: u16 = 8;
+    let mut table = vec![LEVELS, 4 * (LEVELS - 1), 0, 0];
+    for level in 1..LEVELS {
+        table.extend([1, level, 4, 4 * level - 3, 0, 0]);
+    }
+    table.extend([1, LEVELS, 1, 1, 0, 0]);
+    for level in 1..LEVELS {
+        let first = 4 * level - 3;
+        for next in [first + 1, first + 2, first + 3, 0] {
+            table.extend([1, level + 1, next]);
+        }
+    }
+    let query = Query {
+        principal: 1,
+        owner: 1,
+        name: 1,
+        depth: LEVELS,
+    };
+    let mut record = vec![LEVELS, 0];
+    for level in (1..LEVELS).rev() {
+        let below = record.repeat(4);
+        record = vec![level, 0];
+        record.extend(below);
+    }
+    (table, query, record)
+}
+
+#[test]
+fn a_record_of_21845_nodes_is_read_to_its_end() {
+    let (table, query, record) = full_tree();
+    assert_eq!(record.len(), 2 * 21_845);
+    assert_eq!(verify(&table, query, &record), Ok(255));
+    let mut random = Random::new(SEED + 3);
+    for _ in 0..100 {
+        // Cut anywhere, the first node that is not whole is told.
+        let length = random.up_to(record.len() - 1);
+        let refusal = verify(&table, query, &record[..length]).unwrap_err();
+        let node = length as u64 / 2 + 1;
+        assert_eq!((refusal.number, refusal.position), (11, node));
+    }
+    let longer = [record, vec![1]].concat();
+    let refusal = verify(&table, query, &longer).unwrap_err();
+    assert_eq!((refusal.number, refusal.position), (11, 21_846));
+}
+
+#[test]
+fn calls_from_several_threads_do_not_meet() {
+    let mut random = Random::new(SEED + 4);
+    let inputs: Vec<Input> = (0..500).map(|_| drawn_input(&mut random)).collect();
+    let alone: Vec<Answers> = inputs.iter().map(answers).collect();
+    std::thread::scope(|scope| {
+        for _ in 0..4 {
+            scope.spawn(|| {
+                for (input, expected) in inputs.iter().zip(&alone) {
+                    assert_eq!(&answers(input), expected);
+                }
+            });
+        }
+    });
+}

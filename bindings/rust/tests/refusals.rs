@@ -1,0 +1,191 @@
+//! Every condition of document 01's refusals by an input that meets it: its
+//! number, its position, and that the message has the words for it.
+
+use bwlchareg::{check, check_query, list, verify, Query, Refusal};
+
+/// A table with a credential of each kind, an automaton and an edge.
+const TABLE: [u16; 48] = [
+    5, 2, 1, 1, //
+    1, 1, 3, 3, 2, 0, // 1: whoever is in M.2, for some M in 1.3, is in 1.1
+    1, 3, 1, 2, 0, 0, // 2: principal 2 is in 1.3
+    2, 2, 1, 4, 0, 1, // 3: principal 4 is in 2.2, under automaton 1
+    1, 1, 2, 1, 1, 0, // 4: whoever is in 1.1 is in 1.1
+    1, 4, 4, 1, 0, 0, // 5: whoever is in 2.2 and in 1.3 is in 1.4
+    2, 2, 2, // cell 1: 2.2, then cell 2
+    1, 3, 0, // cell 2: 1.3
+    1, 1, // automaton 1 starts and accepts in state 0
+    1, 0, 3, 1, 4, 0, // edge 1, of automaton 1: from 0 by all but 1.4 to 0
+];
+
+const CREDENTIALS: usize = 4;
+const CELLS: usize = CREDENTIALS + 5 * 6;
+const EDGES: usize = CELLS + 2 * 3 + 2;
+
+/// Is principal 4 in 1.1, within three levels?
+const QUERY: Query = Query {
+    principal: 4,
+    owner: 1,
+    name: 1,
+    depth: 3,
+};
+
+/// A record that is accepted.
+const RECORD: [u16; 6] = [1, 2, 2, 0, 3, 0];
+
+/// Holds a refusal against the number, the position and words of its message.
+fn told<Value: std::fmt::Debug>(
+    answer: Result<Value, Refusal>,
+    number: u32,
+    position: u64,
+    words: &str,
+) {
+    let refusal = answer.expect_err(words);
+    assert_eq!((refusal.number, refusal.position), (number, position));
+    let message = refusal.message();
+    assert!(message.contains(words), "{message}: {words}");
+}
+
+/// The table with another number at a place.
+fn with(place: usize, number: u16) -> [u16; 48] {
+    let mut table = TABLE;
+    table[place] = number;
+    table
+}
+
+#[test]
+fn the_table_and_the_record_are_accepted_as_they_are() {
+    assert_eq!(check(&TABLE), Ok(()));
+    assert_eq!(check_query(&TABLE, QUERY), Ok(()));
+    assert_eq!(verify(&TABLE, QUERY, &RECORD), Ok(7));
+}
+
+#[test]
+fn heads() {
+    told(check(&TABLE[..3]), 1, 0, "fewer than 4 numbers");
+    for (place, over) in [21, 64, 9, 129].into_iter().enumerate() {
+        told(check(&with(place, over)), 2, 0, "head is over its limit");
+        told(check(&with(place, over - 1)), 3, 0, "length is not what");
+    }
+    told(
+        check(&TABLE[..47]),
+        3,
+        0,
+        "length is not what its head says",
+    );
+}
+
+#[test]
+fn records_of_the_table() {
+    let third = CREDENTIALS + 2 * 6;
+    for (field, number) in [0, 65, 5, 65, 1, 2].into_iter().enumerate() {
+        told(check(&with(third + field, number)), 4, 3, "credential 3");
+    }
+    for (field, number) in [0, 65].into_iter().enumerate() {
+        let table = with(CELLS + 3 + field, number);
+        told(check(&table), 5, 2, "part cell 2 has a principal or name");
+    }
+    for next in [1, 2, 3] {
+        let table = with(CELLS + 5, next);
+        told(check(&table), 5, 2, "next that is neither 0 nor a greater");
+    }
+    let table = with(CELLS + 2, 0);
+    told(check(&table), 6, 5, "credential 5 has a chain");
+    for (field, number) in [(0, 2), (1, 16), (2, 4), (5, 16)] {
+        let table = with(EDGES + field, number);
+        told(
+            check(&table),
+            7,
+            1,
+            "edge 1 has an automaton, state or label",
+        );
+    }
+    let table = with(EDGES + 2, 2);
+    told(
+        check(&table),
+        7,
+        1,
+        "a role that is not what its label allows",
+    );
+}
+
+#[test]
+fn queries() {
+    let spoiled: [(Query, &str); 4] = [
+        (
+            Query {
+                principal: 0,
+                ..QUERY
+            },
+            "principal",
+        ),
+        (Query { owner: 65, ..QUERY }, "owner"),
+        (Query { name: 65, ..QUERY }, "name"),
+        (Query { depth: 17, ..QUERY }, "depth"),
+    ];
+    for (position, (query, field)) in (1..).zip(spoiled) {
+        let words = format!("the query's {field} is out of range");
+        told(check_query(&TABLE, query), 8, position, &words);
+        told(verify(&TABLE, query, &RECORD), 8, position, &words);
+        told(list(&TABLE, query, &mut [0]), 8, position, &words);
+    }
+}
+
+#[test]
+fn lists() {
+    let nobody = Query {
+        principal: 9,
+        ..QUERY
+    };
+    told(list(&TABLE, nobody, &mut [0]), 9, 0, "no minimal set");
+    told(
+        list(&TABLE, nobody, &mut []),
+        Refusal::NONE,
+        0,
+        "no minimal",
+    );
+    let words = "more minimal sets than cells";
+    told(list(&TABLE, QUERY, &mut []), 10, 0, words);
+    told(list(&TABLE, QUERY, &mut []), Refusal::LONGER, 0, words);
+}
+
+#[test]
+fn records_that_end_too_soon_or_too_late() {
+    for length in 0..6 {
+        let node = length as u64 / 2 + 1;
+        let words = format!("node {node} has fewer than two numbers left");
+        told(verify(&TABLE, QUERY, &RECORD[..length]), 11, node, &words);
+    }
+    for more in 1..4 {
+        let longer = [&RECORD[..], &vec![1; more]].concat();
+        let words = "the tree ends before it and numbers are left over";
+        told(verify(&TABLE, QUERY, &longer), 11, 4, words);
+    }
+}
+
+#[test]
+fn nodes_that_do_not_fit_their_goals() {
+    let of = |record: &[u16]| verify(&TABLE, QUERY, record);
+    told(of(&[0, 0]), 12, 1, "its credential is not in the table");
+    told(of(&[6, 0]), 12, 1, "its credential is not in the table");
+    told(of(&[2, 0]), 12, 1, "defines another role");
+    told(of(&[1, 4, 2, 0]), 12, 2, "names another principal");
+    for record in [&[1, 0][..], &[1, 65], &[4, 1], &[1, 2, 2, 2]] {
+        let node = record.len() as u64 / 2;
+        told(of(record), 12, node, "its middle is wrong");
+    }
+}
+
+#[test]
+fn branches_and_words() {
+    let shallow = Query { depth: 1, ..QUERY };
+    let words = "node 2 is deeper than the depth limit";
+    told(verify(&TABLE, shallow, &RECORD), 13, 2, words);
+    let words = "its role is already on the branch";
+    told(verify(&TABLE, QUERY, &[4, 0, 4, 0]), 13, 2, words);
+
+    // Principal 4 in 1.4 asks for 4 in 1.3 too, so credential 2 is made 4's.
+    let table = with(CREDENTIALS + 6 + 3, 4);
+    let query = Query { name: 4, ..QUERY };
+    let words = "automaton 1 rejects a word";
+    told(verify(&table, query, &[5, 0, 3, 0, 2, 0]), 14, 1, words);
+}
