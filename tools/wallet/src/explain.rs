@@ -1,0 +1,120 @@
+//! The answer to a listing in words: the credentials of each set with their
+//! lines, and the memberships that showing the set tells; or why there is no
+//! list.
+
+use bwlchareg::{Query, Refusal};
+
+use crate::answer::Answer;
+use crate::table::{Body, Credential, Role};
+use crate::Wallet;
+
+/// What an answer says of a wallet and its query.
+pub fn explain(wallet: &Wallet, query: Query, answer: &Answer) -> String {
+    match answer {
+        Answer::Sets(sets) => {
+            let heading = heading(wallet, query, sets.len());
+            let sets = sets.iter().map(|set| explain_set(wallet, *set));
+            heading + &sets.collect::<String>()
+        }
+        Answer::Refused(refusal) => explain_refusal(wallet, query, *refusal),
+    }
+}
+
+/// How many sets there are, and of what.
+fn heading(wallet: &Wallet, query: Query, count: usize) -> String {
+    let sets = if count == 1 {
+        "set proves"
+    } else {
+        "sets prove"
+    };
+    format!("{count} minimal {sets} {}\n", asked(wallet, query))
+}
+
+/// The query in words.
+fn asked(wallet: &Wallet, query: Query) -> String {
+    let Query {
+        principal,
+        owner,
+        name,
+        depth,
+    } = query;
+    let goal = wallet.names.goal(principal, Role { owner, name });
+    format!("{goal} within {depth}")
+}
+
+/// A set: its credentials, one on a line, and what it shows.
+fn explain_set(wallet: &Wallet, set: u32) -> String {
+    let chosen: Vec<usize> = (0..wallet.table.credentials.len())
+        .filter(|index| set & (1 << index) != 0)
+        .collect();
+    let said = |index: &usize| credential(wallet, *index);
+    let texts: Vec<String> = chosen.iter().map(said).collect();
+    let width = texts.iter().map(|text| text.chars().count()).max();
+    let width = width.unwrap_or_default();
+    let mut lines = format!("\nset {set}\n");
+    for (index, text) in chosen.iter().zip(&texts) {
+        let line = wallet.lines.credentials.get(*index);
+        let line = line.map_or(String::new(), |line| format!("  line {line}"));
+        let pad = width - text.chars().count();
+        let number = index + 1;
+        let row = format!("  {number:>2}  {text}{:pad$}{line}", "");
+        lines += row.trim_end();
+        lines += "\n";
+    }
+    format!("{lines}  {}\n", shown(wallet, &chosen))
+}
+
+/// A credential in words.
+fn credential(wallet: &Wallet, index: usize) -> String {
+    let table = &wallet.table;
+    wallet.names.credential(table, &table.credentials[index])
+}
+
+/// Who is shown to be in which role by these credentials: the members that
+/// those of kind 1 name, each once.
+fn shown(wallet: &Wallet, chosen: &[usize]) -> String {
+    let mut goals: Vec<String> = Vec::new();
+    for index in chosen {
+        let Credential { role, body, .. } = wallet.table.credentials[*index];
+        if let Body::Member(principal) = body {
+            let goal = wallet.names.goal(principal, role);
+            if !goals.contains(&goal) {
+                goals.push(goal);
+            }
+        }
+    }
+    match goals.len() {
+        0 => "shows nobody".to_string(),
+        _ => format!("shows {}", goals.join(", ")),
+    }
+}
+
+/// A refusal, with the wallet's line that its position means.
+fn explain_refusal(wallet: &Wallet, query: Query, refusal: Refusal) -> String {
+    let Refusal { number, position } = refusal;
+    let said = match number {
+        9 => format!("no set of credentials proves {}", asked(wallet, query)),
+        10 => format!("more than 4096 minimal sets prove {}", asked(wallet, query)),
+        _ => refusal.to_string(),
+    };
+    let line = line(wallet, refusal).map(|line| format!(" (line {line})"));
+    let line = line.unwrap_or_default();
+    format!("refused {number} {position}: {said}{line}\n")
+}
+
+/// The line of the record or the query that a refusal's position means.
+pub fn line(wallet: &Wallet, refusal: Refusal) -> Option<usize> {
+    let lines = &wallet.lines;
+    let of = |lines: &[usize]| {
+        let index = usize::try_from(refusal.position).ok()?.checked_sub(1)?;
+        lines.get(index).copied()
+    };
+    match refusal.number {
+        4 | 6 => of(&lines.credentials),
+        5 => of(&lines.cells),
+        7 => of(&lines.edges),
+        8 => lines.query,
+        14 => of(&lines.automata),
+        _ => None,
+    }
+}
