@@ -8,8 +8,12 @@
 #![forbid(unsafe_code)]
 #![warn(missing_docs)]
 
+pub mod derivation;
 pub mod names;
+pub mod svg;
 pub mod table;
+pub mod tree;
+pub mod words;
 
 use names::Names;
 use table::Table;

@@ -1,0 +1,1 @@
+//! A judged record as a picture.
