@@ -1,6 +1,6 @@
 //! A record's judgement, and the derivation that it writes down.
 //!
-//! The proved checker judges; nothing here decides. The record is then walked
+//! The proved checker judges; nothing here decides. The record is then read
 //! once more, by document 01's "Derivations and words", so that its nodes can
 //! be shown and, where the checker stops at a node, it can be said why.
 
@@ -192,7 +192,7 @@ pub fn judge(wallet: &Wallet, query: Query, record: &[u16]) -> Judged {
         Err(refusal) => (11..=14).contains(&refusal.number),
     };
     if readable {
-        let (nodes, fault) = walk(&wallet.table, query, record);
+        let (nodes, fault) = read(&wallet.table, query, record);
         judged.nodes = nodes;
         // A reason is only given for what the checker has found.
         judged.fault = fault.filter(|fault| verdict == Err(fault.refusal()));
@@ -208,10 +208,12 @@ struct Open {
     parent: Option<usize>,
 }
 
-/// Reads the nodes of a record up to the first that is at fault. Goals that
-/// wait for their nodes stand on a stack, the next one on top; a branch has at
+/// Reads the nodes of a record up to the first that is at fault, for a table
+/// and a query that are accepted.
+///
+/// Goals that wait for their nodes stand on a stack, the next one on top; a branch has at
 /// most 16 levels, and each leaves at most three goals waiting.
-fn walk(table: &Table, query: Query, record: &[u16]) -> (Vec<Node>, Option<Fault>) {
+pub fn read(table: &Table, query: Query, record: &[u16]) -> (Vec<Node>, Option<Fault>) {
     let mut nodes: Vec<Node> = Vec::new();
     let mut rest = record.iter().copied();
     let mut waiting = vec![Open {

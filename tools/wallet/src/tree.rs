@@ -92,12 +92,12 @@ fn rejection(wallet: &Wallet, words: &Words, position: u64) -> Option<String> {
     let name = wallet.names.constraint(automaton);
     (rejected > 0).then(|| {
         let all = counted(words.words.len(), "word");
-        format!("the constraint {name} rejects {rejected} of {all}")
+        format!("constraint {name} rejects {rejected} of {all}")
     })
 }
 
 /// So many of something: `1 word`, `2 words`.
-fn counted(count: usize, one: &str) -> String {
+pub(crate) fn counted(count: usize, one: &str) -> String {
     let plural = if count == 1 { "" } else { "s" };
     format!("{count} {one}{plural}")
 }
