@@ -22,6 +22,7 @@ pub mod svg;
 pub mod table;
 pub mod tokens;
 pub mod tree;
+pub mod words;
 
 use names::Names;
 use table::Table;
