@@ -95,11 +95,20 @@ fn explain_refusal(wallet: &Wallet, query: Query, refusal: Refusal) -> String {
     let said = match number {
         9 => format!("no set of credentials proves {}", asked(wallet, query)),
         10 => format!("more than 4096 minimal sets prove {}", asked(wallet, query)),
-        _ => refusal.to_string(),
+        _ => said(refusal),
     };
     let line = line(wallet, refusal).map(|line| format!(" (line {line})"));
     let line = line.unwrap_or_default();
     format!("refused {number} {position}: {said}{line}\n")
+}
+
+/// A refusal of the listing program in words. It has the table from its input,
+/// so the table is too short when the input is.
+pub fn said(refusal: Refusal) -> String {
+    match refusal.number {
+        1 => "the input has fewer than 16 bytes, or an odd number of them".to_string(),
+        _ => refusal.to_string(),
+    }
 }
 
 /// The line of the record or the query that a refusal's position means.
