@@ -152,3 +152,14 @@ fn an_empty_text_is_an_empty_wallet() {
         assert_eq!(wallet.table.numbers(), [0, 0, 0, 0]);
     }
 }
+
+#[test]
+fn the_document_shows_the_example() {
+    let document = include_str!("../../../docs/WALLET.md");
+    let indented = |line: &str| match line {
+        "" => "\n".to_string(),
+        line => format!("    {line}\n"),
+    };
+    let example: String = bare(CONSTRAINED).lines().map(indented).collect();
+    assert!(document.contains(&example), "{example}");
+}

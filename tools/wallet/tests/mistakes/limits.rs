@@ -97,19 +97,19 @@ fn more_states_than_fit() {
     assert_limit(
         15,
         edge,
-        "line 18, column 16: `s16` would be the 17th state of `c`; write at most 16",
+        "line 18, column 16: `s16` would be the 17th state of its constraint; write at most 16",
     );
     let numbers = "constraint c\nstart 0 1 2 3 4 5 6 7 8 9 10 11 12 13 14 15\n";
     assert!(parse(numbers.as_bytes()).is_ok());
     assert_eq!(
         told(&format!("{numbers}accept last")),
-        "line 3, column 8: `last` would be the 17th state of `c`; write at most 16"
+        "line 3, column 8: `last` would be the 17th state of its constraint; write at most 16"
     );
     // Words take the numbers that are not named, so a number may be the 17th.
     let words = "constraint c\nstart a b c d e f g h i j k l m n o p\n";
     assert!(parse(words.as_bytes()).is_ok());
     assert_eq!(
         told(&format!("{words}\naccept 15")),
-        "line 4, column 8: `15` would be the 17th state of `c`; write at most 16"
+        "line 4, column 8: `15` would be the 17th state of its constraint; write at most 16"
     );
 }
