@@ -112,3 +112,124 @@ fn refused(wallet: &Wallet, line: &str) -> Result<Refusal, String> {
 fn not_printed(why: &str) -> String {
     format!("this is not what the listing program prints for this wallet: {why}")
 }
+
+#[cfg(test)]
+mod tests {
+    use super::{printed, Answer};
+    use crate::parse::parse;
+    use crate::Wallet;
+    use bwlchareg::Refusal;
+
+    /// Three credentials, two part cells, an edge.
+    fn wallet() -> Wallet {
+        let text = "A.r <- B\nA.r <- A.s & A.t\nA.s <- B\nconstraint c\n0 -- any --> 0\n";
+        parse(text.as_bytes()).expect("a wallet")
+    }
+
+    #[test]
+    fn what_the_program_prints_is_read() {
+        let sets = |sets: &[u32]| Ok(Answer::Sets(sets.to_vec()));
+        assert_eq!(printed(&wallet(), "1\n6\nsets 2\n"), sets(&[1, 6]));
+        assert_eq!(printed(&wallet(), "7\r\nsets 1"), sets(&[7]));
+        let all = [
+            (1, 0),
+            (3, 0),
+            (4, 3),
+            (5, 2),
+            (6, 2),
+            (7, 1),
+            (8, 4),
+            (9, 0),
+            (10, 0),
+        ];
+        for (number, position) in all {
+            let answer = printed(&wallet(), &format!("refused {number} {position}\n"));
+            assert_eq!(answer, Ok(Answer::Refused(Refusal { number, position })));
+        }
+    }
+
+    #[test]
+    fn anything_else_is_told() {
+        let all = [
+            ("", "it is empty"),
+            (
+                "\n",
+                "the last line is ``, not `sets` or `refused` with numbers",
+            ),
+            (
+                "1\n",
+                "the last line is `1`, not `sets` or `refused` with numbers",
+            ),
+            (
+                "1\nsets\n",
+                "the last line is `sets`, not `sets` or `refused` with numbers",
+            ),
+            (
+                "1\nsets +1\n",
+                "the last line is `sets +1`, not `sets` or `refused` with numbers",
+            ),
+            ("1\nsets 2\n", "it counts 2 sets and has 1"),
+            ("sets 0\n", "it counts 0 sets and has 0"),
+            ("x\nsets 1\n", "line 1 is `x`, not a number"),
+            ("1\n\nsets 2\n", "line 2 is ``, not a number"),
+            (
+                "1\n8\nsets 2\n",
+                "line 2 is `8`, not a set of the wallet's credentials",
+            ),
+            (
+                "0\nsets 1\n",
+                "line 1 is `0`, not a set of the wallet's credentials",
+            ),
+            (
+                "4294967297\nsets 1\n",
+                "line 1 is `4294967297`, not a set of the wallet's credentials",
+            ),
+            (
+                "6\n1\nsets 2\n",
+                "line 2 is `1`, not more than the line before",
+            ),
+            (
+                "1\n1\nsets 2\n",
+                "line 2 is `1`, not more than the line before",
+            ),
+            ("1\nrefused 9 0\n", "a refusal stands alone"),
+            ("refused 9\n", "`9` is not two numbers"),
+            ("refused 9 0 0\n", "`9 0 0` is not two numbers"),
+            ("refused x 0\n", "`x 0` is not two numbers"),
+            ("refused 0 0\n", "listing has no refusal 0"),
+            ("refused 11 1\n", "listing has no refusal 11"),
+            (
+                "refused 4294967305 0\n",
+                "listing has no refusal 4294967305",
+            ),
+            (
+                "refused 4 0\n",
+                "for this wallet refusal 4 has no position 0",
+            ),
+            (
+                "refused 4 4\n",
+                "for this wallet refusal 4 has no position 4",
+            ),
+            (
+                "refused 5 3\n",
+                "for this wallet refusal 5 has no position 3",
+            ),
+            (
+                "refused 7 2\n",
+                "for this wallet refusal 7 has no position 2",
+            ),
+            (
+                "refused 8 5\n",
+                "for this wallet refusal 8 has no position 5",
+            ),
+            (
+                "refused 9 1\n",
+                "for this wallet refusal 9 has no position 1",
+            ),
+        ];
+        for (output, why) in all {
+            let told = "this is not what the listing program prints for this wallet";
+            assert_eq!(printed(&wallet(), output), Err(format!("{told}: {why}")));
+        }
+    }
+}

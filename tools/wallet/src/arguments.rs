@@ -159,3 +159,63 @@ fn alone(source: Source, other: &str) -> Result<Source, String> {
         file => Ok(file),
     }
 }
+
+#[cfg(test)]
+mod tests {
+    use super::{read, Arguments, Command, Source};
+    use std::path::PathBuf;
+
+    fn asked(line: &str) -> Result<Arguments, String> {
+        read(line.split_whitespace().map(Into::into))
+    }
+
+    fn command(line: &str) -> Result<Command, String> {
+        asked(line).map(|arguments| arguments.command)
+    }
+
+    fn file(name: &str) -> Source {
+        Source::File(PathBuf::from(name))
+    }
+
+    #[test]
+    fn commands_are_read() {
+        assert_eq!(command("encode w"), Ok(Command::Encode(file("w"))));
+        assert_eq!(command("list -"), Ok(Command::List(Source::Standard)));
+        assert_eq!(command("explain w"), Ok(Command::Explain(file("w"))));
+        assert_eq!(command("decode"), Ok(Command::Decode(None)));
+        let named = Ok(Command::Decode(Some(file("w"))));
+        assert_eq!(command("decode --names w"), named);
+        let verify = Ok(Command::Verify(Source::Standard, vec![1, 2]));
+        assert_eq!(command("verify - 1 2"), verify);
+        assert_eq!(command("draw w"), Ok(Command::Draw(file("w"), vec![])));
+        assert_eq!(command("help"), Ok(Command::Help));
+    }
+
+    #[test]
+    fn a_file_for_the_output_stands_anywhere_behind_the_command() {
+        for line in ["verify -o f w 1", "verify w -o f 1", "verify w 1 -o f"] {
+            let arguments = asked(line).expect("a right call");
+            assert_eq!(arguments.output, Some(PathBuf::from("f")), "{line}");
+            let verify = Command::Verify(file("w"), vec![1]);
+            assert_eq!(arguments.command, verify, "{line}");
+        }
+    }
+
+    #[test]
+    fn wrong_calls_are_told() {
+        let told = |line: &str| asked(line).expect_err("a wrong call");
+        assert_eq!(told(""), "a command is missing");
+        assert_eq!(told("-o f list w"), "unknown command `-o`");
+        assert_eq!(told("list"), "the wallet's file is missing");
+        assert_eq!(told("list -x"), "unknown option `-x`");
+        assert_eq!(told("list w v"), "`v` is too much");
+        assert_eq!(told("list w -o"), "the file behind `-o` is missing");
+        assert_eq!(told("list w -o f -o f"), "`-o` stands twice");
+        assert_eq!(told("list w --names v"), "`--names` belongs to `decode`");
+        assert_eq!(told("decode w"), "`w` is too much");
+        let standard = "standard input is for OUTPUT: name the wallet's file";
+        assert_eq!(told("explain -"), standard);
+        let standard = "standard input is for INPUT: name the wallet's file";
+        assert_eq!(told("decode --names -"), standard);
+    }
+}

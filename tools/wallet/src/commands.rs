@@ -7,7 +7,7 @@ use std::io::{self, Read};
 use bwlchareg::Query;
 use wallet::answer::{listed, printed, Answer};
 use wallet::derivation::judge;
-use wallet::explain::explain;
+use wallet::explain::{explain, said};
 use wallet::parse::parse;
 use wallet::print::print;
 use wallet::table::Table;
@@ -102,7 +102,7 @@ fn decode(names: Option<&Source>) -> Result<Written, Failure> {
         .map_err(|error| wrong(&Source::Standard, error))?;
     let refused = |refusal: bwlchareg::Refusal| {
         let bwlchareg::Refusal { number, position } = refusal;
-        Failure::Refused(format!("refused {number} {position}: {refusal}"))
+        Failure::Refused(format!("refused {number} {position}: {}", said(refusal)))
     };
     let (query, numbers) = program::read(&input).map_err(refused)?;
     bwlchareg::check_query(&numbers, query).map_err(refused)?;

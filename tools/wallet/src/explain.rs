@@ -95,11 +95,20 @@ fn explain_refusal(wallet: &Wallet, query: Query, refusal: Refusal) -> String {
     let said = match number {
         9 => format!("no set of credentials proves {}", asked(wallet, query)),
         10 => format!("more than 4096 minimal sets prove {}", asked(wallet, query)),
-        _ => refusal.to_string(),
+        _ => said(refusal),
     };
     let line = line(wallet, refusal).map(|line| format!(" (line {line})"));
     let line = line.unwrap_or_default();
     format!("refused {number} {position}: {said}{line}\n")
+}
+
+/// A refusal of the listing program in words. It has the table from its input,
+/// so the table is too short when the input is.
+pub fn said(refusal: Refusal) -> String {
+    match refusal.number {
+        1 => "the input has fewer than 16 bytes, or an odd number of them".to_string(),
+        _ => refusal.to_string(),
+    }
 }
 
 /// The line of the record or the query that a refusal's position means.
@@ -116,5 +125,74 @@ pub fn line(wallet: &Wallet, refusal: Refusal) -> Option<usize> {
         8 => lines.query,
         14 => of(&lines.automata),
         _ => None,
+    }
+}
+
+#[cfg(test)]
+mod tests {
+    use super::explain;
+    use crate::answer::Answer;
+    use crate::parse::parse;
+    use bwlchareg::Refusal;
+
+    const TEXT: &str = "A.r <- A.s & A.t under c\n\nA.s <- B\nA.s <- B\nA.t <- Alexander\n\
+        constraint c\n  start 0\n\n  0 -- any --> 0\nB in A.r within 2\n";
+
+    fn said(answer: Answer) -> String {
+        let wallet = parse(TEXT.as_bytes()).expect("a wallet");
+        explain(&wallet, wallet.query.expect("a query"), &answer)
+    }
+
+    #[test]
+    fn sets_are_said_by_their_credentials() {
+        let expected = "\
+2 minimal sets prove B in A.r within 2
+
+set 1
+   1  A.r <- A.s & A.t under c  line 1
+  shows nobody
+
+set 14
+   2  A.s <- B          line 3
+   3  A.s <- B          line 4
+   4  A.t <- Alexander  line 5
+  shows B in A.s, Alexander in A.t
+";
+        assert_eq!(said(Answer::Sets(vec![1, 14])), expected);
+    }
+
+    #[test]
+    fn refusals_are_said_with_their_lines() {
+        let all = [
+            (
+                1,
+                0,
+                "the input has fewer than 16 bytes, or an odd number of them",
+            ),
+            (2, 0, "a count in the table's head is over its limit"),
+            (3, 0, "the table's length is not what its head says"),
+            (
+                4,
+                2,
+                "credential 2 has a field outside what its kind allows (line 3)",
+            ),
+            (5, 2, "part cell 2 has a field out of range (line 1)"),
+            (
+                6,
+                1,
+                "the chain of credential 1 does not have 2 to 4 cells (line 1)",
+            ),
+            (7, 1, "edge 1 has a field out of range (line 9)"),
+            (8, 3, "the query's name is out of range (line 10)"),
+            (9, 0, "no set of credentials proves B in A.r within 2"),
+            (10, 0, "more than 4096 minimal sets prove B in A.r within 2"),
+        ];
+        for (number, position, words) in all {
+            let answer = Answer::Refused(Refusal { number, position });
+            assert_eq!(
+                said(answer),
+                format!("refused {number} {position}: {words}\n")
+            );
+        }
     }
 }

@@ -50,12 +50,40 @@ impl Error for Mistake {}
 /// The most characters of a word that a message repeats.
 const SHOWN: usize = 40;
 
-/// A piece of the text in backquotes, as a message repeats it: shortened if it
-/// is long.
+/// A piece of text in backquotes, as a message repeats it: shortened if it is
+/// long, and without characters that a terminal would obey.
 pub fn quoted(text: &str) -> String {
-    if text.chars().count() <= SHOWN {
-        return format!("`{text}`");
+    let visible = |character: char| match character {
+        _ if character.is_control() => char::REPLACEMENT_CHARACTER,
+        _ => character,
+    };
+    let beginning: String = text.chars().take(SHOWN).map(visible).collect();
+    let more = if text.chars().nth(SHOWN).is_some() {
+        "..."
+    } else {
+        ""
+    };
+    format!("`{beginning}{more}`")
+}
+
+#[cfg(test)]
+mod tests {
+    use super::{quoted, Place};
+
+    #[test]
+    fn a_mistake_says_where_and_what() {
+        let place = Place { line: 3, column: 7 };
+        let mistake = place.mistake("`x` is wrong", "write `y`");
+        let said = "line 3, column 7: `x` is wrong; write `y`";
+        assert_eq!(mistake.to_string(), said);
     }
-    let beginning: String = text.chars().take(SHOWN).collect();
-    format!("`{beginning}...`")
+
+    #[test]
+    fn long_and_invisible_pieces_are_shown_shortly() {
+        assert_eq!(quoted("student"), "`student`");
+        assert_eq!(quoted("\u{1b}[2J"), "`\u{FFFD}[2J`");
+        let forty = "a".repeat(40);
+        assert_eq!(quoted(&forty), format!("`{forty}`"));
+        assert_eq!(quoted(&"a".repeat(41)), format!("`{forty}...`"));
+    }
 }

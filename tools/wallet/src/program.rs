@@ -39,3 +39,43 @@ pub fn read(input: &[u8]) -> Result<(Query, Vec<u16>), Refusal> {
     };
     Ok((query, table.to_vec()))
 }
+
+#[cfg(test)]
+mod tests {
+    use super::{input, read, MOST_BYTES};
+    use bwlchareg::{Query, Refusal};
+
+    const QUERY: Query = Query {
+        principal: 4,
+        owner: 1,
+        name: 0x102,
+        depth: 2,
+    };
+
+    #[test]
+    fn the_low_byte_comes_first() {
+        let bytes = [4, 0, 1, 0, 2, 1, 2, 0, 255, 255];
+        assert_eq!(input(QUERY, &[65535]), bytes);
+        assert_eq!(read(&bytes), Ok((QUERY, vec![65535])));
+    }
+
+    #[test]
+    fn odd_and_short_inputs_are_refused() {
+        let refusal = Refusal {
+            number: 1,
+            position: 0,
+        };
+        let bytes = input(QUERY, &[1, 2]);
+        for length in [0, 1, 2, 6, 7, 9, 11] {
+            assert_eq!(read(&bytes[..length]), Err(refusal), "{length}");
+        }
+        assert_eq!(read(&bytes[..8]), Ok((QUERY, vec![])));
+    }
+
+    #[test]
+    fn later_bytes_do_not_count() {
+        let bytes = input(QUERY, &[7; MOST_BYTES]);
+        let (query, table) = read(&bytes[..MOST_BYTES + 1]).expect("an even count");
+        assert_eq!((query, table.len()), (QUERY, MOST_BYTES / 2 - 4));
+    }
+}

@@ -40,3 +40,54 @@ fn number(word: &str, place: usize) -> Result<u16, String> {
         format!("number {place} of the record is {word}; write a number from 0 to 65535")
     })
 }
+
+#[cfg(test)]
+mod tests {
+    use super::{decimal, record};
+
+    #[test]
+    fn only_digits_are_a_number() {
+        assert_eq!(decimal("0"), Some(0));
+        assert_eq!(decimal("007"), Some(7));
+        for text in [
+            "",
+            "+7",
+            "-7",
+            " 7",
+            "7 ",
+            "0x7",
+            "\u{667}",
+            "99999999999999999999",
+        ] {
+            assert_eq!(decimal(text), None, "{text}");
+        }
+    }
+
+    #[test]
+    fn a_record_in_one_word_or_in_many() {
+        let expected = Ok(vec![1, 2, 65535]);
+        assert_eq!(record(["1", "2", "65535"]), expected);
+        assert_eq!(record(["1 2\t65535"]), expected);
+        assert_eq!(record(["1,2,65535"]), expected);
+        assert_eq!(record(["1,", "2", ", 65535"]), expected);
+        assert_eq!(record([]), Ok(vec![]));
+        assert_eq!(record(["", " "]), Ok(vec![]));
+    }
+
+    #[test]
+    fn what_is_no_number_is_told() {
+        let told = "number 2 of the record is `65536`; write a number from 0 to 65535";
+        assert_eq!(record(["1", "65536"]), Err(told.to_string()));
+        let told = "number 1 of the record is `-1`; write a number from 0 to 65535";
+        assert_eq!(record(["-1"]), Err(told.to_string()));
+        for words in [
+            ["1,", ",2"],
+            ["1,", ""],
+            [",", "1"],
+            [",", ","],
+            ["1;", "2"],
+        ] {
+            assert!(record(words).is_err(), "{words:?}");
+        }
+    }
+}

@@ -196,3 +196,43 @@ fn unknown(first: char, next: Option<char>) -> Wrong {
         }
     }
 }
+
+#[cfg(test)]
+mod tests {
+    use super::{is_name, tokens, KEPT};
+
+    /// The signs of a line with their columns, as `3:word`.
+    fn read(text: &str) -> Vec<String> {
+        let tokens = tokens(1, text).expect("no mistake");
+        let said = tokens.iter();
+        said.map(|token| format!("{}:{}", token.column, token.sign.text()))
+            .collect()
+    }
+
+    #[test]
+    fn signs_and_their_columns() {
+        let expected = ["1:A", "2:.", "3:r", "5:<-", "8:B_1-c"];
+        assert_eq!(read("A.r <- B_1-c # C"), expected);
+        let expected = [
+            "2:0", "3:--", "5:not", "9:A", "10:.", "11:r", "12:-->", "15:s",
+        ];
+        assert_eq!(read("\t0--not A.r-->s"), expected);
+        assert_eq!(read("\u{e9}\u{e9}.r"), ["1:\u{e9}\u{e9}", "3:.", "4:r"]);
+        assert_eq!(read("a--b"), ["1:a", "2:--", "4:b"]);
+        assert!(read("").is_empty());
+        assert!(read(" \t # A.r").is_empty());
+    }
+
+    #[test]
+    fn names_are_whole_words_that_are_not_kept() {
+        for name in ["A", "a1", "not-for", "x_", "x__y", "\u{e9}t\u{e9}"] {
+            assert!(is_name(name), "{name}");
+        }
+        for other in [
+            "", "1a", "_a", "a-", "-a", "a--b", "a b", "a.b", "a#", "a\n",
+        ] {
+            assert!(!is_name(other), "{other}");
+        }
+        assert!(KEPT.iter().all(|word| !is_name(word)));
+    }
+}

@@ -3,31 +3,30 @@
 
 use std::collections::BTreeMap;
 
-use crate::limits::{AUTOMATA, EDGES, STATES};
+use crate::limits::{AUTOMATA, EDGES};
 use crate::mistake::{quoted, Mistake, Place};
 use crate::parse::reader::Word;
 use crate::parse::statement::StateWord;
+use crate::parse::states::States;
 use crate::table::{Automaton, Edge, Label};
 
-/// The constraints so far. A state is known by its rank until the text has
-/// been read to its end: how many states of its constraint first stand before
-/// it.
+/// The constraints so far. States are known by their ranks.
 #[derive(Clone, Debug, Default)]
 pub struct Constraints {
     all: Vec<Constraint>,
-    /// The edges, their states by rank, and their lines.
+    /// The edges and their lines.
     pub edges: Vec<(Edge, usize)>,
     /// What the next line is about, if it is a constraint's.
     open: Option<Open>,
 }
 
-/// A constraint so far, the states of its sets by rank.
+/// A constraint so far.
 #[derive(Clone, Debug)]
 struct Constraint {
     name: Word,
     start: Option<Set>,
     accept: Option<Set>,
-    states: Vec<State>,
+    states: States,
 }
 
 /// A set of states, and the line on which it stands.
@@ -35,13 +34,6 @@ struct Constraint {
 struct Set {
     states: u16,
     line: usize,
-}
-
-/// A state as it is named.
-#[derive(Clone, Debug, PartialEq, Eq)]
-enum State {
-    Number(u16),
-    Word(String),
 }
 
 /// The constraint that lines are about, by index.
@@ -59,15 +51,6 @@ pub enum Which {
     Start,
     /// The accepting states.
     Accept,
-}
-
-impl Which {
-    fn word(self) -> &'static str {
-        match self {
-            Which::Start => "`start`",
-            Which::Accept => "`accept`",
-        }
-    }
 }
 
 impl Constraints {
@@ -99,7 +82,7 @@ impl Constraints {
             name: name.clone(),
             start: None,
             accept: None,
-            states: Vec::new(),
+            states: States::default(),
         });
         self.open = Some(Open { index, head: true });
         Ok(())
@@ -119,16 +102,19 @@ impl Constraints {
 
     /// `start ...` or `accept ...`
     pub fn set(&mut self, which: Which, states: &[StateWord], place: Place) -> Result<(), Mistake> {
-        let word = which.word();
+        let word = match which {
+            Which::Start => "`start`",
+            Which::Accept => "`accept`",
+        };
         let open = self.open.ok_or_else(|| outside(place, word))?;
         let constraint = &mut self.all[open.index];
-        let slot = match which {
-            Which::Start => constraint.start,
-            Which::Accept => constraint.accept,
+        let own = match which {
+            Which::Start => &mut constraint.start,
+            Which::Accept => &mut constraint.accept,
         };
-        if let Some(first) = slot {
+        if let Some(Set { line, .. }) = own {
             return Err(place.mistake(
-                format_args!("{word} stands on line {} already", first.line),
+                format_args!("{word} stands on line {line} already"),
                 "write all its states there",
             ));
         }
@@ -138,11 +124,10 @@ impl Constraints {
                 "write it right below `constraint`, above the edges",
             ));
         }
-        let set = constraint.set(states, place.line)?;
-        match which {
-            Which::Start => constraint.start = Some(set),
-            Which::Accept => constraint.accept = Some(set),
-        }
+        *own = Some(Set {
+            states: constraint.states.set(states)?,
+            line: place.line,
+        });
         Ok(())
     }
 
@@ -162,14 +147,12 @@ impl Constraints {
             head: false,
             ..open
         });
-        let constraint = &mut self.all[open.index];
-        let from = constraint.rank(from)?;
-        let to = constraint.rank(to)?;
+        let states = &mut self.all[open.index].states;
         let edge = Edge {
             automaton: open.index as u16 + 1,
-            from,
+            from: states.rank(from)?,
             label,
-            to,
+            to: states.rank(to)?,
         };
         self.edges.push((edge, place.line));
         Ok(())
@@ -183,14 +166,10 @@ impl Constraints {
     /// The automata, with the numbers of their states.
     pub fn automata(&self) -> Vec<Automaton> {
         let automaton = |constraint: &Constraint| {
-            let numbers = constraint.numbers();
-            let set = |set: Option<Set>| match set {
-                None => 0,
-                Some(Set { states, .. }) => moved(states, &numbers),
-            };
+            let numbered = |set: Set| constraint.states.numbered(set.states);
             Automaton {
-                start: set(constraint.start),
-                accept: set(constraint.accept),
+                start: constraint.start.map_or(0, numbered),
+                accept: constraint.accept.map_or(0, numbered),
             }
         };
         self.all.iter().map(automaton).collect()
@@ -198,7 +177,7 @@ impl Constraints {
 
     /// The number of each state of an automaton, in the order of the ranks.
     pub fn states(&self, automaton: u16) -> Vec<u16> {
-        self.all[usize::from(automaton) - 1].numbers()
+        self.all[usize::from(automaton) - 1].states.numbers()
     }
 
     /// The line of each constraint.
@@ -209,10 +188,7 @@ impl Constraints {
 
     /// The constraints' names, by number.
     pub fn names(&self) -> BTreeMap<u16, String> {
-        let names = self
-            .all
-            .iter()
-            .map(|constraint| constraint.name.text.clone());
+        let names = self.all.iter().map(|own| own.name.text.clone());
         (1..).zip(names).collect()
     }
 
@@ -220,11 +196,8 @@ impl Constraints {
     pub fn state_names(&self) -> BTreeMap<(u16, u16), String> {
         let mut names = BTreeMap::new();
         for (automaton, constraint) in (1..).zip(&self.all) {
-            for (state, number) in constraint.states.iter().zip(constraint.numbers()) {
-                if let State::Word(word) = state {
-                    names.insert((automaton, number), word.clone());
-                }
-            }
+            let words = constraint.states.words().into_iter();
+            names.extend(words.map(|(number, word)| ((automaton, number), word)));
         }
         names
     }
@@ -233,83 +206,6 @@ impl Constraints {
         let same = |constraint: &Constraint| constraint.name.text == name.text;
         self.all.iter().position(same)
     }
-}
-
-impl Constraint {
-    /// The rank of a state.
-    fn rank(&mut self, word: &StateWord) -> Result<u16, Mistake> {
-        let (state, place) = match word {
-            StateWord::Number(number) => (State::Number(number.value), number.place),
-            StateWord::Word(word) => (State::Word(word.text.clone()), word.place),
-        };
-        if let Some(rank) = self.states.iter().position(|known| *known == state) {
-            return Ok(rank as u16);
-        }
-        if self.states.len() == usize::from(STATES) {
-            return Err(place.mistake(
-                format_args!(
-                    "{} would be the 17th state of {}",
-                    quoted(&word.text()),
-                    quoted(&self.name.text)
-                ),
-                "write at most 16",
-            ));
-        }
-        self.states.push(state);
-        Ok(self.states.len() as u16 - 1)
-    }
-
-    /// The set of some states, each of which stands there once.
-    fn set(&mut self, words: &[StateWord], line: usize) -> Result<Set, Mistake> {
-        let mut states = 0;
-        for word in words {
-            let bit = 1 << self.rank(word)?;
-            if states & bit != 0 {
-                return Err(word.place().mistake(
-                    format_args!("state {} stands on this line twice", quoted(&word.text())),
-                    "leave one of them out",
-                ));
-            }
-            states |= bit;
-        }
-        Ok(Set { states, line })
-    }
-
-    /// The number of each state, in the order of the ranks: a word has the
-    /// least that is not named as a number and is free.
-    fn numbers(&self) -> Vec<u16> {
-        let named = |number: u16| self.states.contains(&State::Number(number));
-        let mut free = (0..STATES).filter(|&number| !named(number));
-        let number = |state: &State| match state {
-            State::Number(number) => *number,
-            // There are as many numbers as states at most.
-            State::Word(_) => free.next().unwrap_or(STATES - 1),
-        };
-        self.states.iter().map(number).collect()
-    }
-}
-
-impl StateWord {
-    fn place(&self) -> Place {
-        match self {
-            StateWord::Number(number) => number.place,
-            StateWord::Word(word) => word.place,
-        }
-    }
-
-    fn text(&self) -> String {
-        match self {
-            StateWord::Number(number) => number.value.to_string(),
-            StateWord::Word(word) => word.text.clone(),
-        }
-    }
-}
-
-/// A set of ranks as a set of numbers.
-fn moved(ranks: u16, numbers: &[u16]) -> u16 {
-    let within = |rank: &usize| ranks & (1 << rank) != 0;
-    let ranks = (0..numbers.len()).filter(within);
-    ranks.fold(0, |set, rank| set | 1 << numbers[rank])
 }
 
 /// A line that belongs to a constraint, outside of any.

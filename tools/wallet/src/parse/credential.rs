@@ -3,8 +3,9 @@
 
 use crate::limits::{CELLS, PARTS};
 use crate::mistake::{quoted, Mistake};
+use crate::parse::line::role;
 use crate::parse::reader::{Number, Reader};
-use crate::parse::statement::{role, BodyWords, RoleWords, Statement};
+use crate::parse::statement::{BodyWords, RoleWords, Statement};
 use crate::tokens::Sign;
 
 /// Reads the line.

@@ -61,6 +61,7 @@ fn given_cells(drafts: &[CellDraft]) -> Result<Vec<Cell>, Mistake> {
                     last if last == usize::from(own) => {
                         "leave `then` out, or write another `cell` line".to_string()
                     }
+                    last if last == usize::from(own) + 1 => format!("write {last}"),
                     last => format!("write a number from {} to {last}", own + 1),
                 };
                 let wrong =

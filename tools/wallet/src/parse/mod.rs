@@ -1,16 +1,18 @@
 //! From a wallet's text to the wallet, or to the first mistake of the text.
 //!
-//! Each line is read by itself first (`statement`, `credential`), then added
-//! to what the lines above say (`draft`, `constraints`, `numbering`). What may
+//! Each line is read by itself first (`line`, `credential`), then added to what
+//! the lines above say (`draft`, `constraints`, `states`, `numbering`). What may
 //! stand further below, and the numbers, are found at the end (`finish`).
 
 mod constraints;
 mod credential;
 mod draft;
 mod finish;
+mod line;
 mod numbering;
 mod reader;
 mod statement;
+mod states;
 
 use crate::mistake::{Mistake, Place};
 use crate::tokens::tokens;
@@ -27,7 +29,7 @@ pub fn parse(text: &[u8]) -> Result<Wallet, Mistake> {
             continue;
         };
         let column = first.column;
-        let statement = statement::statement(line, &tokens)?;
+        let statement = line::statement(line, &tokens)?;
         draft.add(&statement, Place { line, column })?;
     }
     finish::finish(&draft)

@@ -66,7 +66,7 @@ impl Vocabulary {
                     sort.one(),
                     known.one()
                 ),
-                format_args!("write another word for one of them"),
+                "write another word for one of them",
             ));
         }
         let entries = self.entries_mut(sort);
