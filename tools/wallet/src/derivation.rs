@@ -211,8 +211,8 @@ struct Open {
 /// Reads the nodes of a record up to the first that is at fault, for a table
 /// and a query that are accepted.
 ///
-/// Goals that wait for their nodes stand on a stack, the next one on top; a branch has at
-/// most 16 levels, and each leaves at most three goals waiting.
+/// Goals that wait for their nodes stand on a stack, the next one on top. A
+/// branch has at most 16 levels, and each leaves at most three goals waiting.
 pub fn read(table: &Table, query: Query, record: &[u16]) -> (Vec<Node>, Option<Fault>) {
     let mut nodes: Vec<Node> = Vec::new();
     let mut rest = record.iter().copied();
