@@ -160,11 +160,9 @@ impl Judged {
                 "credential {credential} names another principal, {}",
                 names.principal(principal)
             ),
-            Why::MiddleOutOfRange(middle) => {
-                format!(
-                    "the middle of credential {credential} must be 1 to {HIGHEST}, not {middle}"
-                )
-            }
+            Why::MiddleOutOfRange(middle) => format!(
+                "the middle of credential {credential} must be 1 to {HIGHEST}, not {middle}"
+            ),
             Why::MiddleNotZero(middle) => {
                 format!("the middle of credential {credential} must be 0, not {middle}")
             }

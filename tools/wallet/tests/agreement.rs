@@ -408,22 +408,25 @@ fn any_role(random: &mut Random) -> Role {
     }
 }
 
+fn any_body(random: &mut Random) -> Body {
+    match random.below(4) {
+        0 => Body::Member(number(random, 64)),
+        1 => Body::Contained(any_role(random)),
+        2 => Body::Linked {
+            first: number(random, 64),
+            second: number(random, 64),
+        },
+        _ => Body::Parts(number(random, 3)),
+    }
+}
+
 /// A table of any records. Most are refused.
 fn any_table(random: &mut Random) -> Table {
     let mut table = Table::default();
     for _ in 0..random.below(6) {
-        let body = match random.below(4) {
-            0 => Body::Member(number(random, 64)),
-            1 => Body::Contained(any_role(random)),
-            2 => Body::Linked {
-                first: number(random, 64),
-                second: number(random, 64),
-            },
-            _ => Body::Parts(number(random, 3)),
-        };
         table.credentials.push(Credential {
             role: any_role(random),
-            body,
+            body: any_body(random),
             automaton: *random.pick(&[0, 0, 1, 2]),
         });
     }
