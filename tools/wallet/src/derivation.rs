@@ -160,11 +160,9 @@ impl Judged {
                 "credential {credential} names another principal, {}",
                 names.principal(principal)
             ),
-            Why::MiddleOutOfRange(middle) => {
-                format!(
-                    "the middle of credential {credential} must be 1 to {HIGHEST}, not {middle}"
-                )
-            }
+            Why::MiddleOutOfRange(middle) => format!(
+                "the middle of credential {credential} must be 1 to {HIGHEST}, not {middle}"
+            ),
             Why::MiddleNotZero(middle) => {
                 format!("the middle of credential {credential} must be 0, not {middle}")
             }
@@ -211,8 +209,8 @@ struct Open {
 /// Reads the nodes of a record up to the first that is at fault, for a table
 /// and a query that are accepted.
 ///
-/// Goals that wait for their nodes stand on a stack, the next one on top; a branch has at
-/// most 16 levels, and each leaves at most three goals waiting.
+/// Goals that wait for their nodes stand on a stack, the next one on top. A
+/// branch has at most 16 levels, and each leaves at most three goals waiting.
 pub fn read(table: &Table, query: Query, record: &[u16]) -> (Vec<Node>, Option<Fault>) {
     let mut nodes: Vec<Node> = Vec::new();
     let mut rest = record.iter().copied();

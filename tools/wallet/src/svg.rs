@@ -159,7 +159,9 @@ impl Drawing {
         let foot = top + box_height(&self.sheets[index]);
         let bar = self.rows[index].1 + BAR;
         marks.stroke((middle, foot), (middle, bar));
-        marks.stroke((self.place(first).0, bar), (self.place(last).0, bar));
+        if first != last {
+            marks.stroke((self.place(first).0, bar), (self.place(last).0, bar));
+        }
         for &child in children {
             let (x, top) = self.place(child);
             marks.stroke((x, bar), (x, top));

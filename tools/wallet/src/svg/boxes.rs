@@ -152,8 +152,9 @@ fn pieces(line: &str) -> Vec<String> {
 }
 
 /// How many columns a text takes in a fixed-width font. Scripts whose letters
-/// take two begin at U+1100.
+/// take two begin at U+1100, and the sign that stands for a control may take
+/// two as well.
 pub fn columns(text: &str) -> usize {
-    let wide = |letter: char| if letter < '\u{1100}' { 1 } else { 2 };
-    text.chars().map(wide).sum()
+    let wide = |letter: &char| *letter >= '\u{1100}' || letter.is_control();
+    text.chars().count() + text.chars().filter(wide).count()
 }

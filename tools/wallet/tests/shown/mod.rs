@@ -1,5 +1,8 @@
 //! Wallets whose records the tests show.
 
+pub mod claims;
+pub mod xml;
+
 use bwlchareg::Query;
 use wallet::names::Names;
 use wallet::table::{Automaton, Body, Cell, Credential, Edge, Label, Role, Table};
