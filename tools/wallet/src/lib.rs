@@ -8,8 +8,21 @@
 #![forbid(unsafe_code)]
 #![warn(missing_docs)]
 
+pub mod answer;
+pub mod derivation;
+pub mod explain;
+pub mod limits;
+pub mod mistake;
 pub mod names;
+pub mod parse;
+pub mod print;
+pub mod program;
+pub mod record;
+pub mod svg;
 pub mod table;
+pub mod tokens;
+pub mod tree;
+pub mod words;
 
 use names::Names;
 use table::Table;

@@ -1,0 +1,217 @@
+//! The constraints of a text: which lines are about which automaton, its
+//! states, and its edges.
+
+use std::collections::BTreeMap;
+
+use crate::limits::{AUTOMATA, EDGES};
+use crate::mistake::{quoted, Mistake, Place};
+use crate::parse::reader::Word;
+use crate::parse::statement::StateWord;
+use crate::parse::states::States;
+use crate::table::{Automaton, Edge, Label};
+
+/// The constraints so far. States are known by their ranks.
+#[derive(Clone, Debug, Default)]
+pub struct Constraints {
+    all: Vec<Constraint>,
+    /// The edges and their lines.
+    pub edges: Vec<(Edge, usize)>,
+    /// What the next line is about, if it is a constraint's.
+    open: Option<Open>,
+}
+
+/// A constraint so far.
+#[derive(Clone, Debug)]
+struct Constraint {
+    name: Word,
+    start: Option<Set>,
+    accept: Option<Set>,
+    states: States,
+}
+
+/// A set of states, and the line on which it stands.
+#[derive(Clone, Copy, Debug)]
+struct Set {
+    states: u16,
+    line: usize,
+}
+
+/// The constraint that lines are about, by index.
+#[derive(Clone, Copy, Debug)]
+struct Open {
+    index: usize,
+    /// Whether `start` and `accept` may still come.
+    head: bool,
+}
+
+/// Which of an automaton's two sets.
+#[derive(Clone, Copy, Debug, PartialEq, Eq)]
+pub enum Which {
+    /// The starting states.
+    Start,
+    /// The accepting states.
+    Accept,
+}
+
+impl Constraints {
+    /// A line that is about no constraint.
+    pub fn close(&mut self) {
+        self.open = None;
+    }
+
+    /// `constraint c`
+    pub fn add(&mut self, name: &Word, place: Place) -> Result<(), Mistake> {
+        if let Some(index) = self.index(name) {
+            let first = self.all[index].name.place.line;
+            return Err(name.place.mistake(
+                format_args!(
+                    "{} is already a constraint, on line {first}",
+                    quoted(&name.text)
+                ),
+                "write another word, or put further edges below `edges of`",
+            ));
+        }
+        let index = self.all.len();
+        if index == AUTOMATA {
+            return Err(place.mistake(
+                format_args!("{} would be the 9th constraint", quoted(&name.text)),
+                "write at most 8",
+            ));
+        }
+        self.all.push(Constraint {
+            name: name.clone(),
+            start: None,
+            accept: None,
+            states: States::default(),
+        });
+        self.open = Some(Open { index, head: true });
+        Ok(())
+    }
+
+    /// `edges of c`
+    pub fn go_on(&mut self, name: &Word) -> Result<(), Mistake> {
+        let index = self.index(name).ok_or_else(|| {
+            name.place.mistake(
+                format_args!("no constraint above is called {}", quoted(&name.text)),
+                "write the name of one, or its `constraint` line above",
+            )
+        })?;
+        self.open = Some(Open { index, head: false });
+        Ok(())
+    }
+
+    /// `start ...` or `accept ...`
+    pub fn set(&mut self, which: Which, states: &[StateWord], place: Place) -> Result<(), Mistake> {
+        let word = match which {
+            Which::Start => "`start`",
+            Which::Accept => "`accept`",
+        };
+        let open = self.open.ok_or_else(|| outside(place, word))?;
+        let constraint = &mut self.all[open.index];
+        let own = match which {
+            Which::Start => &mut constraint.start,
+            Which::Accept => &mut constraint.accept,
+        };
+        if let Some(Set { line, .. }) = own {
+            return Err(place.mistake(
+                format_args!("{word} stands on line {line} already"),
+                "write all its states there",
+            ));
+        }
+        if !open.head {
+            return Err(place.mistake(
+                format_args!("{word} stands below an edge or `edges of`"),
+                "write it right below `constraint`, above the edges",
+            ));
+        }
+        *own = Some(Set {
+            states: constraint.states.set(states)?,
+            line: place.line,
+        });
+        Ok(())
+    }
+
+    /// `0 -- A.r --> 1`; the label's role has been read already.
+    pub fn edge(
+        &mut self,
+        from: &StateWord,
+        label: Label,
+        to: &StateWord,
+        place: Place,
+    ) -> Result<(), Mistake> {
+        let open = self.open.ok_or_else(|| outside(place, "an edge"))?;
+        if self.edges.len() == EDGES {
+            return Err(place.mistake("this would be the 129th edge", "write at most 128"));
+        }
+        self.open = Some(Open {
+            head: false,
+            ..open
+        });
+        let states = &mut self.all[open.index].states;
+        let edge = Edge {
+            automaton: open.index as u16 + 1,
+            from: states.rank(from)?,
+            label,
+            to: states.rank(to)?,
+        };
+        self.edges.push((edge, place.line));
+        Ok(())
+    }
+
+    /// The number of the constraint with a name.
+    pub fn number(&self, name: &Word) -> Option<u16> {
+        self.index(name).map(|index| index as u16 + 1)
+    }
+
+    /// The automata, with the numbers of their states.
+    pub fn automata(&self) -> Vec<Automaton> {
+        let automaton = |constraint: &Constraint| {
+            let numbered = |set: Set| constraint.states.numbered(set.states);
+            Automaton {
+                start: constraint.start.map_or(0, numbered),
+                accept: constraint.accept.map_or(0, numbered),
+            }
+        };
+        self.all.iter().map(automaton).collect()
+    }
+
+    /// The number of each state of an automaton, in the order of the ranks.
+    pub fn states(&self, automaton: u16) -> Vec<u16> {
+        self.all[usize::from(automaton) - 1].states.numbers()
+    }
+
+    /// The line of each constraint.
+    pub fn lines(&self) -> Vec<usize> {
+        let lines = self.all.iter().map(|constraint| constraint.name.place.line);
+        lines.collect()
+    }
+
+    /// The constraints' names, by number.
+    pub fn names(&self) -> BTreeMap<u16, String> {
+        let names = self.all.iter().map(|own| own.name.text.clone());
+        (1..).zip(names).collect()
+    }
+
+    /// The states' names, by automaton and number.
+    pub fn state_names(&self) -> BTreeMap<(u16, u16), String> {
+        let mut names = BTreeMap::new();
+        for (automaton, constraint) in (1..).zip(&self.all) {
+            let words = constraint.states.words().into_iter();
+            names.extend(words.map(|(number, word)| ((automaton, number), word)));
+        }
+        names
+    }
+
+    fn index(&self, name: &Word) -> Option<usize> {
+        let same = |constraint: &Constraint| constraint.name.text == name.text;
+        self.all.iter().position(same)
+    }
+}
+
+/// A line that belongs to a constraint, outside of any.
+fn outside(place: Place, what: &str) -> Mistake {
+    place.mistake(
+        format_args!("{what} stands outside of a constraint"),
+        "write `constraint` and its name above",
+    )
+}

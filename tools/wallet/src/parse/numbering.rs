@@ -1,0 +1,173 @@
+//! The principals and role names of a text: each word is one or the other, and
+//! has a number, given by a line or the least that is free.
+
+use std::collections::BTreeMap;
+
+use crate::limits::NAMES;
+use crate::mistake::{quoted, Mistake, Place};
+use crate::parse::reader::{Number, Word};
+use crate::parse::statement::RoleWords;
+use crate::table::Role;
+
+/// What a word is.
+#[derive(Clone, Copy, Debug, PartialEq, Eq)]
+pub enum Sort {
+    /// A principal.
+    Principal,
+    /// A role name.
+    Name,
+}
+
+impl Sort {
+    fn one(self) -> &'static str {
+        match self {
+            Sort::Principal => "a principal",
+            Sort::Name => "a role name",
+        }
+    }
+
+    fn many(self) -> &'static str {
+        match self {
+            Sort::Principal => "principals",
+            Sort::Name => "role names",
+        }
+    }
+}
+
+/// The words of a text so far. Until the text has been read to its end, a word
+/// is known by its rank: how many words of its sort first stand before it.
+#[derive(Clone, Debug, Default)]
+pub struct Vocabulary {
+    /// The sort and rank of every word, and where it first stands.
+    known: BTreeMap<String, (Sort, u16, Place)>,
+    principals: Vec<Entry>,
+    names: Vec<Entry>,
+}
+
+/// A word, and the number that a line gives it.
+#[derive(Clone, Debug)]
+struct Entry {
+    word: String,
+    given: Option<Number>,
+}
+
+impl Vocabulary {
+    /// The rank of a word of this sort.
+    pub fn rank(&mut self, sort: Sort, word: &Word) -> Result<u16, Mistake> {
+        if let Some(&(known, rank, first)) = self.known.get(&word.text) {
+            if known == sort {
+                return Ok(rank);
+            }
+            let Place { line, column } = first;
+            return Err(word.place.mistake(
+                format_args!(
+                    "{} is {} here, but {} on line {line}, column {column}",
+                    quoted(&word.text),
+                    sort.one(),
+                    known.one()
+                ),
+                "write another word for one of them",
+            ));
+        }
+        let entries = self.entries_mut(sort);
+        let rank = entries.len() as u16;
+        if rank == NAMES {
+            return Err(word.place.mistake(
+                format_args!("{} would be one of 65 {}", quoted(&word.text), sort.many()),
+                "write at most 64",
+            ));
+        }
+        entries.push(Entry {
+            word: word.text.clone(),
+            given: None,
+        });
+        let entry = (sort, rank, word.place);
+        self.known.insert(word.text.clone(), entry);
+        Ok(rank)
+    }
+
+    /// The ranks of a role's owner and name.
+    pub fn role(&mut self, role: &RoleWords) -> Result<Role, Mistake> {
+        Ok(Role {
+            owner: self.rank(Sort::Principal, &role.owner)?,
+            name: self.rank(Sort::Name, &role.name)?,
+        })
+    }
+
+    /// Gives a word its number.
+    pub fn give(&mut self, sort: Sort, word: &Word, number: Number) -> Result<(), Mistake> {
+        let rank = usize::from(self.rank(sort, word)?);
+        let entries = self.entries_mut(sort);
+        if let Some(Number { value, place }) = entries[rank].given {
+            return Err(word.place.mistake(
+                format_args!(
+                    "{} already has the number {value}, given on line {}, column {}",
+                    quoted(&word.text),
+                    place.line,
+                    place.column
+                ),
+                "leave one of them out",
+            ));
+        }
+        let same = |given: &Number| given.value == number.value;
+        let other = entries
+            .iter()
+            .find(|entry| entry.given.as_ref().is_some_and(same));
+        if let Some(other) = other {
+            return Err(number.place.mistake(
+                format_args!(
+                    "the number {} is already that of {}",
+                    number.value,
+                    quoted(&other.word)
+                ),
+                format_args!("write another number for {}", quoted(&word.text)),
+            ));
+        }
+        entries[rank].given = Some(number);
+        Ok(())
+    }
+
+    /// The number of each word of a sort, in the order of the ranks: the given
+    /// one, or else the least that is free.
+    pub fn numbers(&self, sort: Sort) -> Vec<u16> {
+        let entries = self.entries(sort);
+        let given = |number: u16| {
+            let mut all = entries.iter().filter_map(|entry| entry.given);
+            all.any(|given| given.value == number)
+        };
+        let mut free = (1..=NAMES).filter(|&number| !given(number));
+        let number = |entry: &Entry| match entry.given {
+            Some(number) => number.value,
+            // There are as many numbers as words at most.
+            None => free.next().unwrap_or(NAMES),
+        };
+        entries.iter().map(number).collect()
+    }
+
+    /// The names of the numbers of a sort.
+    pub fn named(&self, sort: Sort) -> BTreeMap<u16, String> {
+        let words = self.entries(sort).iter().map(|entry| entry.word.clone());
+        self.numbers(sort).into_iter().zip(words).collect()
+    }
+
+    /// A role whose owner and name are ranks, in words.
+    pub fn said(&self, role: Role) -> String {
+        let word = |entries: &[Entry], rank: u16| entries[usize::from(rank)].word.clone();
+        let owner = word(&self.principals, role.owner);
+        format!("{owner}.{}", word(&self.names, role.name))
+    }
+
+    fn entries(&self, sort: Sort) -> &Vec<Entry> {
+        match sort {
+            Sort::Principal => &self.principals,
+            Sort::Name => &self.names,
+        }
+    }
+
+    fn entries_mut(&mut self, sort: Sort) -> &mut Vec<Entry> {
+        match sort {
+            Sort::Principal => &mut self.principals,
+            Sort::Name => &mut self.names,
+        }
+    }
+}

@@ -1,0 +1,80 @@
+//! What a line says, in words and with their places.
+
+use crate::parse::reader::{Number, Word};
+
+/// A role in words.
+#[derive(Clone, Debug, PartialEq, Eq)]
+pub struct RoleWords {
+    /// The owner.
+    pub owner: Word,
+    /// The name.
+    pub name: Word,
+}
+
+/// What stands behind a credential's arrow, in words.
+#[derive(Clone, Debug, PartialEq, Eq)]
+pub enum BodyWords {
+    /// `D`
+    Member(Word),
+    /// `B.s`
+    Contained(RoleWords),
+    /// `A.s.t`, where A is the role's owner.
+    Linked(RoleWords, Word),
+    /// `B.s & C.t`, and the cell behind `at cell`.
+    Parts(Vec<RoleWords>, Option<Number>),
+}
+
+/// A state as it is named.
+#[derive(Clone, Debug, PartialEq, Eq)]
+pub enum StateWord {
+    /// By its number.
+    Number(Number),
+    /// By a word.
+    Word(Word),
+}
+
+/// An edge's label in words.
+#[derive(Clone, Debug, PartialEq, Eq)]
+pub enum LabelWords {
+    /// `A.r`
+    Only(RoleWords),
+    /// `any`
+    Any,
+    /// `not A.r`
+    Not(RoleWords),
+}
+
+/// What a line says.
+#[derive(Clone, Debug, PartialEq, Eq)]
+pub enum Statement {
+    /// `A.r <- ...`, and the constraint behind `under`.
+    Credential(RoleWords, BodyWords, Option<Word>),
+    /// `constraint c`
+    Constraint(Word),
+    /// `start ...`
+    Start(Vec<StateWord>),
+    /// `accept ...`
+    Accept(Vec<StateWord>),
+    /// `0 -- A.r --> 1`
+    Edge(StateWord, LabelWords, StateWord),
+    /// `D in A.r within 2`
+    Query(Word, RoleWords, Number),
+    /// `principals A = 1, B = 2`
+    Principals(Vec<(Word, Number)>),
+    /// `names r = 1, s = 2`
+    Names(Vec<(Word, Number)>),
+    /// `cell 1 = B.s then 2`
+    Cell(Number, RoleWords, Option<Number>),
+    /// `edges of c`
+    EdgesOf(Word),
+}
+
+impl Statement {
+    /// Whether the line belongs to the constraint above it.
+    pub fn is_within_constraint(&self) -> bool {
+        matches!(
+            self,
+            Statement::Start(_) | Statement::Accept(_) | Statement::Edge(..)
+        )
+    }
+}

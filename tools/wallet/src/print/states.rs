@@ -1,0 +1,75 @@
+//! How the states of a constraint are written, so that each word comes back
+//! with the number that it has.
+
+use std::collections::BTreeMap;
+
+use crate::limits::STATES;
+use crate::table::Table;
+
+/// How the states of a constraint are written.
+pub struct Written {
+    /// The words, by state; the others are written as numbers.
+    pub words: BTreeMap<u16, String>,
+    /// Whether `accept` stands before `start`.
+    pub accept_first: bool,
+}
+
+/// Writes the states of an automaton with these words where they can be kept:
+/// all of them, if `start` before `accept` or the other way around gives them
+/// their numbers; else without those that would get others.
+pub fn written(table: &Table, automaton: u16, mut words: BTreeMap<u16, String>) -> Written {
+    for accept_first in [false, true] {
+        let standing = standing(table, automaton, accept_first);
+        words.retain(|state, _| standing.contains(state));
+        if first_moved(&standing, &words).is_none() {
+            return Written {
+                words,
+                accept_first,
+            };
+        }
+    }
+    let standing = standing(table, automaton, false);
+    while let Some(state) = first_moved(&standing, &words) {
+        words.remove(&state);
+    }
+    Written {
+        words,
+        accept_first: false,
+    }
+}
+
+/// An automaton's states in the order in which they first stand in its text.
+fn standing(table: &Table, automaton: u16, accept_first: bool) -> Vec<u16> {
+    let sets = &table.automata[usize::from(automaton) - 1];
+    let (first, second) = match accept_first {
+        false => (sets.start, sets.accept),
+        true => (sets.accept, sets.start),
+    };
+    let own = table
+        .edges
+        .iter()
+        .filter(|edge| edge.automaton == automaton);
+    let ends = own.flat_map(|edge| [edge.from, edge.to]);
+    let mut all = Vec::new();
+    for state in members(first).chain(members(second)).chain(ends) {
+        if !all.contains(&state) {
+            all.push(state);
+        }
+    }
+    all
+}
+
+/// The states of a set, ascending.
+pub fn members(set: u16) -> impl Iterator<Item = u16> {
+    (0..STATES).filter(move |state| set & (1 << state) != 0)
+}
+
+/// The first state whose word would get another number: words get the least
+/// ones that are not named as numbers, in the order in which they stand.
+fn first_moved(standing: &[u16], words: &BTreeMap<u16, String>) -> Option<u16> {
+    let is_word = |state: &u16| words.contains_key(state);
+    let named = |state: &u16| standing.contains(state) && !is_word(state);
+    let free = (0..STATES).filter(|state| !named(state));
+    let mut spoken = standing.iter().copied().filter(is_word).zip(free);
+    spoken.find(|(own, given)| own != given).map(|(own, _)| own)
+}

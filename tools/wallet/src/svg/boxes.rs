@@ -1,0 +1,160 @@
+//! What the boxes of a picture say: a goal, the credential below it, and
+//! under a box the word that ends there, or why the record is stopped there.
+
+use crate::derivation::{numbered, Judged, Node};
+use crate::table::Body;
+use crate::tree::goal;
+use crate::words::{Word, Words};
+use crate::Wallet;
+
+/// A line that goes on with the one above is indented by this.
+const FURTHER: &str = "  ";
+/// These words stay on a line with the word behind them.
+const TIED: [&str; 5] = ["<-", "&", "under", "in", "node"];
+
+/// What is written at a node.
+#[derive(Clone, Debug, Default)]
+pub struct Sheet {
+    /// The node's number.
+    pub number: String,
+    /// The goal.
+    pub goal: Vec<String>,
+    /// The credential; nothing if it was not read.
+    pub credential: Vec<String>,
+    /// What stands under the box.
+    pub under: Vec<String>,
+    /// What stands on the branch that leads to the box.
+    pub branch: Option<String>,
+    /// Whether the node is at fault, or ends a word that is rejected.
+    pub marked: bool,
+}
+
+impl Sheet {
+    /// How many columns the box needs.
+    pub fn columns(&self) -> usize {
+        let below = self.goal.iter().skip(1).chain(&self.credential);
+        let lines = below.chain(&self.under);
+        let lines = lines.map(|line| columns(line)).max().unwrap_or(0);
+        let first = self.goal.first().map_or(0, |line| columns(line));
+        lines.max(first + 1 + columns(&self.number))
+    }
+
+    /// The same with lines of at most so many columns; of more where a piece
+    /// of a line needs that.
+    pub fn broken(&self, limit: usize) -> Sheet {
+        let lines = self.goal.iter().chain(&self.credential).chain(&self.under);
+        let pieces = lines.flat_map(|line| pieces(line));
+        let widest = pieces.map(|piece| columns(&piece)).max().unwrap_or(0);
+        let limit = limit.max(widest + columns(FURTHER));
+        Sheet {
+            goal: broken(&self.goal, limit),
+            credential: broken(&self.credential, limit),
+            under: broken(&self.under, limit),
+            ..self.clone()
+        }
+    }
+}
+
+/// The sheets of all nodes, with long lines.
+pub fn sheets(wallet: &Wallet, judged: &Judged, words: &Words) -> Vec<Sheet> {
+    let nodes = &judged.nodes;
+    let sheet = |node: &Node| Sheet {
+        number: node.number.to_string(),
+        goal: vec![goal(&wallet.names, node)],
+        credential: credential(wallet, node).into_iter().collect(),
+        branch: middle(wallet, nodes, node),
+        ..Sheet::default()
+    };
+    let mut sheets: Vec<Sheet> = nodes.iter().map(sheet).collect();
+    for (number, word) in (1..).zip(&words.words) {
+        let sheet = &mut sheets[word.leaf];
+        sheet.under = ending(wallet, words, number, word);
+        sheet.marked = word.is_rejected();
+    }
+    if let (Some(node), Some(reason)) = (judged.faulty(), judged.reason(&wallet.names)) {
+        let sheet = &mut sheets[node.number - 1];
+        sheet.under = vec![format!("at fault: {reason}")];
+        sheet.marked = true;
+    }
+    sheets
+}
+
+/// A node's credential, if it was read: `1: Shop.discount <- Ann`.
+fn credential(wallet: &Wallet, node: &Node) -> Option<String> {
+    let number = node.credential?;
+    let text = numbered(&wallet.table, number)
+        .map(|credential| wallet.names.credential(&wallet.table, credential));
+    Some(match text {
+        Some(text) => format!("{number}: {text}"),
+        None => number.to_string(),
+    })
+}
+
+/// The middle through which a node's goal was asked, if its branch is the one
+/// on which the middle must be a member.
+fn middle(wallet: &Wallet, nodes: &[Node], node: &Node) -> Option<String> {
+    let parent = nodes.get(node.parent?)?;
+    let credential = numbered(&wallet.table, parent.credential?)?;
+    let linked = matches!(credential.body, Body::Linked { .. });
+    // The first child comes right behind its parent.
+    let first = parent.number + 1 == node.number;
+    let name = wallet.names.principal(parent.middle?);
+    (linked && first).then(|| format!("middle {name}"))
+}
+
+/// What stands under the last node of a word.
+fn ending(wallet: &Wallet, words: &Words, number: usize, word: &Word) -> Vec<String> {
+    let rejected = if word.is_rejected() { ": rejected" } else { "" };
+    let mut lines = vec![format!("word {number}{rejected}")];
+    lines.extend(words.automata.iter().map(|&automaton| {
+        let does = match word.rejected_by(automaton) {
+            true => "rejects",
+            false => "accepts",
+        };
+        format!("{} {does}", wallet.names.constraint(automaton))
+    }));
+    lines
+}
+
+/// Lines broken where they have more than so many columns.
+fn broken(lines: &[String], limit: usize) -> Vec<String> {
+    let mut shorter: Vec<String> = Vec::new();
+    for line in lines {
+        let mut present = String::new();
+        for piece in pieces(line) {
+            if present.is_empty() {
+                present = piece;
+            } else if columns(&present) + 1 + columns(&piece) <= limit {
+                present = format!("{present} {piece}");
+            } else {
+                shorter.push(std::mem::replace(&mut present, format!("{FURTHER}{piece}")));
+            }
+        }
+        shorter.push(present);
+    }
+    shorter
+}
+
+/// The pieces of a line that stay whole: its words, but the tied ones and a
+/// number with a colon together with the word behind them.
+fn pieces(line: &str) -> Vec<String> {
+    let mut pieces: Vec<String> = Vec::new();
+    let mut tied = false;
+    for word in line.split_whitespace() {
+        match pieces.last_mut() {
+            Some(piece) if tied => *piece = format!("{piece} {word}"),
+            _ => pieces.push(word.to_string()),
+        }
+        let number = word.strip_suffix(':').map(str::parse::<u16>);
+        tied = TIED.contains(&word) || matches!(number, Some(Ok(_)));
+    }
+    pieces
+}
+
+/// How many columns a text takes in a fixed-width font. Scripts whose letters
+/// take two begin at U+1100, and the sign that stands for a control may take
+/// two as well.
+pub fn columns(text: &str) -> usize {
+    let wide = |letter: &char| *letter >= '\u{1100}' || letter.is_control();
+    text.chars().count() + text.chars().filter(wide).count()
+}

@@ -1,0 +1,177 @@
+//! The marks of which a picture is made, written as SVG: rectangles, strokes
+//! and lines of text in a fixed-width font.
+
+use std::fmt::Write;
+
+use crate::svg::boxes::columns;
+use crate::svg::layout::Pixels;
+
+/// The size of the font.
+pub const FONT: Pixels = 12;
+/// The size of the question, which is large.
+pub const LARGE: Pixels = 14;
+/// The size of node numbers, which are small.
+const SMALL: Pixels = 10;
+
+// The colours: of text, of lines and remarks, behind everything, behind the
+// words, and of what is accepted and what is at fault.
+pub const INK: &str = "#1f2328";
+pub const PALE: &str = "#636c76";
+pub const WHITE: &str = "#ffffff";
+pub const LIGHT: &str = "#f3f5f7";
+pub const GOOD: &str = "#116329";
+pub const BAD: &str = "#b42318";
+pub const LIGHT_BAD: &str = "#fdecea";
+
+/// A rectangle of the picture.
+#[derive(Clone, Copy)]
+pub struct Rectangle {
+    /// The left edge.
+    pub left: Pixels,
+    /// The upper edge.
+    pub top: Pixels,
+    /// From left to right.
+    pub width: Pixels,
+    /// From top to bottom.
+    pub height: Pixels,
+}
+
+/// A picture in the making.
+pub struct Marks {
+    svg: String,
+}
+
+impl Marks {
+    /// A white picture of this size, with a title and a description.
+    pub fn new(width: Pixels, height: Pixels, title: &str, description: &str) -> Marks {
+        let svg = format!(
+            "<svg xmlns=\"http://www.w3.org/2000/svg\" role=\"img\" width=\"{width}\" \
+             height=\"{height}\" viewBox=\"0 0 {width} {height}\" \
+             font-family=\"'DejaVu Sans Mono', Menlo, Consolas, monospace\" \
+             font-size=\"{FONT}\" shape-rendering=\"crispEdges\">\n\
+             <title>{}</title>\n\
+             <desc>{}</desc>\n",
+            escaped(title),
+            escaped(description)
+        );
+        let mut marks = Marks { svg };
+        marks.patch(Rectangle {
+            left: 0,
+            top: 0,
+            width,
+            height,
+        });
+        marks
+    }
+
+    /// The whole document.
+    pub fn finish(mut self) -> String {
+        self.svg.push_str("</svg>\n");
+        self.svg
+    }
+
+    /// A white rectangle without an edge.
+    pub fn patch(&mut self, place: Rectangle) {
+        self.filled(place, WHITE, "");
+    }
+
+    /// A rectangle with an edge, which may be marked.
+    pub fn rectangle(&mut self, place: Rectangle, fill: &str, marked: bool) {
+        let edge = match marked {
+            true => format!(" stroke=\"{BAD}\" stroke-width=\"2\""),
+            false => format!(" stroke=\"{PALE}\""),
+        };
+        self.filled(place, fill, &edge);
+    }
+
+    fn filled(&mut self, place: Rectangle, fill: &str, edge: &str) {
+        let Rectangle {
+            left,
+            top,
+            width,
+            height,
+        } = place;
+        self.add(format_args!(
+            "<rect x=\"{left}\" y=\"{top}\" width=\"{width}\" height=\"{height}\" \
+             fill=\"{fill}\"{edge}/>"
+        ));
+    }
+
+    /// A stroke from one place to another.
+    pub fn stroke(&mut self, from: (Pixels, Pixels), to: (Pixels, Pixels)) {
+        self.add(format_args!(
+            "<line x1=\"{}\" y1=\"{}\" x2=\"{}\" y2=\"{}\" stroke=\"{PALE}\"/>",
+            from.0, from.1, to.0, to.1
+        ));
+    }
+
+    /// A line of text.
+    pub fn plain(&mut self, x: Pixels, y: Pixels, ink: &str, text: &str) {
+        self.text(x, y, ink, "", text);
+    }
+
+    /// A line of bold text.
+    pub fn bold(&mut self, x: Pixels, y: Pixels, ink: &str, text: &str) {
+        self.text(x, y, ink, " font-weight=\"bold\"", text);
+    }
+
+    /// A line of italic text.
+    pub fn italic(&mut self, x: Pixels, y: Pixels, ink: &str, text: &str) {
+        self.text(x, y, ink, " font-style=\"italic\"", text);
+    }
+
+    /// A line of large bold text.
+    pub fn large(&mut self, x: Pixels, y: Pixels, ink: &str, text: &str) {
+        let look = format!(" font-size=\"{LARGE}\" font-weight=\"bold\"");
+        self.text(x, y, ink, &look, text);
+    }
+
+    /// A line of small text, which ends at x.
+    pub fn small(&mut self, x: Pixels, y: Pixels, ink: &str, text: &str) {
+        let look = format!(" font-size=\"{SMALL}\" text-anchor=\"end\"");
+        self.text(x, y, ink, &look, text);
+    }
+
+    /// A line of text. Spaces in front of it are left free, as SVG itself
+    /// would not leave them.
+    fn text(&mut self, x: Pixels, y: Pixels, ink: &str, look: &str, text: &str) {
+        let words = text.trim_start();
+        let indent = columns(text) - columns(words);
+        let x = x + line_width(indent, FONT);
+        let words = escaped(words);
+        self.add(format_args!(
+            "<text x=\"{x}\" y=\"{y}\" fill=\"{ink}\"{look}>{words}</text>"
+        ));
+    }
+
+    fn add(&mut self, element: std::fmt::Arguments) {
+        // Writing to a string does not fail.
+        let _ = writeln!(self.svg, "{element}");
+    }
+}
+
+/// The width of so many columns in a font of this size: the letters of
+/// fixed-width fonts are not wider than 0.605 of their size.
+pub fn line_width(columns: usize, size: Pixels) -> Pixels {
+    (columns as Pixels * size * 605 + 999) / 1_000
+}
+
+/// A text as SVG has it: the signs of the markup by their names, and what may
+/// not stand in a document at all by U+FFFD.
+fn escaped(text: &str) -> String {
+    let mut escaped = String::new();
+    for letter in text.chars() {
+        match letter {
+            '&' => escaped.push_str("&amp;"),
+            '<' => escaped.push_str("&lt;"),
+            '>' => escaped.push_str("&gt;"),
+            '"' => escaped.push_str("&quot;"),
+            '\'' => escaped.push_str("&apos;"),
+            '\0'..='\u{1f}' | '\u{7f}'..='\u{9f}' | '\u{fffe}' | '\u{ffff}' => {
+                escaped.push('\u{fffd}');
+            }
+            letter => escaped.push(letter),
+        }
+    }
+    escaped
+}

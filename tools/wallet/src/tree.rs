@@ -1,0 +1,308 @@
+//! A judged record as text: its nodes as an indented tree, its words, the
+//! runs of its automata, and the verdict on the last line.
+//!
+//! A line that begins with `>>` is at fault. Records can be very long; then
+//! the first nodes and words are shown, what is at fault, and how many more
+//! there are.
+
+use crate::derivation::{ancestors, numbered, Judged, Node, HIGHEST};
+use crate::names::Names;
+use crate::words::{roles, run, states, used_credentials, words, Word, Words};
+use crate::Wallet;
+
+/// So many nodes are shown, besides the one at fault and those above it.
+pub const NODES_SHOWN: usize = 1_000;
+/// So many words are shown, and so many runs of each automaton.
+pub const WORDS_SHOWN: usize = 1_000;
+/// So many rejected words are shown behind those.
+pub const REJECTED_SHOWN: usize = 10;
+/// A tree whose goals take more columns than this is not lined up further.
+const WIDEST: usize = 72;
+
+/// What a line at fault begins with, and every other line of its block.
+const FAULT: &str = ">>";
+const NO_FAULT: &str = "  ";
+
+/// The text of a judged record. The wallet is the one with which the record
+/// was judged.
+pub fn text(wallet: &Wallet, judged: &Judged) -> String {
+    let words = words(wallet, judged);
+    let mut lines = vec![question(wallet, judged)];
+    if !judged.nodes.is_empty() {
+        lines.push(String::new());
+        tree(wallet, judged, &mut lines);
+    }
+    if !words.words.is_empty() {
+        lines.push(String::new());
+        word_list(wallet, judged, &words, &mut lines);
+    }
+    for &automaton in &words.automata {
+        lines.push(String::new());
+        runs(wallet, judged, &words, automaton, &mut lines);
+    }
+    lines.push(String::new());
+    lines.push(verdict(wallet, judged, &words));
+    lines.push(String::new());
+    lines.join("\n")
+}
+
+/// What was asked: `Ann in Shop.discount within 2`.
+pub fn question(wallet: &Wallet, judged: &Judged) -> String {
+    let query = judged.query;
+    let role = crate::table::Role {
+        owner: query.owner,
+        name: query.name,
+    };
+    let goal = wallet.names.goal(query.principal, role);
+    format!("{goal} within {}", query.depth)
+}
+
+/// The verdict: `accepted: used set 7 = credentials 1, 2, 3`, or `refused 14
+/// at 1` and why.
+pub fn verdict(wallet: &Wallet, judged: &Judged, words: &Words) -> String {
+    let refusal = match judged.verdict {
+        Ok(set) => return format!("accepted: used set {set} = {}", members(set)),
+        Err(refusal) => refusal,
+    };
+    let why = match refusal.number {
+        14 => rejection(wallet, words, refusal.position),
+        _ => judged.reason(&wallet.names),
+    };
+    let why = why.unwrap_or_else(|| refusal.to_string());
+    format!("refused {} at {}: {why}", refusal.number, refusal.position)
+}
+
+/// The credentials of a used set: `credentials 1, 2, 3`.
+fn members(set: u32) -> String {
+    let there = (1..=32u16).filter(|number| (set >> (number - 1)) & 1 == 1);
+    credentials(&there.collect::<Vec<u16>>())
+}
+
+/// Credentials by their numbers: `credentials 1, 2, 3`.
+fn credentials(numbers: &[u16]) -> String {
+    let listed: Vec<String> = numbers.iter().map(u16::to_string).collect();
+    let plural = if numbers.len() == 1 { "" } else { "s" };
+    format!("credential{plural} {}", listed.join(", "))
+}
+
+/// How many words the automaton at this position rejects.
+fn rejection(wallet: &Wallet, words: &Words, position: u64) -> Option<String> {
+    let automaton = u16::try_from(position).ok()?;
+    let rejected = words.rejected(automaton);
+    let name = wallet.names.constraint(automaton);
+    (rejected > 0).then(|| {
+        let all = counted(words.words.len(), "word");
+        format!("constraint {name} rejects {rejected} of {all}")
+    })
+}
+
+/// So many of something: `1 word`, `2 words`.
+pub(crate) fn counted(count: usize, one: &str) -> String {
+    let plural = if count == 1 { "" } else { "s" };
+    format!("{count} {one}{plural}")
+}
+
+/// The lines of the tree.
+fn tree(wallet: &Wallet, judged: &Judged, lines: &mut Vec<String>) {
+    let nodes = &judged.nodes;
+    let first = &nodes[..nodes.len().min(NODES_SHOWN)];
+    let behind = fault_behind(judged);
+    let layout = Layout::of(wallet, first.iter().chain(behind.iter().copied()));
+    let faulty = judged.faulty().map(|node| node.number);
+    for node in first {
+        lines.push(layout.line(wallet, node, faulty));
+    }
+    let more = nodes.len() - first.len() - behind.len();
+    if more > 0 {
+        lines.push(format!("{NO_FAULT} ... and {}", counted(more, "more node")));
+    }
+    for node in behind {
+        lines.push(layout.line(wallet, node, faulty));
+    }
+    if let Some(reason) = judged.reason(&wallet.names) {
+        let indent = judged.faulty().map_or(0, indent);
+        lines.push(format!(
+            "{FAULT} {:1$}{reason}",
+            "",
+            layout.number + indent + 2
+        ));
+    }
+}
+
+/// The node at fault and those above it, from the top down, as far as they
+/// are not among the first ones.
+fn fault_behind(judged: &Judged) -> Vec<&Node> {
+    let Some(node) = judged.faulty() else {
+        return Vec::new();
+    };
+    let mut branch = vec![node];
+    branch.extend(ancestors(&judged.nodes, node));
+    branch.retain(|node| node.number > NODES_SHOWN);
+    branch.reverse();
+    branch
+}
+
+/// How far a node's goal is indented.
+fn indent(node: &Node) -> usize {
+    2 * usize::from(node.level.saturating_sub(1))
+}
+
+/// The columns of a tree's lines.
+struct Layout {
+    /// The width of the node's number.
+    number: usize,
+    /// The width of the indented goal.
+    goal: usize,
+}
+
+impl Layout {
+    /// The columns in which these nodes have room.
+    fn of<'a>(wallet: &Wallet, nodes: impl Iterator<Item = &'a Node>) -> Layout {
+        let mut layout = Layout { number: 1, goal: 0 };
+        for node in nodes {
+            let goal = indent(node) + goal(&wallet.names, node).chars().count();
+            layout.goal = layout.goal.max(goal).min(WIDEST);
+            layout.number = layout.number.max(node.number.to_string().len());
+        }
+        layout
+    }
+
+    /// The line of a node.
+    fn line(&self, wallet: &Wallet, node: &Node, faulty: Option<usize>) -> String {
+        let mark = match faulty {
+            Some(number) if number == node.number => FAULT,
+            _ => NO_FAULT,
+        };
+        let goal = format!("{:1$}{2}", "", indent(node), goal(&wallet.names, node));
+        let line = format!(
+            "{mark} {:>2$}  {goal:<3$}  {}",
+            node.number,
+            through(wallet, node),
+            self.number,
+            self.goal
+        );
+        line.trim_end().to_string()
+    }
+}
+
+/// A node's goal.
+pub fn goal(names: &Names, node: &Node) -> String {
+    names.goal(node.goal.principal, node.goal.role)
+}
+
+/// What a node is proved through: its credential's number, line and text, and
+/// its middle.
+fn through(wallet: &Wallet, node: &Node) -> String {
+    let Some(number) = node.credential else {
+        return String::new();
+    };
+    let mut through = format!("credential {number}");
+    if let Some(credential) = numbered(&wallet.table, number) {
+        let line = wallet.lines.credentials.get(usize::from(number) - 1);
+        if let Some(line) = line {
+            through += &format!(", line {line}");
+        }
+        let text = wallet.names.credential(&wallet.table, credential);
+        through += &format!(": {text}");
+    }
+    match node.middle {
+        None | Some(0) => through,
+        Some(middle @ 1..=HIGHEST) => {
+            format!("{through}; middle {}", wallet.names.principal(middle))
+        }
+        Some(middle) => format!("{through}; middle {middle}"),
+    }
+}
+
+/// The lines of the words.
+fn word_list(wallet: &Wallet, judged: &Judged, words: &Words, lines: &mut Vec<String>) {
+    lines.push("words".to_string());
+    let width = width(words);
+    for (number, word) in (1..).zip(&words.words).take(WORDS_SHOWN) {
+        let roles = roles(judged, &judged.nodes[word.leaf]);
+        let roles: Vec<String> = roles.iter().map(|role| wallet.names.role(*role)).collect();
+        lines.push(format!("{NO_FAULT} {number:>width$}  {}", roles.join(", ")));
+    }
+    let more = words.words.len().saturating_sub(WORDS_SHOWN);
+    if more > 0 {
+        lines.push(format!("{NO_FAULT} ... and {}", counted(more, "more word")));
+    }
+}
+
+/// The width of the greatest word's number.
+fn width(words: &Words) -> usize {
+    words.words.len().to_string().len()
+}
+
+/// The lines of an automaton: the credentials to which it is attached, and its
+/// runs.
+fn runs(wallet: &Wallet, judged: &Judged, words: &Words, automaton: u16, lines: &mut Vec<String>) {
+    lines.push(heading(wallet, judged, automaton));
+    let line = |(number, word): (usize, &Word)| {
+        let mark = match word.rejected_by(automaton) {
+            true => FAULT,
+            false => NO_FAULT,
+        };
+        let run = run_line(wallet, judged, automaton, word);
+        format!("{mark} {number:>0$}  {run}", width(words))
+    };
+    let numbered = (1..).zip(&words.words);
+    lines.extend(numbered.clone().take(WORDS_SHOWN).map(line));
+    let more = words.words.len().saturating_sub(WORDS_SHOWN);
+    if more == 0 {
+        return;
+    }
+    let hidden = numbered.skip(WORDS_SHOWN);
+    let rejected = hidden.filter(|(_, word)| word.rejected_by(automaton));
+    let count = rejected.clone().count();
+    lines.push(format!(
+        "{NO_FAULT} ... and {}, {count} of them rejected",
+        counted(more, "more word")
+    ));
+    lines.extend(rejected.take(REJECTED_SHOWN).map(line));
+}
+
+/// What stands above an automaton's runs.
+fn heading(wallet: &Wallet, judged: &Judged, automaton: u16) -> String {
+    let table = &wallet.table;
+    let mut attached = used_credentials(&judged.nodes);
+    attached.retain(|&number| {
+        numbered(table, number).is_some_and(|credential| credential.automaton == automaton)
+    });
+    let accept = usize::from(automaton).checked_sub(1);
+    let accept = accept.and_then(|index| table.automata.get(index));
+    let accept = accept.map_or(0, |own| own.accept);
+    format!(
+        "constraint {}, attached to {}, accepts in {}",
+        wallet.names.constraint(automaton),
+        credentials(&attached),
+        set(&wallet.names, automaton, accept)
+    )
+}
+
+/// An automaton's run on a word: the sets of states, the roles between them,
+/// and whether it accepts.
+fn run_line(wallet: &Wallet, judged: &Judged, automaton: u16, word: &Word) -> String {
+    let roles = roles(judged, &judged.nodes[word.leaf]);
+    let sets = run(&wallet.table, automaton, &roles);
+    let mut line = match word.rejected_by(automaton) {
+        true => "rejected:".to_string(),
+        false => "accepted:".to_string(),
+    };
+    let names = &wallet.names;
+    for (index, reached) in sets.iter().enumerate() {
+        if let Some(role) = index.checked_sub(1).and_then(|index| roles.get(index)) {
+            line += &format!(" {}", names.role(*role));
+        }
+        line += &format!(" {}", set(names, automaton, *reached));
+    }
+    line
+}
+
+/// A set of an automaton's states: `{0 2}`.
+fn set(names: &Names, automaton: u16, set: u16) -> String {
+    let states: Vec<String> = states(set)
+        .map(|state| names.state(automaton, state))
+        .collect();
+    format!("{{{}}}", states.join(" "))
+}

@@ -1,0 +1,189 @@
+//! The words of a derivation, and the runs of its automata on them.
+//!
+//! A word is the list of roles from the goal down to a kind 1 node. Automata
+//! start at the goal, in their starting states, and read every role of the
+//! word. What is found here is shown; the checker's verdict does not rest on
+//! it.
+
+use crate::derivation::{ancestors, numbered, Judged, Node};
+use crate::table::{Role, Table};
+use crate::Wallet;
+
+/// A table has at most so many automata.
+const AUTOMATA: usize = 8;
+
+/// A set of states for each automaton, automaton 1 first.
+type Standing = [u16; AUTOMATA];
+
+/// A word, by its last node.
+#[derive(Clone, Copy, Debug, PartialEq, Eq)]
+pub struct Word {
+    /// The index of its kind 1 node in the list of nodes.
+    pub leaf: usize,
+    /// The used automata that reject it: automaton i counts 2^(i-1).
+    rejecting: u8,
+}
+
+impl Word {
+    /// Whether an automaton, which is a used one, rejects the word.
+    pub fn rejected_by(&self, automaton: u16) -> bool {
+        (1..=AUTOMATA as u16).contains(&automaton) && (self.rejecting >> (automaton - 1)) & 1 == 1
+    }
+
+    /// Whether some used automaton rejects the word.
+    pub fn is_rejected(&self) -> bool {
+        self.rejecting != 0
+    }
+}
+
+/// The words of a derivation, in the order of their last nodes, and the
+/// automata that judge them.
+#[derive(Clone, Debug, Default, PartialEq, Eq)]
+pub struct Words {
+    /// The words.
+    pub words: Vec<Word>,
+    /// The used automata, ascending.
+    pub automata: Vec<u16>,
+}
+
+impl Words {
+    /// How many of the words an automaton rejects.
+    pub fn rejected(&self, automaton: u16) -> usize {
+        let words = self.words.iter();
+        words.filter(|word| word.rejected_by(automaton)).count()
+    }
+}
+
+/// The words of a judged record, if it is a whole tree; none otherwise. The
+/// wallet is the one with which the record was judged.
+pub fn words(wallet: &Wallet, judged: &Judged) -> Words {
+    if !judged.is_tree() {
+        return Words::default();
+    }
+    let table = &wallet.table;
+    let automata = used_automata(table, &judged.nodes);
+    // The sets after each level of the branch that leads to the present node.
+    let mut branch = vec![start(table)];
+    let mut words = Vec::new();
+    for (index, node) in judged.nodes.iter().enumerate() {
+        branch.truncate(usize::from(node.level));
+        let above = branch.last().copied().unwrap_or_default();
+        let reached = moved(table, above, node.goal.role);
+        branch.push(reached);
+        if is_leaf(&judged.nodes, index) {
+            words.push(Word {
+                leaf: index,
+                rejecting: rejecting(table, &automata, reached),
+            });
+        }
+    }
+    Words { words, automata }
+}
+
+/// The credentials that nodes use, ascending.
+pub fn used_credentials(nodes: &[Node]) -> Vec<u16> {
+    let mut used: Vec<u16> = Vec::new();
+    for number in nodes.iter().filter_map(|node| node.credential) {
+        if let Err(place) = used.binary_search(&number) {
+            used.insert(place, number);
+        }
+    }
+    used
+}
+
+/// The automata that are attached to credentials that nodes use, ascending.
+fn used_automata(table: &Table, nodes: &[Node]) -> Vec<u16> {
+    let used = used_credentials(nodes).into_iter();
+    let credentials = used.filter_map(|number| numbered(table, number));
+    let attached = credentials.map(|credential| credential.automaton);
+    let mut automata: Vec<u16> = attached.filter(|&automaton| automaton != 0).collect();
+    automata.sort_unstable();
+    automata.dedup();
+    automata
+}
+
+/// Whether a node of a whole tree has no child. A child comes right behind
+/// the node above it.
+fn is_leaf(nodes: &[Node], index: usize) -> bool {
+    match nodes.get(index + 1) {
+        Some(next) => next.parent != Some(index),
+        None => true,
+    }
+}
+
+/// The roles from the goal down to a node.
+pub fn roles(judged: &Judged, node: &Node) -> Vec<Role> {
+    let above = ancestors(&judged.nodes, node).map(|above| above.goal.role);
+    let mut roles = vec![node.goal.role];
+    roles.extend(above);
+    roles.reverse();
+    roles
+}
+
+/// The run of an automaton on a word: its set of states before the first role,
+/// then after each.
+pub fn run(table: &Table, automaton: u16, word: &[Role]) -> Vec<u16> {
+    let index = usize::from(automaton).wrapping_sub(1);
+    let mut standing = start(table);
+    let mut run = vec![standing];
+    for &role in word {
+        standing = moved(table, standing, role);
+        run.push(standing);
+    }
+    let sets = run.iter().filter_map(|standing| standing.get(index));
+    sets.copied().collect()
+}
+
+/// Whether an automaton accepts a word after which it is in these states.
+pub fn accepts(table: &Table, automaton: u16, reached: u16) -> bool {
+    let index = usize::from(automaton).wrapping_sub(1);
+    let accepting = table.automata.get(index).map_or(0, |own| own.accept);
+    accepting & reached != 0
+}
+
+/// The starting sets.
+fn start(table: &Table) -> Standing {
+    let mut standing = Standing::default();
+    for (set, automaton) in standing.iter_mut().zip(&table.automata) {
+        *set = automaton.start;
+    }
+    standing
+}
+
+/// The sets after one role more: each automaton goes to the `to` states of
+/// its matching edges from states in its set.
+fn moved(table: &Table, before: Standing, role: Role) -> Standing {
+    let mut after = Standing::default();
+    for edge in &table.edges {
+        let index = usize::from(edge.automaton).wrapping_sub(1);
+        let there = before.get(index).is_some_and(|set| has(*set, edge.from));
+        if there && edge.label.matches(role) {
+            after[index] |= 1u16.checked_shl(u32::from(edge.to)).unwrap_or(0);
+        }
+    }
+    after
+}
+
+/// Whether a set has a state.
+fn has(set: u16, state: u16) -> bool {
+    set.checked_shr(u32::from(state)).unwrap_or(0) & 1 == 1
+}
+
+/// The states of a set, ascending.
+pub fn states(set: u16) -> impl Iterator<Item = u16> {
+    (0..16).filter(move |&state| has(set, state))
+}
+
+/// Which of some automata do not accept a word after which all are in these
+/// sets.
+fn rejecting(table: &Table, automata: &[u16], reached: Standing) -> u8 {
+    let mut set = 0;
+    for &automaton in automata {
+        let index = usize::from(automaton).wrapping_sub(1);
+        let own = reached.get(index).copied().unwrap_or(0);
+        if !accepts(table, automaton, own) {
+            set |= 1u8.checked_shl(index as u32).unwrap_or(0);
+        }
+    }
+    set
+}

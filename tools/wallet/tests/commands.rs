@@ -1,0 +1,367 @@
+//! The tool as it is called: exit codes, what is written where, and that
+//! nothing is written when something is wrong.
+
+use std::fs;
+use std::io::Write;
+use std::path::{Path, PathBuf};
+use std::process::{Command, Stdio};
+
+const SHOP: &str = concat!(env!("CARGO_MANIFEST_DIR"), "/../../examples/shop.wallet");
+const CONSTRAINED: &str = concat!(
+    env!("CARGO_MANIFEST_DIR"),
+    "/../../examples/shop-constrained.wallet"
+);
+const PROGRAM: &str = concat!(env!("CARGO_MANIFEST_DIR"), "/../../target/bin/minimal_sets");
+
+/// What a program did.
+struct Done {
+    code: Option<i32>,
+    out: Vec<u8>,
+    err: String,
+}
+
+impl Done {
+    fn text(&self) -> String {
+        String::from_utf8(self.out.clone()).expect("text")
+    }
+}
+
+/// Runs a program on some input.
+fn run_program(program: &str, arguments: &[&str], input: &[u8]) -> Done {
+    let mut child = Command::new(program)
+        .args(arguments)
+        .stdin(Stdio::piped())
+        .stdout(Stdio::piped())
+        .stderr(Stdio::piped())
+        .spawn()
+        .expect("the program");
+    let mut stdin = child.stdin.take().expect("its standard input");
+    // It may end before it has read everything.
+    let _ = stdin.write_all(input);
+    drop(stdin);
+    let output = child.wait_with_output().expect("its output");
+    Done {
+        code: output.status.code(),
+        out: output.stdout,
+        err: String::from_utf8(output.stderr).expect("text"),
+    }
+}
+
+fn run(arguments: &[&str], input: &[u8]) -> Done {
+    run_program(env!("CARGO_BIN_EXE_wallet"), arguments, input)
+}
+
+/// A file for a test to write, which is not there yet.
+fn fresh(name: &str) -> PathBuf {
+    let path = Path::new(env!("CARGO_TARGET_TMPDIR")).join(name);
+    let _ = fs::remove_file(&path);
+    path
+}
+
+/// A file with a text.
+fn file(name: &str, text: &[u8]) -> String {
+    let path = fresh(name);
+    fs::write(&path, text).expect("a file is written");
+    path.to_str().expect("a path in text").to_string()
+}
+
+/// A call that is wrong: code 2, a message, nothing on standard output, and no
+/// file. Tells the message.
+fn wrong(arguments: &[&str], input: &[u8]) -> String {
+    let path = fresh(&format!("wrong-{}", std::process::id()));
+    let path_text = path.to_str().expect("a path in text");
+    let with_file = [arguments, &["-o", path_text]].concat();
+    for arguments in [arguments, &with_file] {
+        let done = run(arguments, input);
+        assert_eq!(done.code, Some(2), "{arguments:?} {}", done.err);
+        assert!(done.out.is_empty(), "{arguments:?}");
+        assert!(
+            done.err.starts_with("wallet: "),
+            "{arguments:?} {}",
+            done.err
+        );
+        assert!(!path.exists(), "{arguments:?}");
+    }
+    run(arguments, input).err
+}
+
+const LISTED: &str = "\
+2 minimal sets prove Ann in Shop.discount within 2
+
+set 7
+   1  Shop.discount <- Shop.accredited.student  line 5
+   2  Shop.accredited <- School                 line 6
+   3  School.student <- Ann                     line 7
+  shows School in Shop.accredited, Ann in School.student
+
+set 8
+   4  Shop.discount <- Ann  line 8
+  shows Ann in Shop.discount
+";
+
+#[test]
+fn encode() {
+    let done = run(&["encode", CONSTRAINED], b"");
+    assert_eq!((done.code, done.err.as_str()), (Some(0), ""));
+    let numbers = [4, 1, 1, 2].iter().chain(&reference::shop::U);
+    let expected: Vec<u8> = numbers
+        .flat_map(|number: &u16| number.to_le_bytes())
+        .collect();
+    assert_eq!(done.out, expected);
+    let text = fs::read(CONSTRAINED).expect("the example");
+    assert_eq!(run(&["encode", "-"], &text).out, expected);
+}
+
+#[test]
+fn list_and_explain_say_the_same() {
+    for wallet in [SHOP, CONSTRAINED] {
+        let input = run(&["encode", wallet], b"").out;
+        let output = run_program(PROGRAM, &[], &input).out;
+        let explained = run(&["explain", wallet], &output);
+        let listed = run(&["list", wallet], b"");
+        assert_eq!((explained.code, listed.code), (Some(0), Some(0)));
+        assert_eq!(explained.text(), listed.text());
+        if wallet == SHOP {
+            assert_eq!(listed.text(), LISTED);
+        }
+    }
+}
+
+#[test]
+fn a_list_that_is_refused() {
+    let text = "A.r <- B\nC in A.r within 1\n";
+    let done = run(&["list", "-"], text.as_bytes());
+    let words = "refused 9 0: no set of credentials proves C in A.r within 1\n";
+    assert_eq!((done.code, done.text().as_str()), (Some(1), words));
+    let wallet = file("nobody.wallet", text.as_bytes());
+    let done = run(&["explain", &wallet], b"refused 9 0\n");
+    assert_eq!((done.code, done.text().as_str()), (Some(1), words));
+    let done = run(&["explain", &wallet], b"refused 8 4\n");
+    let words = "refused 8 4: the query's depth is out of range (line 2)\n";
+    assert_eq!((done.code, done.text().as_str()), (Some(1), words));
+}
+
+#[test]
+fn decode() {
+    let input = run(&["encode", CONSTRAINED], b"").out;
+    let text = fs::read_to_string(CONSTRAINED).expect("the example");
+    let (_, bare) = text.split_once('\n').expect("a comment on the first line");
+    let done = run(&["decode", "--names", CONSTRAINED], &input);
+    assert_eq!((done.code, done.text().as_str()), (Some(0), bare));
+    let done = run(&["decode"], &input);
+    assert_eq!(done.code, Some(0));
+    assert!(done
+        .text()
+        .starts_with("principals P1 = 1, P2 = 2, P4 = 4\n"));
+    // What is behind 4,096 bytes does not count.
+    let mut long = input.clone();
+    long.resize(4096, 0);
+    let done = run(&["decode"], &[long, vec![1; 9]].concat());
+    assert_eq!(done.code, Some(1));
+    assert!(
+        done.err.starts_with("wallet: refused 3 0: "),
+        "{}",
+        done.err
+    );
+}
+
+#[test]
+fn an_input_that_is_refused_has_no_text() {
+    let mut input = run(&["encode", SHOP], b"").out;
+    input[16] = 65;
+    let path = fresh("refused.wallet");
+    let to_file = ["decode", "-o", path.to_str().expect("a path in text")];
+    for arguments in [&to_file[..1], &to_file] {
+        let done = run(arguments, &input);
+        assert_eq!(done.code, Some(1));
+        assert!(done.out.is_empty());
+        let told = "wallet: refused 4 1: credential 1 has a field outside what its kind allows\n";
+        assert_eq!(done.err, told);
+        for input in [&input[..15], &input[..6], b""] {
+            let done = run(arguments, input);
+            assert_eq!(done.code, Some(1));
+            assert!(
+                done.err.starts_with("wallet: refused 1 0: "),
+                "{}",
+                done.err
+            );
+            assert!(done.out.is_empty());
+        }
+    }
+    assert!(!path.exists());
+}
+
+#[test]
+fn verify_and_draw() {
+    for command in ["verify", "draw"] {
+        let accepted = run(&[command, SHOP, "1", "2", "2", "0", "3", "0"], b"");
+        assert_eq!(accepted.code, Some(0));
+        assert!(!accepted.out.is_empty());
+        for record in ["1 2 2 0 3 0", "1,2,2,0,3,0", "1, 2, 2, 0, 3, 0"] {
+            assert_eq!(run(&[command, SHOP, record], b"").out, accepted.out);
+        }
+        let refused = run(&[command, CONSTRAINED, "1", "2", "2", "0", "3", "0"], b"");
+        assert_eq!(refused.code, Some(1));
+        assert!(!refused.out.is_empty());
+        let empty = run(&[command, SHOP], b"");
+        assert_eq!(empty.code, Some(1));
+        wrong(&[command, SHOP, "1", "x"], b"");
+        wrong(&[command, SHOP, "65536"], b"");
+        wrong(&[command, SHOP, "-1"], b"");
+        wrong(&[command, SHOP, "1,,2"], b"");
+    }
+}
+
+#[test]
+fn a_file_instead_of_standard_output() {
+    let path = fresh("shop.input");
+    let name = path.to_str().expect("a path in text");
+    for arguments in [["encode", "-o", name, SHOP], ["encode", SHOP, "-o", name]] {
+        let done = run(&arguments, b"");
+        assert_eq!((done.code, done.out.len()), (Some(0), 0));
+        assert_eq!(
+            fs::read(&path).expect("the file"),
+            run(&["encode", SHOP], b"").out
+        );
+        fs::remove_file(&path).expect("the file is there");
+    }
+    let done = run(&["encode", SHOP, "-o", "/no/such/directory/file"], b"");
+    assert_eq!(done.code, Some(2));
+    assert!(
+        done.err.starts_with("wallet: /no/such/directory/file: "),
+        "{}",
+        done.err
+    );
+}
+
+#[test]
+fn texts_with_a_mistake() {
+    let name = file("mistake.wallet", b"A.r <- B\nA.r <-\n");
+    for command in ["encode", "list", "explain", "verify", "draw"] {
+        let told = wrong(&[command, &name], b"7\n8\nsets 2\n");
+        let expected = format!("wallet: {name}: line 2, column 7: the line ends where ");
+        assert!(told.starts_with(&expected), "{told}");
+    }
+    let input = run(&["encode", SHOP], b"").out;
+    let told = wrong(&["decode", "--names", &name], &input);
+    assert!(
+        told.starts_with(&format!("wallet: {name}: line 2, column 7: ")),
+        "{told}"
+    );
+    let told = wrong(&["list", "-"], b"A.r <- \xff");
+    assert!(
+        told.starts_with("wallet: standard input: line 1, column 8: "),
+        "{told}"
+    );
+}
+
+#[test]
+fn wallets_without_a_query() {
+    let name = file("unasked.wallet", b"A.r <- B\n");
+    for command in ["encode", "list", "explain", "verify", "draw"] {
+        let told = wrong(&[command, &name], b"");
+        assert!(
+            told.ends_with(": the wallet has no query; write a line like `D in A.r within 2`\n")
+        );
+    }
+}
+
+#[test]
+fn outputs_that_the_program_does_not_print() {
+    for output in [
+        "",
+        "7\n",
+        "7\n8\nsets 3\n",
+        "7\n16\nsets 2\n",
+        "x\nsets 1\n",
+        "refused\n",
+    ] {
+        let told = wrong(&["explain", SHOP], output.as_bytes());
+        assert!(
+            told.contains("not what the listing program prints"),
+            "{told}"
+        );
+    }
+    wrong(&["explain", SHOP], b"\xff\nsets 1\n");
+}
+
+#[test]
+fn files_that_cannot_be_read() {
+    let told = wrong(&["list", "/no/such/file"], b"");
+    assert!(told.starts_with("wallet: /no/such/file: "), "{told}");
+    wrong(&["list", env!("CARGO_TARGET_TMPDIR")], b"");
+    let comment = vec![b'#'; (1 << 20) + 1];
+    let told = wrong(&["list", "-"], &comment);
+    assert!(told.contains("longer than 1048576 bytes"), "{told}");
+    wrong(&["list", &file("long.wallet", &comment)], b"");
+    let told = wrong(&["explain", SHOP], &vec![b'7'; (1 << 20) + 1]);
+    assert!(told.contains("longer than 1048576 bytes"), "{told}");
+}
+
+#[test]
+fn calls_that_are_wrong() {
+    let calls: [&[&str]; 12] = [
+        &[],
+        &["lists", SHOP],
+        &["list"],
+        &["list", SHOP, SHOP],
+        &["list", "--all"],
+        &["list", SHOP, "--names", SHOP],
+        &["explain", "-"],
+        &["decode", SHOP],
+        &["decode", "--names"],
+        &["decode", "--names", "-"],
+        &["decode", "--names", SHOP, "--names", SHOP],
+        &["list", SHOP, "-o"],
+    ];
+    for arguments in calls {
+        let done = run(arguments, b"");
+        assert_eq!(done.code, Some(2), "{arguments:?}");
+        assert!(done.out.is_empty(), "{arguments:?}");
+        assert!(
+            done.err.contains("\nusage: wallet encode WALLET"),
+            "{}",
+            done.err
+        );
+    }
+    let help = run(&["--help"], b"");
+    assert_eq!(help.code, Some(0));
+    assert!(help.text().starts_with("usage: wallet encode WALLET"));
+}
+
+#[test]
+fn a_reader_that_has_enough() {
+    let mut child = Command::new(env!("CARGO_BIN_EXE_wallet"))
+        .args(["list", "-"])
+        .stdin(Stdio::piped())
+        .stdout(Stdio::piped())
+        .stderr(Stdio::piped())
+        .spawn()
+        .expect("the tool");
+    // It writes only when it has read everything, and nobody reads by then.
+    drop(child.stdout.take());
+    let mut stdin = child.stdin.take().expect("its standard input");
+    let text = fs::read(SHOP).expect("the example");
+    stdin.write_all(&text).expect("it reads its input");
+    drop(stdin);
+    let output = child.wait_with_output().expect("its end");
+    assert_eq!(output.status.code(), Some(0));
+    assert!(output.stderr.is_empty());
+}
+
+#[cfg(target_os = "linux")]
+#[test]
+fn an_output_that_is_full() {
+    let full = fs::OpenOptions::new().write(true).open("/dev/full");
+    let output = Command::new(env!("CARGO_BIN_EXE_wallet"))
+        .args(["list", SHOP])
+        .stdout(full.expect("/dev/full"))
+        .output()
+        .expect("the tool");
+    assert_eq!(output.status.code(), Some(2));
+    let told = String::from_utf8_lossy(&output.stderr);
+    assert!(told.starts_with("wallet: standard output: "), "{told}");
+    let done = run(&["list", SHOP, "-o", "/dev/full"], b"");
+    assert_eq!(done.code, Some(2));
+    assert!(done.err.starts_with("wallet: /dev/full: "), "{}", done.err);
+}

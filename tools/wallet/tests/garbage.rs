@@ -1,0 +1,194 @@
+//! Anything may be given as a text: it is read, or its mistake is told at a
+//! place that it has; and what is read, the checker accepts.
+
+mod common;
+
+use common::{assert_same, made_up, nameless};
+use reference::random::Random;
+use wallet::parse::parse;
+use wallet::print::print;
+
+/// Reads bytes as a text, and tells whether there was no mistake.
+fn read(bytes: &[u8]) -> bool {
+    match parse(bytes) {
+        Ok(wallet) => {
+            let numbers = wallet.table.numbers();
+            let accepted = match wallet.query {
+                Some(query) => bwlchareg::check_query(&numbers, query),
+                None => bwlchareg::check(&numbers),
+            };
+            assert_eq!(accepted, Ok(()), "{:?}", String::from_utf8_lossy(bytes));
+            let text = print(&wallet);
+            let again = parse(text.as_bytes()).expect("a printed text");
+            assert_same(&again, &wallet, &text);
+            true
+        }
+        Err(mistake) => {
+            let lines: Vec<&[u8]> = bytes.split(|byte| *byte == b'\n').collect();
+            let line = mistake
+                .line
+                .checked_sub(1)
+                .and_then(|index| lines.get(index));
+            let line = line.unwrap_or_else(|| panic!("{mistake}"));
+            assert!((1..=line.len() + 1).contains(&mistake.column), "{mistake}");
+            assert!(mistake.message.contains("; "), "{mistake}");
+            false
+        }
+    }
+}
+
+const SHOP: &[u8] = include_bytes!("../../../examples/shop-constrained.wallet");
+
+/// A text with all kinds of lines.
+const CELLS: &str = "cell 1 = A.r then 2\ncell 2 = B.s\nA.r <- A.r & B.s at cell 1 under c\n\
+    A.r <- A.r & B.s & C.t\nconstraint c\nstart x 0\naccept\nx -- not A.r --> y\n\
+    constraint d\nedges of c\n0 -- C.t --> 15\nD in A.r within 16\nprincipals Z = 64\n";
+
+#[test]
+fn random_bytes() {
+    let mut random = Random::new(1);
+    for _ in 0..4000 {
+        let length = random.below(80);
+        let bytes: Vec<u8> = (0..length).map(|_| random.bits() as u8).collect();
+        read(&bytes);
+    }
+    let signs = b"Ab1_-.<>&=,# \t\n\r";
+    for _ in 0..4000 {
+        let length = random.below(40);
+        let bytes: Vec<u8> = (0..length).map(|_| *random.pick(signs)).collect();
+        read(&bytes);
+    }
+}
+
+#[test]
+fn random_words_of_the_lines() {
+    let words = [
+        "not",
+        "any",
+        "in",
+        "within",
+        "under",
+        "principals",
+        "names",
+        "constraint",
+        "start",
+        "accept",
+        "edges",
+        "cell",
+        "at",
+        "then",
+        "of",
+        "A",
+        "B",
+        "r",
+        "s",
+        "c",
+        "0",
+        "1",
+        "2",
+        "16",
+        "65",
+        "99999999999999999999",
+        ".",
+        ".",
+        ",",
+        "=",
+        "&",
+        "<-",
+        "<-",
+        "--",
+        "-->",
+        "#",
+        "\n",
+        "\n",
+        "\n",
+        "A.r",
+        "B.s",
+        "A.r <- ",
+        "0 -- any --> 1",
+        "constraint c\n",
+        "at cell 1",
+    ];
+    let mut random = Random::new(2);
+    let mut right = 0;
+    for _ in 0..20_000 {
+        let length = random.below(14);
+        let soup: Vec<&str> = (0..length).map(|_| *random.pick(&words)).collect();
+        right += usize::from(read(soup.join(" ").as_bytes()));
+    }
+    assert!(right > 500, "{right}");
+}
+
+#[test]
+fn random_lines_of_right_texts() {
+    let mut lines: Vec<&str> = CELLS.lines().collect();
+    lines.extend(std::str::from_utf8(SHOP).expect("text").lines());
+    let mut random = Random::new(3);
+    let mut right = 0;
+    for _ in 0..10_000 {
+        let count = random.below(12);
+        let chosen: Vec<&str> = (0..count).map(|_| *random.pick(&lines)).collect();
+        right += usize::from(read(chosen.join("\n").as_bytes()));
+    }
+    assert!(right > 500, "{right}");
+}
+
+#[test]
+fn texts_cut_anywhere() {
+    for text in [SHOP, CELLS.as_bytes()] {
+        assert!(read(text));
+        for length in 0..text.len() {
+            read(&text[..length]);
+            read(&text[length..]);
+        }
+    }
+}
+
+#[test]
+fn texts_with_one_character_changed() {
+    let others = "aZ09_-.,=&<># \t\n\r\u{e9}\u{0}%";
+    for text in [std::str::from_utf8(SHOP).expect("text"), CELLS] {
+        let characters: Vec<char> = text.chars().collect();
+        for place in 0..characters.len() {
+            for other in others.chars() {
+                let mut changed = characters.clone();
+                changed[place] = other;
+                read(changed.iter().collect::<String>().as_bytes());
+                changed.insert(place, characters[place]);
+                read(changed.iter().collect::<String>().as_bytes());
+            }
+            let mut shorter = characters.clone();
+            shorter.remove(place);
+            read(shorter.iter().collect::<String>().as_bytes());
+        }
+    }
+}
+
+#[test]
+fn printed_texts_with_bytes_changed() {
+    let mut random = Random::new(4);
+    for _ in 0..3000 {
+        let (numbers, query) = made_up(&mut random);
+        let mut text = print(&nameless(&numbers, Some(query))).into_bytes();
+        for _ in 0..random.between(1, 3) {
+            let place = random.below(text.len());
+            let (known, any) = (*random.pick(&text), random.bits() as u8);
+            text[place] = *random.pick(&[known, any, b'\n', b'0', b' ']);
+        }
+        read(&text);
+    }
+}
+
+#[test]
+fn very_long_lines_and_texts() {
+    let million = 1 << 20;
+    read("A".repeat(million).as_bytes());
+    read("9".repeat(million).as_bytes());
+    read("\n".repeat(million).as_bytes());
+    read(".".repeat(million).as_bytes());
+    read("A.r <- ".repeat(million / 7).as_bytes());
+    read(&[b"A.r <- B.s".to_vec(), b" & B.s".repeat(100_000)].concat());
+    read(&[b"constraint c\nstart".to_vec(), b" 1".repeat(500_000)].concat());
+    read(&[b"principals A = 1".to_vec(), b", A = 1".repeat(100_000)].concat());
+    assert!(read("# A.r\n".repeat(150_000).as_bytes()));
+}

@@ -1,0 +1,105 @@
+//! The listing program and the checker say the same, in the same words: what
+//! `wallet list` says is what `wallet explain` says of the program's output.
+//! `rt check minimal_sets` builds the program, as the gate does before.
+
+mod common;
+
+use std::io::Write;
+use std::path::PathBuf;
+use std::process::{Command, Stdio};
+
+use common::{made_up, nameless, query};
+use reference::generate::{crossed, wallets};
+use reference::random::Random;
+use wallet::answer::{listed, printed, Answer};
+use wallet::explain::explain;
+use wallet::parse::parse;
+use wallet::print::print;
+use wallet::{program, Wallet};
+
+/// What the listing program prints.
+fn run(input: &[u8]) -> String {
+    let path = "../../target/bin/minimal_sets";
+    let path = PathBuf::from(env!("CARGO_MANIFEST_DIR")).join(path);
+    let mut child = Command::new(&path)
+        .stdin(Stdio::piped())
+        .stdout(Stdio::piped())
+        .spawn()
+        .expect("the listing program: build it with `rt check minimal_sets`");
+    let mut stdin = child.stdin.take().expect("its standard input");
+    stdin.write_all(input).expect("it reads its input");
+    drop(stdin);
+    let output = child.wait_with_output().expect("its output");
+    String::from_utf8(output.stdout).expect("text")
+}
+
+/// Compares both ways; tells the answer.
+fn compare(wallet: &Wallet) -> Answer {
+    let query = wallet.query.expect("a query");
+    let text = print(wallet);
+    let wallet = parse(text.as_bytes()).expect("a printed text");
+    let output = run(&program::input(query, &wallet.table.numbers()));
+    let one = printed(&wallet, &output).unwrap_or_else(|wrong| panic!("{wrong}\n{output}"));
+    let other = listed(&wallet, query);
+    assert_eq!(one, other, "{text}");
+    let words = explain(&wallet, query, &one);
+    assert_eq!(words, explain(&wallet, query, &other));
+    assert_words(&words, &wallet, &one);
+    one
+}
+
+/// The words have each set, and each of its credentials with its line.
+fn assert_words(words: &str, wallet: &Wallet, answer: &Answer) {
+    let Answer::Sets(sets) = answer else {
+        assert!(words.starts_with("refused "), "{words}");
+        assert_eq!(words.lines().count(), 1);
+        return;
+    };
+    let blocks: Vec<&str> = words.split("\n\n").skip(1).collect();
+    assert_eq!(blocks.len(), sets.len());
+    for (block, set) in blocks.iter().zip(sets) {
+        let mut lines = block.lines();
+        assert_eq!(lines.next(), Some(format!("set {set}").as_str()));
+        for (index, credential) in wallet.table.credentials.iter().enumerate() {
+            if set & (1 << index) == 0 {
+                continue;
+            }
+            let line = lines.next().expect("a credential").trim_start();
+            let text = wallet.names.credential(&wallet.table, credential);
+            assert!(
+                line.starts_with(&format!("{}  {text}  ", index + 1)),
+                "{line}"
+            );
+            let place = wallet.lines.credentials[index];
+            assert!(line.ends_with(&format!("  line {place}")), "{line}");
+        }
+        let last = lines.next().expect("what it shows");
+        assert!(last.starts_with("  shows "), "{last}");
+        assert_eq!(lines.next(), None);
+    }
+}
+
+#[test]
+fn wallets_with_lists() {
+    let mut random = Random::new(2020);
+    let mut several = 0;
+    for round in 0..200 {
+        let grown = match round % 2 {
+            0 => wallets::made_up(&mut random),
+            _ => crossed::made_up(&mut random),
+        };
+        let wallet = nameless(&grown.records.numbers(), Some(query(grown.query)));
+        let answer = compare(&wallet);
+        several += usize::from(matches!(answer, Answer::Sets(sets) if sets.len() > 1));
+    }
+    assert!(several > 30, "{several}");
+}
+
+#[test]
+fn tables_as_they_come() {
+    let mut random = Random::new(2021);
+    for _ in 0..100 {
+        let (numbers, query) = made_up(&mut random);
+        compare(&nameless(&numbers, Some(query)));
+    }
+}

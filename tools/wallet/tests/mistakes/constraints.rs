@@ -1,0 +1,135 @@
+//! Constraints, their sets of states and their edges.
+
+use crate::{assert_told, at, told, EDGE};
+
+#[test]
+fn constraints_and_their_lines() {
+    let outside = |what: &str| format!("{what} stands outside of a constraint");
+    let above = "write `constraint` and its name above";
+    assert_told(&[
+        ("start 0", &at(1, &outside("`start`"), above)),
+        (" accept", &at(2, &outside("`accept`"), above)),
+        ("0 -- any --> 1", &at(1, &outside("an edge"), above)),
+        (
+            "constraint c\nA.r <- B\n0 -- any --> 1",
+            &format!("line 3, column 1: {}; {above}", outside("an edge")),
+        ),
+        (
+            "constraint",
+            &at(
+                11,
+                "the line ends where a constraint is expected",
+                "write a line like `constraint c`",
+            ),
+        ),
+        (
+            "constraint c d",
+            &at(
+                14,
+                "`d` is too much on this line",
+                "write a line like `constraint c`",
+            ),
+        ),
+        (
+            "constraint c\nconstraint c",
+            "line 2, column 12: `c` is already a constraint, on line 1; \
+             write another word, or put further edges below `edges of`",
+        ),
+        (
+            "A.r <- B under c",
+            &at(
+                16,
+                "no constraint is called `c`",
+                "write the name of one, or a `constraint` line for it",
+            ),
+        ),
+        (
+            "constraint d\nedges of c\nconstraint c",
+            "line 2, column 10: no constraint above is called `c`; \
+             write the name of one, or its `constraint` line above",
+        ),
+        (
+            "edges c",
+            &at(
+                7,
+                "`c` stands where `of` is expected",
+                "write a line like `edges of c`",
+            ),
+        ),
+        (
+            "edges of",
+            &at(
+                9,
+                "the line ends where a constraint is expected",
+                "write a line like `edges of c`",
+            ),
+        ),
+    ]);
+}
+
+#[test]
+fn sets_of_states() {
+    let below = "write it right below `constraint`, above the edges";
+    let start = "write a line like `start 0 2`";
+    assert_told(&[
+        (
+            "constraint c\nstart 0\n0 -- any --> 1\naccept 1",
+            &format!("line 4, column 1: `accept` stands below an edge or `edges of`; {below}"),
+        ),
+        (
+            "constraint c\nedges of c\n start 1",
+            &format!("line 3, column 2: `start` stands below an edge or `edges of`; {below}"),
+        ),
+        (
+            "constraint c\nstart 0\naccept\nstart 1",
+            "line 4, column 1: `start` stands on line 2 already; write all its states there",
+        ),
+        (
+            "constraint c\naccept\naccept",
+            "line 3, column 1: `accept` stands on line 2 already; write all its states there",
+        ),
+        (
+            "constraint c\nstart 0 1 0",
+            "line 2, column 11: state `0` stands on this line twice; leave one of them out",
+        ),
+        (
+            "constraint c\naccept a a",
+            "line 2, column 10: state `a` stands on this line twice; leave one of them out",
+        ),
+        (
+            "constraint c\nstart 0, 1",
+            &format!("line 2, column 8: `,` stands where a state is expected; {start}"),
+        ),
+        (
+            "constraint c\nstart 16",
+            "line 2, column 7: `16` is out of range for a state; write a number from 0 to 15",
+        ),
+    ]);
+}
+
+#[test]
+fn edges() {
+    let in_constraint = |line: &str| told(&format!("constraint c\n{line}"));
+    let expected = |column: usize, what: &str| {
+        format!("line 2, column {column}: the line ends where {what} is expected; {EDGE}")
+    };
+    let stands = |column: usize, sign: &str, what: &str| {
+        format!("line 2, column {column}: `{sign}` stands where {what} is expected; {EDGE}")
+    };
+    assert_eq!(in_constraint("0 --"), expected(5, "a role's owner"));
+    assert_eq!(in_constraint("0 -- A"), expected(7, "`.`"));
+    assert_eq!(in_constraint("0 -- A.r"), expected(9, "`-->`"));
+    assert_eq!(
+        in_constraint("0 -- not -->"),
+        stands(10, "-->", "a role's owner")
+    );
+    assert_eq!(in_constraint("0 -- any -->"), expected(13, "a state"));
+    assert_eq!(in_constraint("0 -- any -- 1"), stands(10, "--", "`-->`"));
+    assert_eq!(in_constraint("0 --> 1"), stands(3, "-->", "`--`"));
+    assert_eq!(in_constraint("0 1 -- any --> 1"), stands(3, "1", "`--`"));
+    assert_eq!(in_constraint("-- any --> 1"), stands(1, "--", "a state"));
+    let much = format!("line 2, column 16: `2` is too much on this line; {EDGE}");
+    assert_eq!(in_constraint("0 -- any --> 1 2"), much);
+    let range = "line 2, column 1: `16` is out of range for a state; write a number from 0 to 15";
+    assert_eq!(in_constraint("16 -- any --> 1"), range);
+}

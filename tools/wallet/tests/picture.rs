@@ -1,0 +1,338 @@
+//! Pictures are well-formed and need nothing besides, and nothing in them
+//! lies upon anything else or beyond the edge.
+
+#[allow(dead_code)]
+mod shown;
+
+use bwlchareg::Query;
+use reference::generate::wide;
+use shown::claims::{made_up, query, wallet};
+use shown::xml::{elements, Element};
+use shown::{constrained_shop, shop, Q};
+use wallet::derivation::{judge, Judged};
+use wallet::svg::{picture, MOST_NODES};
+use wallet::table::Table;
+use wallet::tree::text;
+use wallet::Wallet;
+
+/// Record R of document 01.
+const R: [u16; 6] = [1, 2, 2, 0, 3, 0];
+
+/// A rectangle: left, top, right, foot.
+type Room = [i64; 4];
+
+fn room(element: &Element) -> Room {
+    let [x, y, width, height] = ["x", "y", "width", "height"].map(|name| element.number(name));
+    assert!(width > 0 && height > 0);
+    [x, y, x + width, y + height]
+}
+
+/// Whether two rooms have more in common than an edge.
+fn overlap(one: &Room, other: &Room) -> bool {
+    one[0] < other[2] && other[0] < one[2] && one[1] < other[3] && other[1] < one[3]
+}
+
+/// Whether one room is in another.
+fn within(one: &Room, other: &Room) -> bool {
+    one[0] >= other[0] && one[1] >= other[1] && one[2] <= other[2] && one[3] <= other[3]
+}
+
+/// The room of a line of text. In a fixed-width font a letter is 0.6 of the
+/// size wide; those of some scripts take two places.
+fn text_room(element: &Element) -> Room {
+    let size = match element.attributes.get("font-size") {
+        Some(_) => element.number("font-size"),
+        None => 12,
+    };
+    let columns = element.text.chars();
+    let columns = columns.map(|letter| if letter < '\u{1100}' { 1 } else { 2 });
+    let width = (columns.sum::<i64>() * size * 6 + 9) / 10;
+    let (x, y) = (element.number("x"), element.number("y"));
+    match element.attributes.get("text-anchor") {
+        Some(_) => [x - width, y - size, x, y + 4],
+        None => [x, y - size, x + width, y + 4],
+    }
+}
+
+/// The parts of a picture.
+struct Parts {
+    /// The whole picture.
+    whole: Room,
+    /// The boxes, and what stands under them.
+    boxes: Vec<Room>,
+    /// How many of those are marked.
+    marked: usize,
+    /// The patches under what stands on a branch.
+    patches: Vec<Room>,
+    /// The strokes.
+    strokes: Vec<Room>,
+    /// The lines of text, and what they say.
+    texts: Vec<(Room, String)>,
+    /// The title.
+    title: String,
+}
+
+/// The parts of a picture, which is well-formed and has nothing else.
+fn parts(svg: &str) -> Parts {
+    let elements = elements(svg);
+    let names: Vec<&str> = elements.iter().map(|one| one.name.as_str()).collect();
+    assert_eq!(names[..4], ["svg", "title", "desc", "rect"]);
+    assert_eq!(elements[0].attributes["role"], "img");
+    assert!(elements[1..].iter().all(|element| element.depth == 1));
+    assert!(!svg.contains("href") && !svg.contains("url("));
+    let [width, height] = ["width", "height"].map(|name| elements[0].number(name));
+    let view = format!("0 0 {width} {height}");
+    assert_eq!(elements[0].attributes["viewBox"], view);
+    assert_eq!(room(&elements[3]), [0, 0, width, height]);
+    let mut parts = Parts {
+        whole: [0, 0, width, height],
+        boxes: Vec::new(),
+        marked: 0,
+        patches: Vec::new(),
+        strokes: Vec::new(),
+        texts: Vec::new(),
+        title: elements[1].text.clone(),
+    };
+    for element in &elements[4..] {
+        match element.name.as_str() {
+            "rect" if element.attributes.contains_key("stroke") => {
+                parts.boxes.push(room(element));
+                let marked = element.attributes.contains_key("stroke-width");
+                parts.marked += usize::from(marked);
+            }
+            "rect" => parts.patches.push(room(element)),
+            "line" => parts.strokes.push(stroke(element)),
+            "text" => parts.texts.push((text_room(element), element.text.clone())),
+            other => panic!("an element {other}"),
+        }
+    }
+    parts
+}
+
+/// A stroke, which goes straight down or to the right.
+fn stroke(element: &Element) -> Room {
+    let ends = ["x1", "y1", "x2", "y2"].map(|name| element.number(name));
+    assert!(ends[0] <= ends[2] && ends[1] <= ends[3]);
+    assert!(ends[0] == ends[2] || ends[1] == ends[3]);
+    ends
+}
+
+/// Checks where everything lies in a picture.
+fn check(svg: &str) -> Parts {
+    let parts = parts(svg);
+    let rooms: Vec<&Room> = parts.boxes.iter().chain(&parts.patches).collect();
+    for (index, room) in rooms.iter().enumerate() {
+        assert!(within(room, &parts.whole), "{room:?} in {svg}");
+        for other in &rooms[..index] {
+            assert!(!overlap(room, other), "{room:?} and {other:?} in {svg}");
+        }
+    }
+    for stroke in &parts.strokes {
+        assert!(within(stroke, &parts.whole));
+        let crossed = parts.boxes.iter().find(|room| crosses(stroke, room));
+        assert_eq!(crossed, None, "{stroke:?} in {svg}");
+    }
+    let top = parts.boxes.iter().map(|room| room[1]).min();
+    for (room, text) in &parts.texts {
+        assert!(within(room, &parts.whole), "{text} in {svg}");
+        let above = Some(room[3]) < top;
+        let inside = rooms.iter().filter(|other| within(room, other)).count();
+        assert_eq!(inside, usize::from(!above), "{text} in {svg}");
+    }
+    for (index, (room, text)) in parts.texts.iter().enumerate() {
+        let others = &parts.texts[..index];
+        let upon = others.iter().find(|(other, _)| overlap(room, other));
+        assert_eq!(upon, None, "{text} in {svg}");
+    }
+    parts
+}
+
+/// Whether a stroke goes through the inside of a room.
+fn crosses(stroke: &Room, room: &Room) -> bool {
+    let through = |from: i64, to: i64, low: i64, high: i64| from < high && to > low;
+    if stroke[0] == stroke[2] {
+        let beside = stroke[0] <= room[0] || stroke[0] >= room[2];
+        !beside && through(stroke[1], stroke[3], room[1], room[3])
+    } else {
+        let beside = stroke[1] <= room[1] || stroke[1] >= room[3];
+        !beside && through(stroke[0], stroke[2], room[0], room[2])
+    }
+}
+
+/// Everything that a picture says, with single spaces.
+fn said(parts: &Parts) -> String {
+    let texts: Vec<&str> = parts.texts.iter().map(|(_, text)| text.as_str()).collect();
+    texts.join(" ")
+}
+
+#[test]
+fn the_shops_record_is_drawn() {
+    let wallet = shop();
+    let judged = judge(&wallet, Q, &R);
+    let parts = check(&picture(&wallet, &judged).expect("a picture"));
+    assert_eq!(
+        parts.title,
+        "Ann in Shop.discount within 2: accepted: used set 7 = credentials 1, 2, 3"
+    );
+    assert_eq!(
+        said(&parts),
+        "Ann in Shop.discount within 2 accepted: used set 7 = credentials 1, 2, 3 \
+         middle School \
+         1 Ann in Shop.discount 1: Shop.discount <- Shop.accredited.student \
+         2 School in Shop.accredited 2: Shop.accredited <- School word 1 \
+         3 Ann in School.student 3: School.student <- Ann word 2"
+    );
+    assert_eq!((parts.boxes.len(), parts.marked), (5, 0));
+}
+
+#[test]
+fn rejected_words_are_marked() {
+    let wallet = constrained_shop();
+    let judged = judge(&wallet, Q, &R);
+    let parts = check(&picture(&wallet, &judged).expect("a picture"));
+    let said = said(&parts);
+    for number in [1, 2] {
+        let marked = format!("word {number}: rejected not-for-discounts rejects");
+        assert!(said.contains(&marked), "{said}");
+    }
+    assert_eq!((parts.boxes.len(), parts.marked), (5, 4));
+    assert!(parts.title.contains("refused 14 at 1: "));
+}
+
+#[test]
+fn the_node_at_fault_is_marked() {
+    let wallet = shop();
+    let cases: [(&[u16], &str); 3] = [
+        (&[1, 2, 2, 0], "at fault: no numbers are left for node 3"),
+        (
+            &[1, 4, 2, 0, 3, 0],
+            "at fault: credential 2 names another principal, School",
+        ),
+        (&[], "at fault: no numbers are left for node 1"),
+    ];
+    for (record, reason) in cases {
+        let judged = judge(&wallet, Q, record);
+        let parts = check(&picture(&wallet, &judged).expect("a picture"));
+        let said = said(&parts);
+        assert!(said.contains(reason), "{said}");
+        assert_eq!(parts.marked, 2);
+    }
+    let judged = judge(&wallet, Q, &[4, 0, 1]);
+    let parts = check(&picture(&wallet, &judged).expect("a picture"));
+    assert!(said(&parts).contains("refused 11 at 2: 1 number remains after the tree"));
+    assert_eq!(parts.marked, 0);
+}
+
+#[test]
+fn there_is_nothing_to_draw_of_a_refused_table_or_query() {
+    let wallet = shop();
+    let judged = judge(&wallet, Query { depth: 0, ..Q }, &R);
+    let message = "there is nothing to draw: refused 8 at 4: the query's depth is out of range";
+    assert_eq!(picture(&wallet, &judged), Err(message.to_string()));
+    let mut wallet = shop();
+    wallet.table.credentials[1].automaton = 1;
+    let judged = judge(&wallet, Q, &R);
+    assert!(picture(&wallet, &judged).is_err());
+}
+
+/// A judged record of levels that each have the next one four times.
+fn wide_record(levels: u16) -> (Wallet, Judged) {
+    let numbers = wide::records(levels).numbers();
+    let table = Table::of_numbers(&numbers).expect("an accepted table");
+    let wallet = Wallet {
+        table,
+        ..Wallet::default()
+    };
+    let [principal, owner, name, depth] = wide::query(levels).numbers();
+    let query = Query {
+        principal,
+        owner,
+        name,
+        depth,
+    };
+    let judged = judge(&wallet, query, &wide::record(levels));
+    (wallet, judged)
+}
+
+#[test]
+fn very_large_trees_are_not_drawn() {
+    let (wallet, judged) = wide_record(5);
+    assert_eq!(judged.nodes.len(), 341);
+    check(&picture(&wallet, &judged).expect("a picture"));
+    let (wallet, judged) = wide_record(6);
+    let message = format!("1365 nodes are too many for a picture, which has at most {MOST_NODES}");
+    assert_eq!(picture(&wallet, &judged), Err(message));
+}
+
+/// Names of every length for a wallet's numbers, and with every sign.
+fn name_everything(wallet: &mut Wallet) {
+    let names = [
+        "A",
+        "Shop",
+        "not-for-discounts",
+        "<&>",
+        "\"quoted\" & 'so'",
+        "]]>",
+        "\u{1}\u{85}\t",
+        "\u{5927}\u{5b66}\u{6821}",
+        "a-name-that-is-longer-than-any-line-that-a-box-should-have",
+        "--><script>",
+    ];
+    let name = |number: u16| names[usize::from(number) % names.len()].to_string();
+    wallet.names.principals = (1..=64).map(|number| (number, name(number))).collect();
+    wallet.names.roles = (1..=64).map(|number| (number, name(number + 3))).collect();
+    wallet.names.constraints = (1..=8).map(|number| (number, name(number + 5))).collect();
+}
+
+#[test]
+fn made_up_records_are_drawn() {
+    let (mut drawn, mut marked, mut largest) = (0, 0, 0);
+    made_up(7, 100, |claim| {
+        let Some(mut wallet) = wallet(claim) else {
+            return;
+        };
+        let judged = judge(&wallet, query(claim), &claim.record);
+        if judged.nodes.is_empty() || judged.nodes.len() > MOST_NODES {
+            assert!(picture(&wallet, &judged).is_err());
+            return;
+        }
+        let parts = check(&picture(&wallet, &judged).expect("a picture"));
+        check_content(&wallet, &judged, &parts);
+        drawn += 1;
+        marked += usize::from(parts.marked > 0);
+        largest = largest.max(judged.nodes.len());
+        name_everything(&mut wallet);
+        check(&picture(&wallet, &judged).expect("a picture"));
+    });
+    println!("{drawn} pictures, {marked} with marks, up to {largest} nodes");
+    assert!(drawn > 2_000 && marked > 1_000 && largest > 100);
+}
+
+/// Every node, word and verdict of a record is in its picture.
+fn check_content(wallet: &Wallet, judged: &Judged, parts: &Parts) {
+    let words = wallet::words::words(wallet, judged);
+    let faulty = usize::from(judged.faulty().is_some());
+    let boxes = judged.nodes.len() + words.words.len() + faulty;
+    assert_eq!(parts.boxes.len(), boxes);
+    let rejected = words.words.iter().filter(|word| word.is_rejected());
+    assert_eq!(parts.marked, 2 * (rejected.count() + faulty));
+    let said = said(parts);
+    for number in 1..=words.words.len() {
+        assert!(said.contains(&format!("word {number}")), "{said}");
+    }
+    for node in &judged.nodes {
+        let goal = wallet.names.goal(node.goal.principal, node.goal.role);
+        assert!(said.contains(&goal), "{goal} in {said}");
+    }
+    for automaton in &words.automata {
+        let name = wallet.names.constraint(*automaton);
+        let rejects = said.matches(&format!(" {name} rejects")).count();
+        // The verdict says it once more of the lowest one.
+        let above = u64::from(*automaton);
+        let above = judged.refusal().is_some_and(|one| one.position == above);
+        assert_eq!(rejects, words.rejected(*automaton) + usize::from(above));
+    }
+    let text = text(wallet, judged);
+    let verdict = text.lines().last().unwrap_or_default();
+    assert!(parts.title.ends_with(verdict), "{}", parts.title);
+}

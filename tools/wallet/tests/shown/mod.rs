@@ -1,0 +1,111 @@
+//! Wallets whose records the tests show.
+
+pub mod claims;
+pub mod xml;
+
+use bwlchareg::Query;
+use wallet::names::Names;
+use wallet::table::{Automaton, Body, Cell, Credential, Edge, Label, Role, Table};
+use wallet::{Lines, Wallet};
+
+/// Query Q of document 01: Ann in Shop.discount, depth 2.
+pub const Q: Query = Query {
+    principal: 4,
+    owner: 1,
+    name: 1,
+    depth: 2,
+};
+
+/// A role.
+pub fn role(owner: u16, name: u16) -> Role {
+    Role { owner, name }
+}
+
+/// A credential without a constraint.
+pub fn credential(role: Role, body: Body) -> Credential {
+    Credential {
+        role,
+        body,
+        automaton: 0,
+    }
+}
+
+/// Names with these principals and role names.
+pub fn names(principals: &[(u16, &str)], roles: &[(u16, &str)]) -> Names {
+    let owned = |pairs: &[(u16, &str)]| {
+        let pairs = pairs.iter();
+        pairs
+            .map(|&(number, name)| (number, name.to_string()))
+            .collect()
+    };
+    Names {
+        principals: owned(principals),
+        roles: owned(roles),
+        ..Names::default()
+    }
+}
+
+/// The shop of document 01 with table T.
+pub fn shop() -> Wallet {
+    let linked = Body::Linked {
+        first: 3,
+        second: 2,
+    };
+    let credentials = vec![
+        credential(role(1, 1), linked),
+        credential(role(1, 3), Body::Member(2)),
+        credential(role(2, 2), Body::Member(4)),
+        credential(role(1, 1), Body::Member(4)),
+    ];
+    Wallet {
+        table: Table {
+            credentials,
+            ..Table::default()
+        },
+        query: Some(Q),
+        names: names(
+            &[(1, "Shop"), (2, "School"), (4, "Ann")],
+            &[(1, "discount"), (2, "student"), (3, "accredited")],
+        ),
+        lines: Lines::default(),
+    }
+}
+
+/// The shop with table U, as the text of `docs/WALLET.md` has it.
+pub fn constrained_shop() -> Wallet {
+    let mut wallet = shop();
+    wallet.table.credentials[2].automaton = 1;
+    wallet.table.automata = vec![Automaton {
+        start: 1,
+        accept: 2,
+    }];
+    wallet.table.edges = vec![
+        edge(1, 0, Label::Not(role(1, 1)), 1),
+        edge(1, 1, Label::Any, 1),
+    ];
+    let name = "not-for-discounts".to_string();
+    wallet.names.constraints.insert(1, name);
+    wallet.lines.credentials = vec![5, 6, 7, 8];
+    wallet
+}
+
+/// An edge.
+pub fn edge(automaton: u16, from: u16, label: Label, to: u16) -> Edge {
+    Edge {
+        automaton,
+        from,
+        label,
+        to,
+    }
+}
+
+/// The part cells of one chain with these roles.
+pub fn chain(roles: &[Role]) -> Vec<Cell> {
+    let last = roles.len() as u16;
+    let numbered = (1u16..).zip(roles);
+    let cells = numbered.map(|(number, &role)| Cell {
+        role,
+        next: if number == last { 0 } else { number + 1 },
+    });
+    cells.collect()
+}

@@ -1,0 +1,483 @@
+//! What is printed for a record: the shop of document 01, each kind of
+//! credential, each way in which a record is stopped, and very long records.
+
+#[allow(dead_code)]
+mod shown;
+
+use bwlchareg::{Query, Refusal};
+use reference::generate::wide;
+use shown::{chain, constrained_shop, credential, edge, names, role, shop, Q};
+use wallet::derivation::{judge, Judged};
+use wallet::table::{Automaton, Body, Label, Table};
+use wallet::tree::{text, NODES_SHOWN, REJECTED_SHOWN, WORDS_SHOWN};
+use wallet::Wallet;
+
+/// Record R of document 01.
+const R: [u16; 6] = [1, 2, 2, 0, 3, 0];
+
+fn refused(number: u32, position: u64) -> Option<Refusal> {
+    Some(Refusal { number, position })
+}
+
+/// The lines from the first to the last that are given, which begin with a
+/// bar so that their indentation is seen.
+fn lines(text: &str) -> String {
+    let lines = text.lines().map(str::trim_start);
+    let lines = lines.filter_map(|line| line.strip_prefix('|'));
+    lines.map(|line| format!("{line}\n")).collect()
+}
+
+#[track_caller]
+fn check(wallet: &Wallet, query: Query, record: &[u16], expected: &str) -> Judged {
+    let judged = judge(wallet, query, record);
+    assert_eq!(text(wallet, &judged), lines(expected));
+    judged
+}
+
+#[test]
+fn the_shop_is_accepted() {
+    let judged = check(
+        &shop(),
+        Q,
+        &R,
+        "|Ann in Shop.discount within 2
+         |
+         |   1  Ann in Shop.discount         credential 1: Shop.discount <- Shop.accredited.student; middle School
+         |   2    School in Shop.accredited  credential 2: Shop.accredited <- School
+         |   3    Ann in School.student      credential 3: School.student <- Ann
+         |
+         |words
+         |   1  Shop.discount, Shop.accredited
+         |   2  Shop.discount, School.student
+         |
+         |accepted: used set 7 = credentials 1, 2, 3",
+    );
+    assert_eq!(judged.refusal(), None);
+    check(
+        &shop(),
+        Q,
+        &[4, 0],
+        "|Ann in Shop.discount within 2
+         |
+         |   1  Ann in Shop.discount  credential 4: Shop.discount <- Ann
+         |
+         |words
+         |   1  Shop.discount
+         |
+         |accepted: used set 8 = credential 4",
+    );
+}
+
+#[test]
+fn a_constraint_rejects_the_shops_words() {
+    let judged = check(
+        &constrained_shop(),
+        Q,
+        &R,
+        "|Ann in Shop.discount within 2
+         |
+         |   1  Ann in Shop.discount         credential 1, line 5: Shop.discount <- Shop.accredited.student; middle School
+         |   2    School in Shop.accredited  credential 2, line 6: Shop.accredited <- School
+         |   3    Ann in School.student      credential 3, line 7: School.student <- Ann under not-for-discounts
+         |
+         |words
+         |   1  Shop.discount, Shop.accredited
+         |   2  Shop.discount, School.student
+         |
+         |constraint not-for-discounts, attached to credential 3, accepts in {1}
+         |>> 1  rejected: {0} Shop.discount {} Shop.accredited {}
+         |>> 2  rejected: {0} Shop.discount {} School.student {}
+         |
+         |refused 14 at 1: constraint not-for-discounts rejects 2 of 2 words",
+    );
+    assert_eq!(judged.refusal(), refused(14, 1));
+}
+
+#[test]
+fn a_constraint_that_no_node_uses_is_not_run() {
+    let judged = check(
+        &constrained_shop(),
+        Q,
+        &[4, 0],
+        "|Ann in Shop.discount within 2
+         |
+         |   1  Ann in Shop.discount  credential 4, line 8: Shop.discount <- Ann
+         |
+         |words
+         |   1  Shop.discount
+         |
+         |accepted: used set 8 = credential 4",
+    );
+    assert_eq!(judged.refusal(), None);
+}
+
+#[test]
+fn the_student_may_use_the_constrained_credential() {
+    let query = Query {
+        principal: 4,
+        owner: 2,
+        name: 2,
+        depth: 1,
+    };
+    let mut wallet = constrained_shop();
+    wallet.names.states.insert((1, 0), "begun".to_string());
+    check(
+        &wallet,
+        query,
+        &[3, 0],
+        "|Ann in School.student within 1
+         |
+         |   1  Ann in School.student  credential 3, line 7: School.student <- Ann under not-for-discounts
+         |
+         |words
+         |   1  School.student
+         |
+         |constraint not-for-discounts, attached to credential 3, accepts in {1}
+         |   1  accepted: {begun} School.student {1}
+         |
+         |accepted: used set 4 = credential 3",
+    );
+}
+
+#[test]
+fn a_node_is_too_deep() {
+    let judged = check(
+        &shop(),
+        Query { depth: 1, ..Q },
+        &R,
+        "|Ann in Shop.discount within 1
+         |
+         |   1  Ann in Shop.discount         credential 1: Shop.discount <- Shop.accredited.student; middle School
+         |>> 2    School in Shop.accredited  credential 2: Shop.accredited <- School
+         |>>      level 2 is deeper than the depth limit, 1
+         |
+         |refused 13 at 2: level 2 is deeper than the depth limit, 1",
+    );
+    assert_eq!(judged.refusal(), refused(13, 2));
+}
+
+#[test]
+fn a_record_ends_too_early() {
+    let judged = check(
+        &shop(),
+        Q,
+        &[1, 2, 2, 0],
+        "|Ann in Shop.discount within 2
+         |
+         |   1  Ann in Shop.discount         credential 1: Shop.discount <- Shop.accredited.student; middle School
+         |   2    School in Shop.accredited  credential 2: Shop.accredited <- School
+         |>> 3    Ann in School.student
+         |>>      no numbers are left for node 3
+         |
+         |refused 11 at 3: no numbers are left for node 3",
+    );
+    assert_eq!(judged.refusal(), refused(11, 3));
+    check(
+        &shop(),
+        Q,
+        &[1, 2, 2, 0, 3],
+        "|Ann in Shop.discount within 2
+         |
+         |   1  Ann in Shop.discount         credential 1: Shop.discount <- Shop.accredited.student; middle School
+         |   2    School in Shop.accredited  credential 2: Shop.accredited <- School
+         |>> 3    Ann in School.student      credential 3: School.student <- Ann
+         |>>      only one number is left for node 3
+         |
+         |refused 11 at 3: only one number is left for node 3",
+    );
+    check(
+        &shop(),
+        Q,
+        &[],
+        "|Ann in Shop.discount within 2
+         |
+         |>> 1  Ann in Shop.discount
+         |>>    no numbers are left for node 1
+         |
+         |refused 11 at 1: no numbers are left for node 1",
+    );
+}
+
+#[test]
+fn a_record_goes_on_after_the_tree() {
+    let judged = check(
+        &shop(),
+        Q,
+        &[4, 0, 9],
+        "|Ann in Shop.discount within 2
+         |
+         |   1  Ann in Shop.discount  credential 4: Shop.discount <- Ann
+         |>>    1 number remains after the tree
+         |
+         |refused 11 at 2: 1 number remains after the tree",
+    );
+    assert_eq!(judged.refusal(), refused(11, 2));
+    let judged = judge(&shop(), Q, &[R.as_slice(), &[4, 0]].concat());
+    assert_eq!(judged.refusal(), refused(11, 4));
+    let last = "refused 11 at 4: 2 numbers remain after the tree";
+    assert_eq!(text(&shop(), &judged).lines().last(), Some(last));
+}
+
+#[test]
+fn a_credential_names_another_principal() {
+    let judged = check(
+        &shop(),
+        Q,
+        &[1, 4, 2, 0, 3, 0],
+        "|Ann in Shop.discount within 2
+         |
+         |   1  Ann in Shop.discount      credential 1: Shop.discount <- Shop.accredited.student; middle Ann
+         |>> 2    Ann in Shop.accredited  credential 2: Shop.accredited <- School
+         |>>      credential 2 names another principal, School
+         |
+         |refused 12 at 2: credential 2 names another principal, School",
+    );
+    assert_eq!(judged.refusal(), refused(12, 2));
+}
+
+#[test]
+fn a_node_does_not_fit_its_goal() {
+    let cases: [(&[u16], &str); 5] = [
+        (&[5, 0], "refused 12 at 1: there is no credential 5"),
+        (
+            &[1, 2, 3, 0],
+            "refused 12 at 2: credential 3 defines another role, School.student",
+        ),
+        (
+            &[1, 0],
+            "refused 12 at 1: the middle of credential 1 must be 1 to 64, not 0",
+        ),
+        (
+            &[1, 65],
+            "refused 12 at 1: the middle of credential 1 must be 1 to 64, not 65",
+        ),
+        (
+            &[4, 1],
+            "refused 12 at 1: the middle of credential 4 must be 0, not 1",
+        ),
+    ];
+    for (record, last) in cases {
+        let text = text(&shop(), &judge(&shop(), Q, record));
+        assert_eq!(text.lines().last(), Some(last));
+        assert_eq!(text.matches("\n>>").count(), 2, "{text}");
+    }
+}
+
+#[test]
+fn nothing_is_read_where_the_table_or_the_query_is_refused() {
+    check(
+        &shop(),
+        Query { depth: 17, ..Q },
+        &R,
+        "|Ann in Shop.discount within 17
+         |
+         |refused 8 at 4: the query's depth is out of range",
+    );
+    let mut wallet = shop();
+    wallet.table.credentials[2].body = Body::Parts(9);
+    check(
+        &wallet,
+        Q,
+        &R,
+        "|Ann in Shop.discount within 2
+         |
+         |refused 4 at 3: credential 3 has a field outside what its kind allows",
+    );
+}
+
+/// City.bidder is for those who are City.solvent, City.clean and City.solvent
+/// again; City.clean holds all of Court.clean, and this City.bidder.
+fn tender() -> Wallet {
+    let (bidder, solvent, clean, records) = (role(1, 1), role(1, 2), role(1, 3), role(2, 3));
+    let mut table = Table {
+        credentials: vec![
+            credential(bidder, Body::Parts(1)),
+            credential(solvent, Body::Member(3)),
+            credential(clean, Body::Contained(records)),
+            credential(records, Body::Member(3)),
+            credential(records, Body::Contained(bidder)),
+        ],
+        cells: chain(&[solvent, clean, solvent]),
+        automata: vec![
+            Automaton {
+                start: 1,
+                accept: 5,
+            },
+            Automaton {
+                start: 3,
+                accept: 2,
+            },
+        ],
+        edges: vec![
+            edge(1, 0, Label::Any, 0),
+            edge(1, 0, Label::Not(clean), 2),
+            edge(2, 0, Label::Any, 0),
+            edge(2, 0, Label::Only(solvent), 1),
+        ],
+    };
+    table.credentials[1].automaton = 2;
+    table.credentials[3].automaton = 1;
+    table.credentials[4].automaton = 1;
+    Wallet {
+        table,
+        names: names(
+            &[(1, "City"), (2, "Court"), (3, "Mason")],
+            &[(1, "bidder"), (2, "solvent"), (3, "clean")],
+        ),
+        ..Wallet::default()
+    }
+}
+
+const BID: Query = Query {
+    principal: 3,
+    owner: 1,
+    name: 1,
+    depth: 16,
+};
+
+#[test]
+fn roles_and_intersections_have_their_children() {
+    let judged = check(
+        &tender(),
+        BID,
+        &[1, 0, 2, 0, 3, 0, 4, 0, 2, 0],
+        "|Mason in City.bidder within 16
+         |
+         |   1  Mason in City.bidder      credential 1: City.bidder <- City.solvent & City.clean & City.solvent
+         |   2    Mason in City.solvent   credential 2: City.solvent <- Mason under constraint-2
+         |   3    Mason in City.clean     credential 3: City.clean <- Court.clean
+         |   4      Mason in Court.clean  credential 4: Court.clean <- Mason under constraint-1
+         |   5    Mason in City.solvent   credential 2: City.solvent <- Mason under constraint-2
+         |
+         |words
+         |   1  City.bidder, City.solvent
+         |   2  City.bidder, City.clean, Court.clean
+         |   3  City.bidder, City.solvent
+         |
+         |constraint constraint-1, attached to credential 4, accepts in {0 2}
+         |   1  accepted: {0} City.bidder {0 2} City.solvent {0 2}
+         |   2  accepted: {0} City.bidder {0 2} City.clean {0} Court.clean {0 2}
+         |   3  accepted: {0} City.bidder {0 2} City.solvent {0 2}
+         |
+         |constraint constraint-2, attached to credential 2, accepts in {1}
+         |   1  accepted: {0 1} City.bidder {0} City.solvent {0 1}
+         |>> 2  rejected: {0 1} City.bidder {0} City.clean {0} Court.clean {0}
+         |   3  accepted: {0 1} City.bidder {0} City.solvent {0 1}
+         |
+         |refused 14 at 2: constraint constraint-2 rejects 1 of 3 words",
+    );
+    assert_eq!(judged.refusal(), refused(14, 2));
+}
+
+#[test]
+fn a_role_is_already_on_the_branch() {
+    check(
+        &tender(),
+        BID,
+        &[1, 0, 2, 0, 3, 0, 5, 0, 1, 0, 2, 0, 3, 0, 4, 0, 2, 0, 2, 0],
+        "|Mason in City.bidder within 16
+         |
+         |   1  Mason in City.bidder        credential 1: City.bidder <- City.solvent & City.clean & City.solvent
+         |   2    Mason in City.solvent     credential 2: City.solvent <- Mason under constraint-2
+         |   3    Mason in City.clean       credential 3: City.clean <- Court.clean
+         |   4      Mason in Court.clean    credential 5: Court.clean <- City.bidder under constraint-1
+         |>> 5        Mason in City.bidder  credential 1: City.bidder <- City.solvent & City.clean & City.solvent
+         |>>          the role City.bidder is already on the branch, at node 1
+         |
+         |refused 13 at 5: the role City.bidder is already on the branch, at node 1",
+    );
+}
+
+/// Levels of which each has the next one four times as its premise.
+const LEVELS: u16 = 7;
+
+/// A wallet with that many levels, whose last credential has a constraint.
+fn wide_wallet() -> Wallet {
+    let numbers = wide::records(LEVELS).numbers();
+    let mut table = Table::of_numbers(&numbers).expect("an accepted table");
+    table.automata = vec![Automaton {
+        start: 1,
+        accept: 1,
+    }];
+    table.credentials[usize::from(LEVELS) - 1].automaton = 1;
+    Wallet {
+        table,
+        ..Wallet::default()
+    }
+}
+
+fn wide_query() -> Query {
+    let [principal, owner, name, depth] = wide::query(LEVELS).numbers();
+    Query {
+        principal,
+        owner,
+        name,
+        depth,
+    }
+}
+
+#[test]
+fn long_records_are_shown_in_part() {
+    let mut wallet = wide_wallet();
+    wallet.table.edges = vec![edge(1, 0, Label::Any, 0)];
+    let judged = judge(&wallet, wide_query(), &wide::record(LEVELS));
+    assert_eq!(judged.verdict, Ok(127));
+    let text = text(&wallet, &judged);
+    let nodes = judged.nodes.len() - NODES_SHOWN;
+    let words = 4096 - WORDS_SHOWN;
+    assert_eq!(text.lines().count(), NODES_SHOWN + 2 * WORDS_SHOWN + 11);
+    assert!(text.contains(&format!("\n   ... and {nodes} more nodes\n")));
+    assert!(text.contains(&format!("\n   ... and {words} more words\n")));
+    let rejected = format!("\n   ... and {words} more words, 0 of them rejected\n");
+    assert!(text.contains(&rejected));
+    assert!(!text.contains(">>"));
+}
+
+#[test]
+fn the_first_rejected_words_of_long_records_are_shown() {
+    let mut wallet = wide_wallet();
+    // The last part of level 1 is a role that the constraint rejects, and to
+    // which the last level belongs as well.
+    let detour = role(1, 50);
+    wallet.table.cells[3].role = detour;
+    let again = Body::Contained(role(1, 2));
+    wallet.table.credentials.push(credential(detour, again));
+    wallet.table.edges = vec![edge(1, 0, Label::Not(detour), 0)];
+    let mut record = wide::record(LEVELS);
+    // A quarter of the nodes below the first stand below the detour.
+    let quarter = (record.len() - 2) / 4;
+    let place = record.len() - quarter;
+    record.splice(place..place, [LEVELS + 1, 0]);
+    let query = Query {
+        depth: LEVELS + 1,
+        ..wide_query()
+    };
+    let judged = judge(&wallet, query, &record);
+    assert_eq!(judged.refusal(), refused(14, 1));
+    let text = text(&wallet, &judged);
+    let expected = "\n   ... and 3096 more words, 1024 of them rejected\n>> 3073  rejected:";
+    assert!(text.contains(expected), "{text}");
+    assert_eq!(text.matches("\n>> ").count(), REJECTED_SHOWN);
+}
+
+#[test]
+fn the_node_at_fault_in_a_long_record_is_shown_with_those_above() {
+    let wallet = wide_wallet();
+    let mut record = wide::record(LEVELS);
+    record.truncate(record.len() - 1);
+    let judged = judge(&wallet, wide_query(), &record);
+    let last = wide::nodes(LEVELS);
+    assert_eq!(judged.refusal(), refused(11, last));
+    let text = text(&wallet, &judged);
+    let shown = text
+        .lines()
+        .position(|line| line.starts_with(">>"))
+        .expect("a marked line");
+    // The question, an empty line, the first nodes, how many more there are,
+    // and five nodes between the first and the last.
+    assert_eq!(shown, 2 + NODES_SHOWN + 1 + 5, "{text}");
+    let marked = text.lines().nth(shown).unwrap_or_default();
+    assert!(marked.starts_with(&format!(">> {last}  ")), "{marked}");
+    let more = last as usize - NODES_SHOWN - 6;
+    assert!(text.contains(&format!("\n   ... and {more} more nodes\n")));
+}
