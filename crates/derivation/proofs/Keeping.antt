@@ -21,7 +21,7 @@ use Rattle.derivation.specs.Reading.{Entry, Reading, admitted, entered, 
 use Rattle.derivation.specs.Reading.Entry.{ask, halt}
 use Rattle.derivation.specs.Reading.Reading.{read, stop}
 use Rattle.derivation.specs.Held.{may, stepped}
-use Rattle.derivation.specs.Tally.{Told, everyFrom, numbersTold, tally, tallyOn}
+use Rattle.derivation.specs.Tally.{ReadOn, Told, everyFrom, numbersTold, tally, tallyOn}
 use Rattle.derivation.specs.Tally.Told.{passed, stopped}
 use Rattle.derivation.specs.declared.Step.{Step}
 use Rattle.table.specs.Checks.{WellFormed}
@@ -68,15 +68,21 @@ unfolding tallyOn tally reader readAll usedFrom countFrom everyFrom
 reads-none t zero branch s rec used nodes every = refl
 reads-none t (suc levels) branch s rec used nodes every = refl
 
--- the code's numbers where the first of some goals passed, and where it stopped
-module _ (t : List ℕ) (levels : ℕ) (branch : List Goal) (g : Goal) (goals : List Goal) (s : StateSets) (rec : List ℕ) (used nodes every : ℕ) (rest : List ℕ) (used′ nodes′ every′ refusal : ℕ) (told : numbersTold rest used′ nodes′ every′ refusal ≡ tallyOn t levels branch (g ∷ []) s rec used nodes every) where
-  pub first-passed : refusal ≡ 0 → tallyOn t levels branch goals s rest used′ nodes′ every′ ≡ tallyOn t levels branch (g ∷ goals) s rec used nodes every
-  unfolding tallyOn numbersTold onward pick
-  first-passed h = ap (onward t s (reader t levels branch goals)) (rw h at told) ∙ sym (reads-on t levels branch g goals s rec used nodes every)
+-- the code's reader has read the first of some goals: it passed, or it stopped
+module _ {t : List ℕ} {levels : ℕ} {branch : List Goal} {g : Goal} {s : StateSets} {rec : List ℕ} {used nodes every : ℕ} {rest : List ℕ} {used′ nodes′ every′ refusal : ℕ} (r : ReadOn t levels branch g s rec used nodes every rest used′ nodes′ every′ refusal) (goals : List Goal) where
+  abbrev both : Told
+  both = tallyOn t levels branch (g ∷ goals) s rec used nodes every
 
-  pub first-stopped : (refusal ≡ 0 → ⊥) → stopped refusal nodes′ ≡ tallyOn t levels branch (g ∷ goals) s rec used nodes every
+  split : onward t s (reader t levels branch goals) (tallyOn t levels branch (g ∷ []) s rec used nodes every) ≡ both
+  split = sym (reads-on t levels branch g goals s rec used nodes every)
+
+  pub first-passed : refusal ≡ 0 → tallyOn t levels branch goals s rest used′ nodes′ every′ ≡ both
+  unfolding tallyOn numbersTold onward pick
+  first-passed h = ap (onward t s (reader t levels branch goals)) (rw h at (r .told)) ∙ split
+
+  pub first-stopped : (refusal ≡ 0 → ⊥) → stopped refusal nodes′ ≡ both
   unfolding numbersTold onward pick
-  first-stopped h = ap (onward t s (reader t levels branch goals)) (rw (ne-eqb refusal 0 h) at told) ∙ sym (reads-on t levels branch g goals s rec used nodes every)
+  first-stopped h = ap (onward t s (reader t levels branch goals)) (rw (ne-eqb refusal 0 h) at (r .told)) ∙ split
 
 pub stopped-told : (rest : List ℕ) (used nodes every refusal : ℕ) → (refusal ≡ 0 → ⊥) → numbersTold rest used nodes every refusal ≡ stopped refusal nodes
 unfolding numbersTold pick
@@ -168,8 +174,12 @@ reads-end t levels branch goals rec at nothing rest f h =
     let z = no-goals t levels branch rec at in
     cc
 
-pub node-asks : (t : List ℕ) → WellFormed t → (levels : ℕ) (branch : List Goal) (g : Goal) (s : StateSets) (rec : List ℕ) (used nodes every c m : ℕ) (goals : List Goal) (rest : List ℕ) → premises t g c m ≡ some goals → entry t (may (suc levels) branch g) g rec ≡ ask c m goals rest → tallyOn t levels (g ∷ branch) goals (movedSets t (g .role) s) rest (bitOr used (2 ^ (c - 1))) (suc nodes) (pick (eqb (length goals) 0) (bitAnd every (acceptingSet t (movedSets t (g .role) s))) every) ≡ tallyOn t (suc levels) branch (g ∷ []) s rec used nodes every
+pub node-asks : (t : List ℕ) → WellFormed t → (here levels : ℕ) (branch : List Goal) (g : Goal) (s : StateSets) (rec : List ℕ) (used nodes every c m : ℕ) (goals : List Goal) (rest : List ℕ)
+    → here ≡ suc levels → premises t g c m ≡ some goals → entry t (may here branch g) g rec ≡ ask c m goals rest
+    → tallyOn t levels (g ∷ branch) goals (movedSets t (g .role) s) rest (bitOr used (2 ^ (c - 1))) (suc nodes) (pick (eqb (length goals) 0) (bitAnd every (acceptingSet t (movedSets t (g .role) s))) every)
+    ≡ tallyOn t here branch (g ∷ []) s rec used nodes every
 unfolding tallyOn below ended entered
-node-asks t wf levels branch g s rec used nodes every c m goals rest applies h =
-    rw (one-goal t levels branch g rec (suc nodes), h)
-    (reading-kept t wf g s used nodes every c m goals applies (reader t levels (g ∷ branch) goals rest (suc (suc nodes))) (λ nothing more f e. reads-end t levels (g ∷ branch) goals rest (suc (suc nodes)) nothing more f e))
+node-asks t wf here levels branch g s rec used nodes every c m goals rest one-more applies h =
+    let asked = rw one-more at h in
+    rw (one-more, one-goal t levels branch g rec (suc nodes), asked)
+    (reading-kept t wf g s used nodes every c m goals applies (reader t levels (g ∷ branch) goals rest (suc (suc nodes))) (reads-end t levels (g ∷ branch) goals rest (suc (suc nodes))))
