@@ -9,7 +9,8 @@ use native.Mathlib.Omega.{arith}
 use lib.ListN.{length}
 use Rattle.table.specs.Logic.{pick}
 use Rattle.table.specs.declared.Goal.{Goal}
-use Rattle.derivation.specs.Rules.{fresh, premises}
+use Rattle.table.specs.declared.Query.{Query}
+use Rattle.derivation.specs.Rules.{fresh, goalOf, premises}
 use Rattle.derivation.specs.Forest.{Derives, Forest, countFrom, written}
 use Rattle.derivation.specs.Forest.Forest.{end}
 use Rattle.derivation.specs.Forest.Derives.{done, step}
@@ -18,6 +19,10 @@ use Rattle.derivation.specs.Reading.Entry.{halt}
 use Rattle.derivation.specs.Reading.Reading.{read, stop}
 use Rattle.derivation.specs.DemandTwo.{Stops}
 use Rattle.derivation.specs.DemandTwo.Stops.{short, unfit, deep, again, below, behind}
+
+-- the reading of a whole record for a query: its goal is at level 1, node 1, with nothing above it
+abbrev pub queried : List ℕ → Query → List ℕ → Reading
+queried t q rec = reader t (q .depth) [] (goalOf q ∷ []) rec 1
 
 read-stop : {rest : List ℕ} {f : Forest} {number position : ℕ} → read rest f ≡ stop number position → ⊥
 read-stop e = let z : _≡_ {A = ℕ} 0 1 = cc in omega arith

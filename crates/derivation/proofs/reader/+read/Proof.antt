@@ -5,7 +5,8 @@ use native.Mathlib.Omega.{arith}
 use borrow.Fn.Kinds.{In}
 use borrow.Fn.PlainCycle.{Measures, and, falls, is}
 use denote.Ref.{now}
-use Rattle.derivation.proofs.Onward.{Down, Node, Onward, child-stops, children-read, node-credential, node-halts, node-level, node-long, onward-goes, onward-starts, room-below}
+use Rattle.derivation.proofs.Onward.{Down, Node, Onward, child-stops, children-read, onward-goes, onward-starts, room-below}
+use Rattle.derivation.proofs.Onward.{node-credential, node-halts, node-level, node-long}
 use Rattle.derivation.proofs.reader.+read.{statement}
 use Rattle.derivation.proofs.reader.+read.Tie.{close}
 use Rattle.derivation.specs.Held.{Room, above}
@@ -29,13 +30,27 @@ abbrev read-below : ℕ → In 6 read-kinds.ps
 read-below t = and 6 read-kinds.ps (falls 6 read-kinds.ps _<_ μ-read t) read.Pre
 
 abbrev read-Inv-loop : read-lts.InvT-loop
-read-Inv-loop table rec levels used₀ nodes₀ every₀ refusal₀ stopped below len goals deeper rest₀ i₀ used nodes every refusal rest i = Onward table (levels - 1) (above deeper) goals len below rest₀ used₀ nodes₀ every₀ rest used nodes every refusal i
+read-Inv-loop table rec levels used₀ nodes₀ every₀ refusal₀ stopped below len goals deeper rest₀ i₀ used nodes every refusal rest i =
+    Onward table (levels - 1) (above deeper) goals len below rest₀ used₀ nodes₀ every₀ rest used nodes every refusal i
 
 abbrev read-μ-loop : read-lts.MeasureT-loop
 read-μ-loop table rec levels used₀ nodes₀ every₀ refusal₀ stopped below len goals deeper rest₀ i₀ used nodes every refusal rest i = len - i
 
 abbrev read-claims : ℕ → read-lts.Claims
-read-claims t = (enter-reads.Asked, enter-reads.Learnt, moved-reads.Asked, moved-reads.Learnt, with-credential-reads.Asked, with-credential-reads.Learnt, after-node-reads.Asked, after-node-reads.Learnt, with-reads.Asked, with-reads.Learnt, read-below t, read.Post)
+read-claims t = (
+  enter-reads.Asked,
+  enter-reads.Learnt,
+  moved-reads.Asked,
+  moved-reads.Learnt,
+  with-credential-reads.Asked,
+  with-credential-reads.Learnt,
+  after-node-reads.Asked,
+  after-node-reads.Learnt,
+  with-reads.Asked,
+  with-reads.Learnt,
+  read-below t,
+  read.Post,
+)
 
 -- what is known where a node has been entered, and where its children are to be read
 module _ (t : ℕ) where
@@ -58,9 +73,12 @@ module _ (t : ℕ) where
   entered at = at .before .before .before .before .before .before .before .before
 
   down : (at : Children) → let from = start (entered at) .args in
-      Down (now (from .table)) (from .branch) (from .goal) (from .states) (entered at .before .enter .result) (now (from .used)) (now (from .every))
-      (at .before .with .result) (at .before .before .before .before .before .before .before .moved .result)
-      (at .before .before .before .before .with-credential .result) (at .before .before .after-node .result)
+      let step = entered at .before .enter .result in
+      let deeper = at .before .with .result in
+      let below = at .before .before .before .before .before .before .before .moved .result in
+      let used₀ = at .before .before .before .before .with-credential .result in
+      let every₀ = at .before .before .after-node .result in
+      Down (now (from .table)) (from .branch) (from .goal) (from .states) step (now (from .used)) (now (from .every)) deeper below used₀ every₀
   down at =
       record {
         branches = at .before .with .ensures .1 .1;
@@ -84,23 +102,19 @@ read-add-nodes t c =
 read-enter-requires : (t : ℕ) → read-lts.Need-enter-requires (read-claims t) (read-at t) read.Post read-Inv-loop read-μ-loop
 read-enter-requires t c κs =
     let pre = c .before .before .before .pre in
-    ((pre .1 .0), (pre .1 .1 .0))
+    (pre .1 .0, pre .1 .1 .0)
 
 read-returns : (t : ℕ) → read-lts.Need-returns (read-claims t) (read-at t) read.Post read-Inv-loop read-μ-loop
 read-returns t c = node-halts _ _ (c .before .enter .ensures .1) (c .if1 .taken)
 
 read-moved-requires : (t : ℕ) → read-lts.Need-moved-requires (read-claims t) (read-at t) read.Post read-Inv-loop read-μ-loop
-read-moved-requires t c κs =
-    let pre = c .before .before .before .before .before .pre in
-    (pre .1 .0)
+read-moved-requires t c κs = start t c .pre .1 .0
 
 read-with-credential-requires : (t : ℕ) → read-lts.Need-with-credential-requires (read-claims t) (read-at t) read.Post read-Inv-loop read-μ-loop
 read-with-credential-requires t c κs = node-credential (node t (c .before .before .before))
 
 read-after-node-requires : (t : ℕ) → read-lts.Need-after-node-requires (read-claims t) (read-at t) read.Post read-Inv-loop read-μ-loop
-read-after-node-requires t c κs =
-    let pre = c .before .before .before .before .before .before .before .before .before .before .pre in
-    (pre .1 .0)
+read-after-node-requires t c κs = start t (c .before .before .before .before .before) .pre .1 .0
 
 read-with-requires : (t : ℕ) → read-lts.Need-with-requires (read-claims t) (read-at t) read.Post read-Inv-loop read-μ-loop
 read-with-requires t c κs =
@@ -142,29 +156,30 @@ read-read-requires t c κs =
 
 read-returns-2 : (t : ℕ) → read-lts.Need-returns-2 (read-claims t) (read-at t) read.Post read-Inv-loop read-μ-loop
 read-returns-2 t c =
-    let at = c .before .before .before .before .before .before .before .before .before in
-    let taken = c .before .before .before .before .before .before .before .before .loop-test .taken in
-    child-stops (node t (entered t (at .before))) (down t (at .before)) _ (at .loop .inv) taken (c .before .before .read .ensures) (c .if2 .taken)
+    let inside = c .before .before .before .before .before .before .before .before in
+    let children = inside .before .before in
+    child-stops (node t (entered t children)) (down t children) _ (inside .before .loop .inv)
+    (inside .loop-test .taken) (c .before .before .read .ensures) (c .if2 .taken)
 
 read-add-i : (t : ℕ) → read-lts.Need-add-i (read-claims t) (read-at t) read.Post read-Inv-loop read-μ-loop
 read-add-i t c =
-    let at = c .before .before .before .before .before .before .before .before in
-    omega (arith, at .before .loop .inv .held .fits, at .loop-test .taken)
+    let inside = c .before .before .before .before .before .before .before .before in
+    omega (arith, inside .before .loop .inv .held .fits, inside .loop-test .taken)
 
 read-loop-less : (t : ℕ) → read-lts.Need-loop-less (read-claims t) (read-at t) read.Post read-Inv-loop read-μ-loop
 read-loop-less t c =
-    let loop-test = c .before .before .before .before .before .before .before .before .loop-test in
-    omega (arith, loop-test .taken)
+    let inside = c .before .before .before .before .before .before .before .before in
+    omega (arith, inside .loop-test .taken)
 
 read-loop-again : (t : ℕ) → read-lts.Need-loop-again (read-claims t) (read-at t) read.Post read-Inv-loop read-μ-loop
 read-loop-again t c =
-    let at = c .before .before .before .before .before .before .before .before in
-    onward-goes _ _ _ _ _ _ _ _ _ _ (at .before .loop .inv) (at .loop-test .taken) (c .before .before .read .ensures) (c .if2 .left)
+    let inside = c .before .before .before .before .before .before .before .before in
+    onward-goes _ _ _ _ _ _ _ _ _ _ (inside .before .loop .inv) (inside .loop-test .taken) (c .before .before .read .ensures) (c .if2 .left)
 
 read-returns-3 : (t : ℕ) → read-lts.Need-returns-3 (read-claims t) (read-at t) read.Post read-Inv-loop read-μ-loop
 read-returns-3 t c =
-    let at = c .before .before in
-    children-read (node t (entered t at)) (down t at) _ (c .before .loop .inv) (c .loop-test .left)
+    let children = c .before .before in
+    children-read (node t (entered t children)) (down t children) _ (c .before .loop .inv) (c .loop-test .left)
 
 pub +read-spec : {M : Type 1} → statement M
 +read-spec = close μ-read λ t. read-lts.spec (read-claims t) (read-at t)
