@@ -1,5 +1,5 @@
 -- A node's entry, test by test: rows 11, 12 and 13, and what the code's step says of them.
-use mathlib.Core.Path.{_≡_, refl}
+use mathlib.Core.Path.{_≡_, refl, _∙_}
 use mathlib.Core.List.{List, [], _∷_}
 use mathlib.Core.Bool.{Bool, true, false}
 use mathlib.Core.Option.{none, some}
@@ -8,11 +8,12 @@ use native.Mathlib.Omega.{arith}
 use lib.ListN.{drop, getD, length, take}
 use borrow.Author.Tests.{ne-eqb}
 use Rattle.table.specs.Logic.{pick}
+use Rattle.table.specs.Limits.{mostParts}
 use Rattle.table.specs.declared.Goal.{Goal}
 use Rattle.derivation.specs.Rules.{fresh, premises}
-use Rattle.derivation.specs.Reading.{admitted, entry}
+use Rattle.derivation.specs.Reading.{Entry, admitted, entry}
 use Rattle.derivation.specs.Reading.Entry.{ask, halt}
-use Rattle.derivation.specs.Held.{given, may, stepped}
+use Rattle.derivation.specs.Held.{Halted, Room, given, may, stepped}
 use Rattle.derivation.specs.declared.Premises.{Premises}
 use Rattle.derivation.specs.declared.Step.{Step}
 
@@ -33,9 +34,15 @@ pub given-some : (p : Premises) → p .applies ≡ true → given p ≡ some (ta
 unfolding given pick
 given-some p h = rw h
 
-pub halted-tells : (s : Step) (number : ℕ) (rec : List ℕ) → 0 < number → s .refusal ≡ number → stepped s rec ≡ halt number
+halted-tells : (s : Step) (number : ℕ) (rec : List ℕ) → 0 < number → s .refusal ≡ number → stepped s rec ≡ halt number
 unfolding stepped pick
 halted-tells s number rec some-number h = rw (h, ne-eqb number 0 (omega arith))
+
+-- a step that halts says of the record what its entry says
+pub halts-with : {s : Step} {number : ℕ} {e : Entry} (rec : List ℕ) → 0 < number → Halted s number → halt number ≡ e
+    → Room mostParts (s .len) (s .goals) × (stepped s rec ≡ e)
+halts-with {s} {number} rec some-number halted h =
+    (halted .room, halted-tells s number rec some-number (halted .refusal) ∙ h)
 
 module _ (t : List ℕ) (open′ : Bool) (g : Goal) where
   pub entry-short : (rec : List ℕ) → length rec < 2 → halt 11 ≡ entry t open′ g rec
@@ -44,7 +51,8 @@ module _ (t : List ℕ) (open′ : Bool) (g : Goal) where
   entry-short (c ∷ []) h = refl
   entry-short (c ∷ m ∷ rest) h = absurd (omega arith)
 
-  entry-two : (rec : List ℕ) → 2 ≤ length rec → entry t open′ g rec ≡ admitted open′ (getD rec 0 0) (getD rec 1 0) (drop 2 rec) (premises t g (getD rec 0 0) (getD rec 1 0))
+  entry-two : (rec : List ℕ) → 2 ≤ length rec
+      → entry t open′ g rec ≡ admitted open′ (getD rec 0 0) (getD rec 1 0) (drop 2 rec) (premises t g (getD rec 0 0) (getD rec 1 0))
   unfolding entry length getD drop
   entry-two [] h = absurd (omega arith)
   entry-two (c ∷ []) h = absurd (omega arith)
@@ -55,10 +63,12 @@ module _ (t : List ℕ) (open′ : Bool) (g : Goal) where
     unfolding admitted
     entry-unfit h = rw (entry-two rec long, h)
 
-    pub entry-closed : {goals : List Goal} → premises t g (getD rec 0 0) (getD rec 1 0) ≡ some goals → open′ ≡ false → halt 13 ≡ entry t open′ g rec
+    pub entry-closed : {goals : List Goal} → premises t g (getD rec 0 0) (getD rec 1 0) ≡ some goals
+        → open′ ≡ false → halt 13 ≡ entry t open′ g rec
     unfolding admitted pick
     entry-closed h shut = rw (entry-two rec long, h, shut)
 
-    pub entry-asks : {goals : List Goal} → premises t g (getD rec 0 0) (getD rec 1 0) ≡ some goals → open′ ≡ true → ask (getD rec 0 0) (getD rec 1 0) goals (drop 2 rec) ≡ entry t open′ g rec
+    pub entry-asks : {goals : List Goal} → premises t g (getD rec 0 0) (getD rec 1 0) ≡ some goals
+        → open′ ≡ true → ask (getD rec 0 0) (getD rec 1 0) goals (drop 2 rec) ≡ entry t open′ g rec
     unfolding admitted pick
     entry-asks h free = rw (entry-two rec long, h, free)
