@@ -1,5 +1,5 @@
 -- A node's entry, test by test: rows 11, 12 and 13, and what the code's step says of them.
-use mathlib.Core.Path.{_≡_, refl, _∙_}
+use mathlib.Core.Path.{_≡_, refl, ap, _∙_}
 use mathlib.Core.List.{List, [], _∷_}
 use mathlib.Core.Bool.{Bool, true, false}
 use mathlib.Core.Option.{none, some}
@@ -34,15 +34,20 @@ pub given-some : (p : Premises) → p .applies ≡ true → given p ≡ some (ta
 unfolding given pick
 given-some p h = rw h
 
-halted-tells : (s : Step) (number : ℕ) (rec : List ℕ) → 0 < number → s .refusal ≡ number → stepped s rec ≡ halt number
+-- the code's step says how a node is entered
+pub step-halts : (s : Step) (rec : List ℕ) → (s .refusal ≡ 0 → ⊥) → stepped s rec ≡ halt (s .refusal)
 unfolding stepped pick
-halted-tells s number rec some-number h = rw (h, ne-eqb number 0 (omega arith))
+step-halts s rec h = rw (ne-eqb (s .refusal) 0 h)
+
+pub step-asks : (s : Step) (rec : List ℕ) → s .refusal ≡ 0 → stepped s rec ≡ ask (s .credential) (s .middle) (take (s .len) (s .goals)) (drop 2 rec)
+unfolding stepped pick
+step-asks s rec h = rw h
 
 -- a step that halts says of the record what its entry says
 pub halts-with : {s : Step} {number : ℕ} {e : Entry} (rec : List ℕ) → 0 < number → Halted s number → halt number ≡ e
     → Room mostParts (s .len) (s .goals) × (stepped s rec ≡ e)
 halts-with {s} {number} rec some-number halted h =
-    (halted .room, halted-tells s number rec some-number (halted .refusal) ∙ h)
+    (halted .room, step-halts s rec (λ z. omega (arith, halted .refusal)) ∙ ap halt (halted .refusal) ∙ h)
 
 module _ (t : List ℕ) (open′ : Bool) (g : Goal) where
   pub entry-short : (rec : List ℕ) → length rec < 2 → halt 11 ≡ entry t open′ g rec

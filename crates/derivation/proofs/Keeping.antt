@@ -25,6 +25,7 @@ use Rattle.derivation.specs.Tally.{ReadOn, Told, everyFrom, numbersTold,
 use Rattle.derivation.specs.Tally.Told.{passed, stopped}
 use Rattle.derivation.specs.declared.Step.{Step}
 use Rattle.table.specs.Checks.{WellFormed}
+use Rattle.derivation.proofs.Readings.{reader-end}
 use Rattle.derivation.proofs.Applying.{applies-role, asks-more, asks-nothing}
 
 pub count-next : (n : ℕ) (f : Forest) → countFrom (suc n) f ≡ suc (countFrom n f)
@@ -92,15 +93,6 @@ pub passed-told : (rest : List ℕ) (used nodes every refusal : ℕ) → refusal
 unfolding numbersTold pick
 passed-told rest used nodes every refusal h = rw h
 
--- the code's step says how a node is entered
-pub step-halts : (s : Step) (rec : List ℕ) → (s .refusal ≡ 0 → ⊥) → stepped s rec ≡ halt (s .refusal)
-unfolding stepped pick
-step-halts s rec h = rw (ne-eqb (s .refusal) 0 h)
-
-pub step-asks : (s : Step) (rec : List ℕ) → s .refusal ≡ 0 → stepped s rec ≡ ask (s .credential) (s .middle) (take (s .len) (s .goals)) (drop 2 rec)
-unfolding stepped pick
-step-asks s rec h = rw h
-
 -- a node that is entered: a level is left, two numbers are there, the credential applies, and the role is new
 pub record Asks (t : List ℕ) (levels : ℕ) (branch : List Goal) (g : Goal) (rec : List ℕ) (c m : ℕ) (goals : List Goal) (rest : List ℕ) : Type 0 where
   pub level : 1 ≤ levels
@@ -134,7 +126,9 @@ module _ (t : List ℕ) (levels : ℕ) (branch : List Goal) (g : Goal) (c m : �
   entry-asked (x ∷ y ∷ more) h = admitted-asks x y more (premises t g x y) refl (may levels branch g) refl h
 
 -- one goal: the reader at a level goes by the node's entry
-one-goal : (t : List ℕ) (levels : ℕ) (branch : List Goal) (g : Goal) (rec : List ℕ) (at : ℕ) → reader t (suc levels) branch (g ∷ []) rec at ≡ entered at (reader t levels (g ∷ branch)) (λ rest later. read rest end) (entry t (may (suc levels) branch g) g rec)
+one-goal : (t : List ℕ) (levels : ℕ) (branch : List Goal) (g : Goal) (rec : List ℕ) (at : ℕ)
+    → reader t (suc levels) branch (g ∷ []) rec at
+    ≡ entered at (reader t levels (g ∷ branch)) (λ rest later. read rest end) (entry t (may (suc levels) branch g) g rec)
 unfolding reader readAll may
 one-goal t levels branch g rec at = refl
 
@@ -162,16 +156,10 @@ module _ (t : List ℕ) (wf : WellFormed t) (g : Goal) (s : StateSets) (used nod
   reading-kept goals applies (read rest f) leaf = rw (children-kept goals applies rest f (λ none-asked. leaf none-asked rest f refl))
   reading-kept goals applies (stop number at) leaf = refl
 
--- nothing is read for no goals
-no-goals : (t : List ℕ) (levels : ℕ) (branch : List Goal) (rec : List ℕ) (at : ℕ) → reader t levels branch [] rec at ≡ read rec end
-unfolding reader readAll
-no-goals t zero branch rec at = refl
-no-goals t (suc levels) branch rec at = refl
-
 reads-end : (t : List ℕ) (levels : ℕ) (branch goals : List Goal) (rec : List ℕ) (at : ℕ) → goals ≡ [] → (rest : List ℕ) (f : Forest) → reader t levels branch goals rec at ≡ read rest f → f ≡ end
 reads-end t levels branch goals rec at nothing rest f h =
     let e = rw nothing at h in
-    let z = no-goals t levels branch rec at in
+    let z = reader-end t branch rec at levels in
     cc
 
 pub node-asks : (t : List ℕ) → WellFormed t → (here levels : ℕ) (branch : List Goal) (g : Goal) (s : StateSets) (rec : List ℕ) (used nodes every c m : ℕ) (goals : List Goal) (rest : List ℕ)

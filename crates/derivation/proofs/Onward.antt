@@ -24,7 +24,8 @@ use Rattle.derivation.specs.Tally.Told.{passed, stopped}
 use Rattle.derivation.specs.declared.Branch.{Branch}
 use Rattle.derivation.specs.declared.Step.{Step}
 use Rattle.derivation.proofs.Applying.{applies-numbered}
-use Rattle.derivation.proofs.Keeping.{Asks, entry-asked, first-passed, first-stopped, node-asks, node-stops, passed-told, reads-none, step-asks, step-halts, stopped-told}
+use Rattle.derivation.proofs.Entering.{step-asks, step-halts}
+use Rattle.derivation.proofs.Keeping.{Asks, entry-asked, first-passed, first-stopped, node-asks, node-stops, passed-told, reads-none, stopped-told}
 
 -- the goals from the i-th on
 goals-from : (goals : List Goal) (len i : ℕ) → i < len → len ≤ length goals

@@ -19,6 +19,7 @@ use Rattle.derivation.specs.Reading.Entry.{halt}
 use Rattle.derivation.specs.Reading.Reading.{read, stop}
 use Rattle.derivation.specs.DemandTwo.{Stops}
 use Rattle.derivation.specs.DemandTwo.Stops.{short, unfit, deep, again, below, behind}
+use Rattle.derivation.proofs.Entering.{entry-short}
 
 -- the reading of a whole record for a query: its goal is at level 1, node 1, with nothing above it
 abbrev pub queried : List ℕ → Query → List ℕ → Reading
@@ -29,7 +30,7 @@ read-stop e = let z : _≡_ {A = ℕ} 0 1 = cc in omega arith
 
 -- the reader by its first goal
 module _ (t : List ℕ) (branch : List Goal) (rec : List ℕ) (at : ℕ) where
-  reader-end : (levels : ℕ) → reader t levels branch [] rec at ≡ read rec end
+  pub reader-end : (levels : ℕ) → reader t levels branch [] rec at ≡ read rec end
   unfolding reader readAll
   reader-end zero = refl
   reader-end (suc levels) = refl
@@ -131,12 +132,6 @@ reader-complete {t} (step {levels} {c} {m} {branch} {goals} {rest = later} {g} {
     rw (append-assoc (written children) (written siblings) rest, passes t levels c m branch goals later g (written children ++ (written siblings ++ rest)) at fits new, reader-complete d (written siblings ++ rest) (suc at), reader-complete s rest (countFrom (suc at) children))
 
 -- a node that halts whatever its level and branch
-entry-short : (t : List ℕ) (g : Goal) (rec : List ℕ) (may : Bool) → length rec < 2 → entry t may g rec ≡ halt 11
-unfolding entry
-entry-short t g [] may few = refl
-entry-short t g (c ∷ []) may few = refl
-entry-short t g (c ∷ m ∷ rec) may few = absurd (omega arith)
-
 halts : (t : List ℕ) (levels : ℕ) (branch later : List Goal) (g : Goal) (rec : List ℕ) (at number : ℕ) → ((may : Bool) → entry t may g rec ≡ halt number) → reader t levels branch (g ∷ later) rec at ≡ stop number at
 unfolding entered
 halts t zero branch later g rec at number refuses = rw (reader-floor t branch rec at g later, refuses false)
@@ -146,7 +141,7 @@ halts t (suc levels) branch later g rec at number refuses =
 pub reader-stops : {t : List ℕ} {levels : ℕ} {branch goals : List Goal} {rec : List ℕ} {at number position : ℕ} → Stops t levels branch goals rec at number position → reader t levels branch goals rec at ≡ stop number position
 unfolding entered entry admitted pick followed joined
 reader-stops {t} (short {levels} {at} {branch} {later} {g} {rec} few) =
-    halts t levels branch later g rec at 11 (λ may. entry-short t g rec may few)
+    halts t levels branch later g rec at 11 (λ may. sym (entry-short t may g rec few))
 reader-stops {t} (unfit {levels} {at} {c} {m} {branch} {later} {g} {rec} lacks) =
     halts t levels branch later g (c ∷ m ∷ rec) at 12 (λ may. rw lacks)
 reader-stops {t} (deep {at} {c} {m} {branch} {goals} {later} {g} {rec} fits) =

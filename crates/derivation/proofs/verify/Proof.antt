@@ -2,7 +2,6 @@
 use mathlib.Core.Path.{_∙_, ap, sym}
 use borrow.Author.Needs.{needs}
 use Rattle.derivation.proofs.Judged.{refused-then}
-use Rattle.derivation.specs.Held.{given}
 use Rattle.derivation.specs.Verdict.{verdict, verdictTold}
 use Rattle.table.proofs.Stages.{then-on}
 use Rattle.table.proofs.WellFormed.{request-accepted}

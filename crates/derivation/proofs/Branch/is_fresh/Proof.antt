@@ -6,7 +6,7 @@ use native.Mathlib.Omega.{arith}
 use borrow.Author.Needs.{needs}
 use Rattle.derivation.proofs.Above.{fresh-next, fresh-not}
 use Rattle.derivation.specs.Held.{above, upTo}
-use Rattle.derivation.specs.Rules.{fresh, goal}
+use Rattle.derivation.specs.Rules.{fresh}
 use Rattle.derivation.proofs.Branch.is_fresh.Statement.{statement}
 use Rattle.derivation.proofs.Branch.is_fresh.Tie as tie
 

@@ -6,8 +6,6 @@ use borrow.Author.Needs.{needs}
 use borrow.Author.Tests.{eq-eqb, ne-eqb}
 use Rattle.derivation.proofs.Asking.{Asked, asked-all, asked-more, asked-none, when-off, when-on}
 use Rattle.derivation.specs.Held.{given}
-use Rattle.derivation.specs.Rules.{goal}
-use Rattle.table.specs.Layout.{chain}
 use Rattle.table.specs.Logic.{pick}
 use mathlib.Core.Option.{some}
 use Rattle.derivation.proofs.rules.intersection.Statement.{statement}

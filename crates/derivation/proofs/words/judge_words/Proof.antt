@@ -7,7 +7,6 @@ use denote.Ref.{now}
 use Rattle.derivation.proofs.Judged.{kept-flag, refused-then}
 use Rattle.derivation.specs.Tally.{keeps}
 use Rattle.derivation.specs.Verdict.{verdictTold}
-use Rattle.table.proofs.Sizes.{counted}
 use Rattle.table.proofs.Stages.{each-passes, each-stops, each-through, then-on}
 use Rattle.table.proofs.Tests.{failed, passed}
 use Rattle.table.proofs.WellFormed.{wf-sized}
