@@ -23,21 +23,25 @@ up-to-set goals g len zero h = refl
 up-to-set goals g len (suc n) h =
     rw (getD-set-other goals len n g noGoal (λ e. omega arith), up-to-set goals g len n (omega arith))
 
-pub above-with : (b : Branch) (g : Goal) → Room mostDepth (b .len) (b .goals) → b .len < mostDepth → above (record { len = b .len + 1; goals = set (b .goals) (b .len) g }) ≡ g ∷ above b
+pub above-with : (b : Branch) (g : Goal) → Room mostDepth (b .len) (b .goals) → b .len < mostDepth
+    → above (record { len = b .len + 1; goals = set (b .goals) (b .len) g }) ≡ g ∷ above b
 unfolding above upTo
 above-with b g room less =
     rw (add-one (b .len), getD-set-same (b .goals) (b .len) g noGoal (omega (arith, room .size)), up-to-set (b .goals) g (b .len) (b .len) (omega arith))
 
-pub room-with : (b : Branch) (g : Goal) → Room mostDepth (b .len) (b .goals) → b .len < mostDepth → Room mostDepth (b .len + 1) (set (b .goals) (b .len) g)
+pub room-with : (b : Branch) (g : Goal) → Room mostDepth (b .len) (b .goals) → b .len < mostDepth
+    → Room mostDepth (b .len + 1) (set (b .goals) (b .len) g)
 room-with b g room less = record { fits = omega arith; size = simp length-set (room .size) }
 
 -- the goals below i are of other roles, and so is goal i
-pub fresh-next : (goals : List Goal) (g : Goal) (i : ℕ) → fresh (upTo goals i) g ≡ true → sameRole (getD goals i noGoal .role) (g .role) ≡ false → fresh (upTo goals (i + 1)) g ≡ true
+pub fresh-next : (goals : List Goal) (g : Goal) (i : ℕ) → fresh (upTo goals i) g ≡ true
+    → sameRole (getD goals i noGoal .role) (g .role) ≡ false → fresh (upTo goals (i + 1)) g ≡ true
 unfolding upTo fresh _and_
 fresh-next goals g i so-far other = rw (add-one i, other) so-far
 
 -- goal i is of the same role
-pub fresh-not : (goals : List Goal) (g : Goal) (i n : ℕ) → i + 1 ≤ n → sameRole (getD goals i noGoal .role) (g .role) ≡ true → fresh (upTo goals n) g ≡ false
+pub fresh-not : (goals : List Goal) (g : Goal) (i n : ℕ) → i + 1 ≤ n → sameRole (getD goals i noGoal .role) (g .role) ≡ true
+    → fresh (upTo goals n) g ≡ false
 unfolding upTo fresh _and_
 fresh-not goals g i zero h same = absurd (omega arith)
 fresh-not goals g i (suc n) h same =

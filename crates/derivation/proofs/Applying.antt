@@ -26,7 +26,8 @@ same-role r s h = ap₂ role (eqb-true _ _ (and-first _ _ h)) (eqb-true _ _ (and
 pub none-some : {goals : List Goal} → none ≡ some goals → ⊥
 none-some e = let z : _≡_ {A = ℕ} 0 1 = cc in omega arith
 
-pub picked : (test : Bool) (asked : Option (List Goal)) (goals : List Goal) → pick test asked none ≡ some goals → (test ≡ true) × (asked ≡ some goals)
+pub picked : (test : Bool) (asked : Option (List Goal)) (goals : List Goal) → pick test asked none ≡ some goals
+    → (test ≡ true) × (asked ≡ some goals)
 unfolding pick
 picked true asked goals h = (refl, h)
 picked false asked goals h = absurd (none-some h)
@@ -63,7 +64,8 @@ some-parts t f first long e = go (chain t first) long e
     go (j ∷ more) few e = cons-nil e
 
 -- something is asked, so the kind is not 1
-pub asks-more : (t : List ℕ) (g : Goal) (c m : ℕ) (h : Goal) (goals : List Goal) → premises t g c m ≡ some (h ∷ goals) → credential t c .kind ≡ 1 → ⊥
+pub asks-more : (t : List ℕ) (g : Goal) (c m : ℕ) (h : Goal) (goals : List Goal) → premises t g c m ≡ some (h ∷ goals)
+    → credential t c .kind ≡ 1 → ⊥
 asks-more t g c m h goals applies one =
     cons-nil (sym (when-some _ [] (h ∷ goals) (asks-1 t g (credential t c) m one ∙ applies-asks t g c m (h ∷ goals) applies)))
 

@@ -92,7 +92,8 @@ pub record Asked (g : Goal) (roles : List Role) (goals : List Goal) (i : ℕ) : 
   pub so-far : take i goals ≡ map (λ (r : Role). goal (g .principal) r) (take i roles)
 
 -- one part more: role r of the chain stands at i
-pub asked-more : (g : Goal) (roles : List Role) (goals : List Goal) (i : ℕ) (d : Role) → Asked g roles goals i → i < mostParts → i < length roles → Asked g roles (set goals i (goal (g .principal) (getD roles i d))) (i + 1)
+pub asked-more : (g : Goal) (roles : List Role) (goals : List Goal) (i : ℕ) (d : Role) → Asked g roles goals i → i < mostParts
+    → i < length roles → Asked g roles (set goals i (goal (g .principal) (getD roles i d))) (i + 1)
 asked-more g roles goals i d a room there =
     record {
       size = simp length-set (a .size);
@@ -104,11 +105,13 @@ pub asked-none : (g : Goal) (roles : List Role) (goals : List Goal) → length g
 unfolding take
 asked-none g roles goals size = record { size = size; so-far = refl }
 
-pub asked-all : (g : Goal) (roles : List Role) (goals : List Goal) (i len : ℕ) → i ≡ len → Asked g roles goals i → take len goals ≡ map (λ (r : Role). goal (g .principal) r) (take len roles)
+pub asked-all : (g : Goal) (roles : List Role) (goals : List Goal) (i len : ℕ) → i ≡ len → Asked g roles goals i
+    → take len goals ≡ map (λ (r : Role). goal (g .principal) r) (take len roles)
 asked-all g roles goals i len all a = rw all at (a .so-far)
 
 -- an intersection's first cell is there, and its chain has 2 to 4 cells; the code has read credential c as x
-pub chain-there : (t : List ℕ) → WellFormed t → (c : ℕ) → Numbered (credentials t) c → (x : Credential) → x ≡ credential t c → x .kind ≡ 4 → Numbered (cells t) (x .first) × (chainOk t (x .first) ≡ true)
+pub chain-there : (t : List ℕ) → WellFormed t → (c : ℕ) → Numbered (credentials t) c → (x : Credential) → x ≡ credential t c
+    → x .kind ≡ 4 → Numbered (cells t) (x .first) × (chainOk t (x .first) ≡ true)
 chain-there t wf c there x read four =
     let kind = ap (λ (y : Credential). y .kind) (sym read) ∙ four in
     rw read (wf-credential t wf c there .intersection kind .0, wf-chain-ok t wf c there kind)

@@ -39,7 +39,8 @@ pub step-halts : (s : Step) (rec : List ℕ) → (s .refusal ≡ 0 → ⊥) → 
 unfolding stepped pick
 step-halts s rec h = rw (ne-eqb (s .refusal) 0 h)
 
-pub step-asks : (s : Step) (rec : List ℕ) → s .refusal ≡ 0 → stepped s rec ≡ ask (s .credential) (s .middle) (take (s .len) (s .goals)) (drop 2 rec)
+pub step-asks : (s : Step) (rec : List ℕ) → s .refusal ≡ 0
+    → stepped s rec ≡ ask (s .credential) (s .middle) (take (s .len) (s .goals)) (drop 2 rec)
 unfolding stepped pick
 step-asks s rec h = rw h
 

@@ -38,22 +38,26 @@ use Rattle.derivation.proofs.Readings.{queried, reader-sound}
 use Rattle.derivation.proofs.Keeping.{count-next}
 use Rattle.derivation.proofs.Judging.{words-judged}
 
-pub automaton-few : (t : List ℕ) → WellFormed t → (i : ℕ) → Numbered (credentials t) i → (x : Credential) → x ≡ credential t i → x .automaton ≤ mostAutomata
+pub automaton-few : (t : List ℕ) → WellFormed t → (i : ℕ) → Numbered (credentials t) i → (x : Credential) → x ≡ credential t i
+    → x .automaton ≤ mostAutomata
 automaton-few t wf i there x found =
     let own = wf-credential t wf i there .automaton in
     let few = wf-sized t wf .counted .fewAutomata in
     rw found (omega arith)
 
 -- one credential more, which the code has read as x
-pub automata-next : (t : List ℕ) (S i mask : ℕ) (x : Credential) → x ≡ credential t (i + 1) → mask ≡ automataUpTo t S i → pick (eqb (S / 2 ^ i % 2) 1 and not (eqb (x .automaton) 0)) (bitOr mask (2 ^ (x .automaton - 1))) mask ≡ automataUpTo t S (i + 1)
+pub automata-next : (t : List ℕ) (S i mask : ℕ) (x : Credential) → x ≡ credential t (i + 1) → mask ≡ automataUpTo t S i
+    → pick (eqb (S / 2 ^ i % 2) 1 and not (eqb (x .automaton) 0)) (bitOr mask (2 ^ (x .automaton - 1))) mask ≡ automataUpTo t S (i + 1)
 unfolding automataUpTo inSet
 automata-next t S i mask x found so-far = rw (found, so-far, add-one i)
 
-pub refused-then : {o : Outcome} {number position : ℕ} (later : Outcome) → refused number position ≡ o → refused number position ≡ (o andThen later)
+pub refused-then : {o : Outcome} {number position : ℕ} (later : Outcome) → refused number position ≡ o
+    → refused number position ≡ (o andThen later)
 unfolding _andThen_
 refused-then later h = rw (← h)
 
-pub kept-flag : (t : List ℕ) (used every imposed k : ℕ) → imposed ≡ automataOf t used → (not (inSet imposed (k - 1)) or inSet every (k - 1)) ≡ keeps t used every k
+pub kept-flag : (t : List ℕ) (used every imposed k : ℕ) → imposed ≡ automataOf t used
+    → (not (inSet imposed (k - 1)) or inSet every (k - 1)) ≡ keeps t used every k
 unfolding keeps
 kept-flag t used every imposed k h = rw h
 
@@ -105,7 +109,8 @@ pub record Begins (t : List ℕ) (q : Query) (levels : ℕ) (branch : List Goal)
   pub starting : s ≡ startingSets t
 
 -- reading stops with 11, 12 or 13 alone
-stop-number : {t : List ℕ} {levels at number position : ℕ} {branch goals : List Goal} {rec : List ℕ} → Stops t levels branch goals rec at number position → (11 ≤ number) × (number ≤ 13)
+stop-number : {t : List ℕ} {levels at number position : ℕ} {branch goals : List Goal} {rec : List ℕ}
+    → Stops t levels branch goals rec at number position → (11 ≤ number) × (number ≤ 13)
 stop-number (short h) = (omega arith, omega arith)
 stop-number (unfit h) = (omega arith, omega arith)
 stop-number (deep h) = (omega arith, omega arith)
@@ -131,7 +136,9 @@ words-verdict t wf q rec f used every whole uses judges =
     (ap (λ (o : Outcome). o andThen accepted (usedFrom 0 f)) (words-judged t (q .depth) [] (goalOf q ∷ []) f wf derives))
 
 -- the code's numbers after the whole record
-module _ {t : List ℕ} {q : Query} {levels : ℕ} {branch : List Goal} {g : Goal} {s : StateSets} {rec rest : List ℕ} {used nodes every refusal : ℕ} (wf : WellFormed t) (b : Begins t q levels branch g s) (r : ReadOn t levels branch g s rec 0 0 allAutomata rest used nodes every refusal) where
+module _ {t : List ℕ} {q : Query} {levels : ℕ} {branch : List Goal} {g : Goal} {s : StateSets} {rec rest : List ℕ}
+    {used nodes every refusal : ℕ} (wf : WellFormed t) (b : Begins t q levels branch g s)
+    (r : ReadOn t levels branch g s rec 0 0 allAutomata rest used nodes every refusal) where
   whole-told : numbersTold rest used nodes every refusal ≡ tally t (startingSets t) 0 0 allAutomata (queried t q rec)
   unfolding tallyOn
   whole-told = r .told ∙ rw (b .all-levels, b .nothing-above, b .asked, b .starting)

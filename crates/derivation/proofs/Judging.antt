@@ -76,7 +76,8 @@ module _ (t : List ℕ) (k : ℕ) (own : Numbered (automata t) k) (few : automat
       ∙ rw (lt-ltb (k - 1) (automata t) (omega arith), together-at (λ i. run t i (starting t i) word) k eight, next)
 
   -- a node of kind 1 has one word, and any other has those of its children
-  node-member : (one : Bool) (every below : ℕ) (word : List Role) (more : List (List Role)) → inSet below (k - 1) ≡ (inSet every (k - 1) and acceptsAll t k more)
+  node-member : (one : Bool) (every below : ℕ) (word : List Role) (more : List (List Role))
+      → inSet below (k - 1) ≡ (inSet every (k - 1) and acceptsAll t k more)
       → inSet (pick one (bitAnd every (acceptingSet t (setsAfter t word))) below) (k - 1) ≡ (inSet every (k - 1) and acceptsAll t k (pick one (word ∷ []) more))
   unfolding pick acceptsAll
   node-member true every below word more h = inSet-and every _ (k - 1) ∙ rw (accepting-member word, and-true)

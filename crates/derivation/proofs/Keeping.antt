@@ -40,37 +40,48 @@ onward t s later (passed rest used nodes every) = tally t s used nodes every (la
 onward t s later (stopped number at) = stopped number at
 
 module _ (t : List ℕ) (s : StateSets) (used nodes every : ℕ) where
-  joined-onward : (c m : ℕ) (children : Forest) (after : Reading) → tally t s used nodes every (joined c m children after) ≡ onward t s (λ rest later. after) (tally t s used nodes every (read [] (node c m children end)))
+  joined-onward : (c m : ℕ) (children : Forest) (after : Reading)
+      → tally t s used nodes every (joined c m children after)
+      ≡ onward t s (λ rest later. after) (tally t s used nodes every (read [] (node c m children end)))
   unfolding tally joined onward usedFrom countFrom everyFrom
   joined-onward c m children (read rest siblings) = refl
   joined-onward c m children (stop number at) = refl
 
-  followed-onward : (c m : ℕ) (later : List ℕ → ℕ → Reading) (below : Reading) → tally t s used nodes every (followed c m (suc (suc nodes)) later below) ≡ onward t s later (tally t s used nodes every (followed c m (suc (suc nodes)) (λ rest at. read rest end) below))
+  followed-onward : (c m : ℕ) (later : List ℕ → ℕ → Reading) (below : Reading)
+      → tally t s used nodes every (followed c m (suc (suc nodes)) later below)
+      ≡ onward t s later (tally t s used nodes every (followed c m (suc (suc nodes)) (λ rest at. read rest end) below))
   unfolding tally joined followed onward usedFrom countFrom everyFrom
   followed-onward c m later (stop number at) = refl
   followed-onward c m later (read rest children) =
       rw (count-next (suc nodes) children) (joined-onward c m children (later rest (suc (countFrom (suc nodes) children))))
 
   -- a node and what follows it: first the node alone, then the rest from what is kept by then
-  entered-onward : (below : List Goal → List ℕ → ℕ → Reading) (later : List ℕ → ℕ → Reading) (e : Entry) → tally t s used nodes every (entered (suc nodes) below later e) ≡ onward t s later (tally t s used nodes every (entered (suc nodes) below (λ rest at. read rest end) e))
+  entered-onward : (below : List Goal → List ℕ → ℕ → Reading) (later : List ℕ → ℕ → Reading) (e : Entry)
+      → tally t s used nodes every (entered (suc nodes) below later e)
+      ≡ onward t s later (tally t s used nodes every (entered (suc nodes) below (λ rest at. read rest end) e))
   unfolding tally entered onward
   entered-onward below later (halt number) = refl
   entered-onward below later (ask c m goals rest) = followed-onward c m later (below goals rest (suc (suc nodes)))
 
 -- goals are read one after the other
-reads-on : (t : List ℕ) (levels : ℕ) (branch : List Goal) (g : Goal) (goals : List Goal) (s : StateSets) (rec : List ℕ) (used nodes every : ℕ) → tallyOn t levels branch (g ∷ goals) s rec used nodes every ≡ onward t s (reader t levels branch goals) (tallyOn t levels branch (g ∷ []) s rec used nodes every)
+reads-on : (t : List ℕ) (levels : ℕ) (branch : List Goal) (g : Goal) (goals : List Goal) (s : StateSets) (rec : List ℕ) (used nodes every : ℕ)
+    → tallyOn t levels branch (g ∷ goals) s rec used nodes every
+    ≡ onward t s (reader t levels branch goals) (tallyOn t levels branch (g ∷ []) s rec used nodes every)
 unfolding tallyOn reader readAll
 reads-on t zero branch g goals s rec used nodes every = entered-onward t s used nodes every _ _ (entry t false g rec)
 reads-on t (suc levels) branch g goals s rec used nodes every = entered-onward t s used nodes every _ _ (entry t (fresh branch g) g rec)
 
 -- no goal is left
-pub reads-none : (t : List ℕ) (levels : ℕ) (branch : List Goal) (s : StateSets) (rec : List ℕ) (used nodes every : ℕ) → tallyOn t levels branch [] s rec used nodes every ≡ passed rec used nodes every
+pub reads-none : (t : List ℕ) (levels : ℕ) (branch : List Goal) (s : StateSets) (rec : List ℕ) (used nodes every : ℕ)
+    → tallyOn t levels branch [] s rec used nodes every ≡ passed rec used nodes every
 unfolding tallyOn tally reader readAll usedFrom countFrom everyFrom
 reads-none t zero branch s rec used nodes every = refl
 reads-none t (suc levels) branch s rec used nodes every = refl
 
 -- the code's reader has read the first of some goals: it passed, or it stopped
-module _ {t : List ℕ} {levels : ℕ} {branch : List Goal} {g : Goal} {s : StateSets} {rec : List ℕ} {used nodes every : ℕ} {rest : List ℕ} {used′ nodes′ every′ refusal : ℕ} (r : ReadOn t levels branch g s rec used nodes every rest used′ nodes′ every′ refusal) (goals : List Goal) where
+module _ {t : List ℕ} {levels : ℕ} {branch : List Goal} {g : Goal} {s : StateSets} {rec : List ℕ} {used nodes every : ℕ}
+    {rest : List ℕ} {used′ nodes′ every′ refusal : ℕ}
+    (r : ReadOn t levels branch g s rec used nodes every rest used′ nodes′ every′ refusal) (goals : List Goal) where
   abbrev both : Told
   both = tallyOn t levels branch (g ∷ goals) s rec used nodes every
 
@@ -85,16 +96,19 @@ module _ {t : List ℕ} {levels : ℕ} {branch : List Goal} {g : Goal} {s : Stat
   unfolding numbersTold onward pick
   first-stopped h = ap (onward t s (reader t levels branch goals)) (rw (ne-eqb refusal 0 h) at (r .told)) ∙ split
 
-pub stopped-told : (rest : List ℕ) (used nodes every refusal : ℕ) → (refusal ≡ 0 → ⊥) → numbersTold rest used nodes every refusal ≡ stopped refusal nodes
+pub stopped-told : (rest : List ℕ) (used nodes every refusal : ℕ) → (refusal ≡ 0 → ⊥)
+    → numbersTold rest used nodes every refusal ≡ stopped refusal nodes
 unfolding numbersTold pick
 stopped-told rest used nodes every refusal h = rw (ne-eqb refusal 0 h)
 
-pub passed-told : (rest : List ℕ) (used nodes every refusal : ℕ) → refusal ≡ 0 → numbersTold rest used nodes every refusal ≡ passed rest used nodes every
+pub passed-told : (rest : List ℕ) (used nodes every refusal : ℕ) → refusal ≡ 0
+    → numbersTold rest used nodes every refusal ≡ passed rest used nodes every
 unfolding numbersTold pick
 passed-told rest used nodes every refusal h = rw h
 
 -- a node that is entered: a level is left, two numbers are there, the credential applies, and the role is new
-pub record Asks (t : List ℕ) (levels : ℕ) (branch : List Goal) (g : Goal) (rec : List ℕ) (c m : ℕ) (goals : List Goal) (rest : List ℕ) : Type 0 where
+pub record Asks (t : List ℕ) (levels : ℕ) (branch : List Goal) (g : Goal) (rec : List ℕ) (c m : ℕ) (goals : List Goal) (rest : List ℕ)
+    : Type 0 where
   pub level : 1 ≤ levels
   pub long : 2 ≤ length rec
   pub own : premises t g c m ≡ some goals
@@ -109,7 +123,9 @@ some-level zero branch g h = absurd (let z : _≡_ {A = ℕ} 0 1 = cc in omega a
 some-level (suc levels) branch g h = omega arith
 
 module _ (t : List ℕ) (levels : ℕ) (branch : List Goal) (g : Goal) (c m : ℕ) (goals : List Goal) (rest : List ℕ) where
-  admitted-asks : (first second : ℕ) (more : List ℕ) (found : Option (List Goal)) → premises t g first second ≡ found → (b : Bool) → may levels branch g ≡ b → admitted b first second more found ≡ ask c m goals rest → Asks t levels branch g (first ∷ second ∷ more) c m goals rest
+  admitted-asks : (first second : ℕ) (more : List ℕ) (found : Option (List Goal)) → premises t g first second ≡ found → (b : Bool)
+      → may levels branch g ≡ b → admitted b first second more found ≡ ask c m goals rest
+      → Asks t levels branch g (first ∷ second ∷ more) c m goals rest
   unfolding admitted pick length
   admitted-asks first second more none e b f h = absurd (halt-ask h)
   admitted-asks first second more (some asked) e false f h = absurd (halt-ask h)
@@ -132,7 +148,9 @@ one-goal : (t : List ℕ) (levels : ℕ) (branch : List Goal) (g : Goal) (rec : 
 unfolding reader readAll may
 one-goal t levels branch g rec at = refl
 
-pub node-stops : (t : List ℕ) (levels : ℕ) (branch : List Goal) (g : Goal) (s : StateSets) (rec : List ℕ) (used nodes every number : ℕ) → entry t (may levels branch g) g rec ≡ halt number → stopped number (suc nodes) ≡ tallyOn t levels branch (g ∷ []) s rec used nodes every
+pub node-stops : (t : List ℕ) (levels : ℕ) (branch : List Goal) (g : Goal) (s : StateSets) (rec : List ℕ) (used nodes every number : ℕ)
+    → entry t (may levels branch g) g rec ≡ halt number
+    → stopped number (suc nodes) ≡ tallyOn t levels branch (g ∷ []) s rec used nodes every
 unfolding tallyOn tally reader readAll entered may
 node-stops t zero branch g s rec used nodes every number h = rw h
 node-stops t (suc levels) branch g s rec used nodes every number h = rw h
@@ -145,24 +163,30 @@ module _ (t : List ℕ) (wf : WellFormed t) (g : Goal) (s : StateSets) (used nod
   ended : ℕ → ℕ
   ended len = pick (eqb len 0) (bitAnd every (acceptingSet t (movedSets t (g .role) s))) every
 
-  children-kept : (goals : List Goal) → premises t g c m ≡ some goals → (rest : List ℕ) (f : Forest) → (goals ≡ [] → f ≡ end) → everyFrom t below (ended (length goals)) f ≡ everyFrom t s every (node c m f end)
+  children-kept : (goals : List Goal) → premises t g c m ≡ some goals → (rest : List ℕ) (f : Forest) → (goals ≡ [] → f ≡ end)
+      → everyFrom t below (ended (length goals)) f ≡ everyFrom t s every (node c m f end)
   unfolding everyFrom below ended pick length
   children-kept [] applies rest f leaf = rw (leaf refl, asks-nothing t wf g c m applies, applies-role t g c m [] applies)
   children-kept (h ∷ goals) applies rest f leaf =
       rw (applies-role t g c m (h ∷ goals) applies, ne-eqb (credential t c .kind) 1 (asks-more t g c m h goals applies), ne-eqb (suc (length goals)) 0 (λ e. omega arith))
 
-  reading-kept : (goals : List Goal) → premises t g c m ≡ some goals → (after : Reading) → (goals ≡ [] → (rest : List ℕ) (f : Forest) → after ≡ read rest f → f ≡ end) → tally t below (bitOr used (2 ^ (c - 1))) (suc nodes) (ended (length goals)) after ≡ tally t s used nodes every (followed c m (suc (suc nodes)) (λ rest later. read rest end) after)
+  reading-kept : (goals : List Goal) → premises t g c m ≡ some goals → (after : Reading)
+      → (goals ≡ [] → (rest : List ℕ) (f : Forest) → after ≡ read rest f → f ≡ end)
+      → tally t below (bitOr used (2 ^ (c - 1))) (suc nodes) (ended (length goals)) after
+      ≡ tally t s used nodes every (followed c m (suc (suc nodes)) (λ rest later. read rest end) after)
   unfolding tally followed joined usedFrom countFrom
   reading-kept goals applies (read rest f) leaf = rw (children-kept goals applies rest f (λ none-asked. leaf none-asked rest f refl))
   reading-kept goals applies (stop number at) leaf = refl
 
-reads-end : (t : List ℕ) (levels : ℕ) (branch goals : List Goal) (rec : List ℕ) (at : ℕ) → goals ≡ [] → (rest : List ℕ) (f : Forest) → reader t levels branch goals rec at ≡ read rest f → f ≡ end
+reads-end : (t : List ℕ) (levels : ℕ) (branch goals : List Goal) (rec : List ℕ) (at : ℕ) → goals ≡ [] → (rest : List ℕ) (f : Forest)
+    → reader t levels branch goals rec at ≡ read rest f → f ≡ end
 reads-end t levels branch goals rec at nothing rest f h =
     let e = rw nothing at h in
     let z = reader-end t branch rec at levels in
     cc
 
-pub node-asks : (t : List ℕ) → WellFormed t → (here levels : ℕ) (branch : List Goal) (g : Goal) (s : StateSets) (rec : List ℕ) (used nodes every c m : ℕ) (goals : List Goal) (rest : List ℕ)
+pub node-asks : (t : List ℕ) → WellFormed t
+    → (here levels : ℕ) (branch : List Goal) (g : Goal) (s : StateSets) (rec : List ℕ) (used nodes every c m : ℕ) (goals : List Goal) (rest : List ℕ)
     → here ≡ suc levels → premises t g c m ≡ some goals → entry t (may here branch g) g rec ≡ ask c m goals rest
     → tallyOn t levels (g ∷ branch) goals (movedSets t (g .role) s) rest (bitOr used (2 ^ (c - 1))) (suc nodes) (pick (eqb (length goals) 0) (bitAnd every (acceptingSet t (movedSets t (g .role) s))) every)
     ≡ tallyOn t here branch (g ∷ []) s rec used nodes every

@@ -103,14 +103,16 @@ pub record Node (t : List ℕ) (levels : ℕ) (branch : Branch) (g : Goal) (rec 
   pub goes : step .refusal ≡ 0
 
 -- what the code keeps for its children
-pub record Down (t : List ℕ) (branch : Branch) (g : Goal) (s : StateSets) (step : Step) (used every : ℕ) (deeper : Branch) (below : StateSets) (used₀ every₀ : ℕ) : Type 0 where
+pub record Down (t : List ℕ) (branch : Branch) (g : Goal) (s : StateSets) (step : Step) (used every : ℕ) (deeper : Branch)
+    (below : StateSets) (used₀ every₀ : ℕ) : Type 0 where
   pub branches : above deeper ≡ g ∷ above branch
   pub moves : below ≡ movedSets t (g .role) s
   pub uses : used₀ ≡ bitOr used (2 ^ (step .credential - 1))
   pub keeps : every₀ ≡ pick (eqb (step .len) 0) (bitAnd every (acceptingSet t below)) every
 
 module _ {t : List ℕ} {levels : ℕ} {branch : Branch} {g : Goal} {rec : List ℕ} {step : Step} (n : Node t levels branch g rec step) where
-  node-entry : entry t (may levels (above branch) g) g rec ≡ ask (step .credential) (step .middle) (take (step .len) (step .goals)) (drop 2 rec)
+  node-entry : entry t (may levels (above branch) g) g rec
+      ≡ ask (step .credential) (step .middle) (take (step .len) (step .goals)) (drop 2 rec)
   node-entry = sym (n .enters) ∙ step-asks step rec (n .goes)
 
   node-facts : Asks t levels (above branch) g rec (step .credential) (step .middle) (take (step .len) (step .goals)) (drop 2 rec)
@@ -128,7 +130,9 @@ module _ {t : List ℕ} {levels : ℕ} {branch : Branch} {g : Goal} {rec : List 
       let few = wf-sized t (n .table) .counted .fewCredentials in
       record { first = there .first; last = omega arith }
 
-module _ {t : List ℕ} {levels : ℕ} {branch : Branch} {g : Goal} {s : StateSets} {rec : List ℕ} {step : Step} {used every : ℕ} {deeper : Branch} {below : StateSets} {used₀ every₀ : ℕ} (n : Node t levels branch g rec step) (d : Down t branch g s step used every deeper below used₀ every₀) (nodes : ℕ) where
+module _ {t : List ℕ} {levels : ℕ} {branch : Branch} {g : Goal} {s : StateSets} {rec : List ℕ} {step : Step} {used every : ℕ}
+    {deeper : Branch} {below : StateSets} {used₀ every₀ : ℕ} (n : Node t levels branch g rec step)
+    (d : Down t branch g s step used every deeper below used₀ every₀) (nodes : ℕ) where
   abbrev behind : List ℕ
   behind = take (length rec - 2) (drop 2 rec)
 
@@ -141,26 +145,28 @@ module _ {t : List ℕ} {levels : ℕ} {branch : Branch} {g : Goal} {s : StateSe
       let told = node-asks t (n .table) levels (levels - 1) (above branch) g s rec used nodes every _ _ _ _ one-less (node-facts n .own) (node-entry n) in
       rw (d .branches, part-behind rec 2 (node-long n), d .uses, d .keeps, d .moves, add-one nodes) (rw size at told)
 
-  module _ {rest : List ℕ} {used′ nodes′ every′ refusal i : ℕ} (o : Onward t (levels - 1) (above deeper) (step .goals) (step .len) below behind used₀ (nodes + 1) every₀ rest used′ nodes′ every′ refusal i) where
-    -- nodes and numbers left stay below the bound of the caller's
-    pub room-below : {most : ℕ} → nodes + length rec < most → nodes′ + length rest < most
-    room-below bound = omega (arith, room-kept rec rest nodes′ nodes (node-long n) (o .room))
+  module _ {rest : List ℕ} {used′ nodes′ every′ refusal i : ℕ}
+      (o : Onward t (levels - 1) (above deeper) (step .goals) (step .len) below behind used₀ (nodes + 1) every₀ rest used′ nodes′ every′ refusal i)
+    where
+      -- nodes and numbers left stay below the bound of the caller's
+      pub room-below : {most : ℕ} → nodes + length rec < most → nodes′ + length rest < most
+      room-below bound = omega (arith, room-kept rec rest nodes′ nodes (node-long n) (o .room))
 
-    pub children-read : step .len ≤ i → ReadOn t levels (above branch) g s rec used nodes every rest used′ nodes′ every′ refusal
-    children-read all =
-        record {
-          told = passed-told rest used′ nodes′ every′ refusal (o .no-refusal) ∙ onward-ends _ _ _ _ _ _ _ _ _ _ o all ∙ node-whole;
-          room = λ e. room-kept rec rest nodes′ nodes (node-long n) (o .room);
-        }
+      pub children-read : step .len ≤ i → ReadOn t levels (above branch) g s rec used nodes every rest used′ nodes′ every′ refusal
+      children-read all =
+          record {
+            told = passed-told rest used′ nodes′ every′ refusal (o .no-refusal) ∙ onward-ends _ _ _ _ _ _ _ _ _ _ o all ∙ node-whole;
+            room = λ e. room-kept rec rest nodes′ nodes (node-long n) (o .room);
+          }
 
-    pub child-stops : {last rest″ : List ℕ} {used″ nodes″ every″ refusal″ : ℕ} → i < step .len
-        → ReadOn t (levels - 1) (above deeper) (getD (step .goals) i noGoal) below rest used′ nodes′ every′ rest″ used″ nodes″ every″ refusal″
-        → (refusal″ ≡ 0 → ⊥) → ReadOn t levels (above branch) g s rec used nodes every last used″ nodes″ every″ refusal″
-    child-stops less child stops =
-        record {
-          told = stopped-told _ _ _ _ _ stops ∙ onward-stops _ _ _ _ _ _ _ _ _ _ o less child stops ∙ node-whole;
-          room = λ e. absurd (stops e);
-        }
+      pub child-stops : {last rest″ : List ℕ} {used″ nodes″ every″ refusal″ : ℕ} → i < step .len
+          → ReadOn t (levels - 1) (above deeper) (getD (step .goals) i noGoal) below rest used′ nodes′ every′ rest″ used″ nodes″ every″ refusal″
+          → (refusal″ ≡ 0 → ⊥) → ReadOn t levels (above branch) g s rec used nodes every last used″ nodes″ every″ refusal″
+      child-stops less child stops =
+          record {
+            told = stopped-told _ _ _ _ _ stops ∙ onward-stops _ _ _ _ _ _ _ _ _ _ o less child stops ∙ node-whole;
+            room = λ e. absurd (stops e);
+          }
 
 -- a node that the code could not enter
 pub node-halts : {t : List ℕ} {levels : ℕ} {g : Goal} {s : StateSets} {rec rest : List ℕ} {used nodes every : ℕ} (branch : Branch) (step : Step)

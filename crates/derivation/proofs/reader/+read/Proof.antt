@@ -110,7 +110,8 @@ read-returns t c = node-halts _ _ (c .before .enter .ensures .1) (c .if1 .taken)
 read-moved-requires : (t : ℕ) → read-lts.Need-moved-requires (read-claims t) (read-at t) read.Post read-Inv-loop read-μ-loop
 read-moved-requires t c κs = start t c .pre .1 .0
 
-read-with-credential-requires : (t : ℕ) → read-lts.Need-with-credential-requires (read-claims t) (read-at t) read.Post read-Inv-loop read-μ-loop
+read-with-credential-requires : (t : ℕ)
+    → read-lts.Need-with-credential-requires (read-claims t) (read-at t) read.Post read-Inv-loop read-μ-loop
 read-with-credential-requires t c κs = node-credential (node t (c .before .before .before))
 
 read-after-node-requires : (t : ℕ) → read-lts.Need-after-node-requires (read-claims t) (read-at t) read.Post read-Inv-loop read-μ-loop

@@ -58,13 +58,10 @@ loop-again c =
 returns-2 : tie.Need-returns-2 Inv-loop μ-loop
 unfolding given pick
 returns-2 c =
-    let pre = c .before .before .before .pre in
-    let args = c .before .before .before .args in
-    let if1 = c .before .before .if1 in (
-      record { fits = pre .0; size = c .before .loop .inv .1 .size },
-      ap some (asked-all _ _ _ (c .before .loop .i)
-          (args .t1 .len) (omega arith) (c .before .loop .inv .1)) ∙ when-on _ (eq-eqb _ 0 (if1 .left)),
-    )
+    let loop = c .before .loop in
+    let start = c .before .before .before in
+    let all = asked-all _ _ _ (loop .i) (start .args .t1 .len) (omega arith) (loop .inv .1) in
+    (record { fits = start .pre .0; size = loop .inv .1 .size }, ap some all ∙ when-on _ (eq-eqb _ 0 (c .before .before .if1 .left)))
 
 pub intersection-spec : {M : Type 1} → statement M
 intersection-spec =
