@@ -1,7 +1,7 @@
 -- The branch as the code holds it: one goal more, and whether a goal's role is on it.
 use mathlib.Core.Path.{_≡_, refl}
 use mathlib.Core.List.{List, _∷_}
-use mathlib.Core.Bool.{Bool, true, false, not}
+use mathlib.Core.Bool.{true, false, not}
 use mathlib.Core.Logic.{⊎-elim}
 use Prim.Native.Nat.{ℕ, zero, suc, _+_, _≤_, _<_}
 use native.Mathlib.Omega.{arith}
@@ -13,6 +13,7 @@ use Rattle.table.specs.Logic.{_and_}
 use Rattle.table.specs.Limits.{mostDepth}
 use Rattle.table.specs.Layout.{sameRole}
 use Rattle.table.specs.declared.Goal.{Goal}
+use Rattle.table.proofs.Tests.{and-false}
 use Rattle.derivation.specs.Rules.{fresh}
 use Rattle.derivation.specs.Held.{Room, above, noGoal, upTo}
 use Rattle.derivation.specs.declared.Branch.{Branch}
@@ -27,7 +28,9 @@ pub above-with : (b : Branch) (g : Goal) → Room mostDepth (b .len) (b .goals) 
     → above (record { len = b .len + 1; goals = set (b .goals) (b .len) g }) ≡ g ∷ above b
 unfolding above upTo
 above-with b g room less =
-    rw (add-one (b .len), getD-set-same (b .goals) (b .len) g noGoal (omega (arith, room .size)), up-to-set (b .goals) g (b .len) (b .len) (omega arith))
+    let nearest = getD-set-same (b .goals) (b .len) g noGoal (omega (arith, room .size)) in
+    let others = up-to-set (b .goals) g (b .len) (b .len) (omega arith) in
+    rw (add-one (b .len), nearest, others)
 
 pub room-with : (b : Branch) (g : Goal) → Room mostDepth (b .len) (b .goals) → b .len < mostDepth
     → Room mostDepth (b .len + 1) (set (b .goals) (b .len) g)
@@ -45,8 +48,7 @@ pub fresh-not : (goals : List Goal) (g : Goal) (i n : ℕ) → i + 1 ≤ n → s
 unfolding upTo fresh _and_
 fresh-not goals g i zero h same = absurd (omega arith)
 fresh-not goals g i (suc n) h same =
-    ⊎-elim (λ last. let e : n ≡ i = omega arith in rw (e, same)) (λ less. later (not (sameRole (getD goals n noGoal .role) (g .role))) (fresh-not goals g i n (omega arith) same)) (eq-or-lt-of-le h)
-  where
-    later : (b : Bool) → fresh (upTo goals n) g ≡ false → (b and fresh (upTo goals n) g) ≡ false
-    later true e = e
-    later false e = refl
+    ⊎-elim
+    (λ last. let e : n ≡ i = omega arith in rw (e, same))
+    (λ less. rw (fresh-not goals g i n (omega arith) same) (and-false (not (sameRole (getD goals n noGoal .role) (g .role)))))
+    (eq-or-lt-of-le h)

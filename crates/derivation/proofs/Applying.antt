@@ -87,5 +87,6 @@ asks-nothing t wf g c m applies = go (ℕ-discrete kind 1) (ℕ-discrete kind 2)
     go (no n1) (yes h) d3 d4 = absurd (cons-nil (when-some _ _ [] (asks-2 t g (credential t c) m h ∙ asked)))
     go (no n1) (no n2) (yes h) d4 = absurd (cons-nil (when-some _ _ [] (asks-3 t g (credential t c) m h ∙ asked)))
     go (no n1) (no n2) (no n3) (yes h) =
-        absurd (some-parts t _ (credential t c .first) (wf-chain t wf c there h .least) (when-some _ _ [] (asks-4 t g (credential t c) m h ∙ asked)))
+        let none-asked = when-some _ _ [] (asks-4 t g (credential t c) m h ∙ asked) in
+        absurd (some-parts t _ (credential t c .first) (wf-chain t wf c there h .least) none-asked)
     go (no n1) (no n2) (no n3) (no n4) = absurd (none-some (asks-none t g (credential t c) m n1 n2 n3 n4 ∙ asked))

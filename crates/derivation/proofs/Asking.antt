@@ -70,7 +70,9 @@ module _ (t : List ℕ) (g : Goal) (c m : ℕ) where
 
   pub credential-over : credentials t < c → none ≡ premises t g c m
   unfolding premises within pick
-  credential-over h = rw (and-is-off (sameRole (credential t c .role) (g .role)) (and-is (le-leb 1 c (omega arith)) (lt-leb c (credentials t) h)))
+  credential-over h =
+      let outside = and-is (le-leb 1 c (omega arith)) (lt-leb c (credentials t) h) in
+      rw (and-is-off (sameRole (credential t c .role) (g .role)) outside)
 
   within-all : Numbered (credentials t) c → within 1 (credentials t) c ≡ true
   unfolding within
@@ -95,10 +97,10 @@ pub record Asked (g : Goal) (roles : List Role) (goals : List Goal) (i : ℕ) : 
 pub asked-more : (g : Goal) (roles : List Role) (goals : List Goal) (i : ℕ) (d : Role) → Asked g roles goals i → i < mostParts
     → i < length roles → Asked g roles (set goals i (goal (g .principal) (getD roles i d))) (i + 1)
 asked-more g roles goals i d a room there =
+    let one-more = take-suc-set goals i (goal (g .principal) (getD roles i d)) (omega (arith, a .size)) in
     record {
       size = simp length-set (a .size);
-      so-far =
-          rw (add-one i, take-suc-set goals i (goal (g .principal) (getD roles i d)) (omega (arith, a .size)), take-suc roles i d there, map-append, ← a .so-far);
+      so-far = rw (add-one i, one-more, take-suc roles i d there, map-append, ← a .so-far);
     }
 
 pub asked-none : (g : Goal) (roles : List Role) (goals : List Goal) → length goals ≡ mostParts → Asked g roles goals 0

@@ -5,13 +5,14 @@ use mathlib.Core.Bool.{Bool, true, false}
 use mathlib.Core.Option.{Option, none, some}
 use Prim.Native.Nat.{ℕ, zero, suc, _-_, _^_, _≤_}
 use native.Mathlib.Omega.{arith}
-use lib.ListN.{drop, length, take}
+use lib.ListN.{length}
 use lib.Bits.{bitAnd, bitOr}
 use lib.Dec.{eqb}
 use borrow.Author.Tests.{ne-eqb}
 use Rattle.table.specs.Logic.{pick}
 use Rattle.table.specs.Layout.{credential}
 use Rattle.table.specs.declared.Goal.{Goal}
+use Rattle.table.proofs.Tests.{false-true}
 use Rattle.automata.specs.Automata.{acceptingSet, movedSets}
 use Rattle.automata.specs.declared.StateSets.{StateSets}
 use Rattle.derivation.specs.Rules.{fresh, premises}
@@ -20,10 +21,9 @@ use Rattle.derivation.specs.Forest.Forest.{end, node}
 use Rattle.derivation.specs.Reading.{Entry, Reading, admitted, entered, entry, followed, joined, readAll, reader}
 use Rattle.derivation.specs.Reading.Entry.{ask, halt}
 use Rattle.derivation.specs.Reading.Reading.{read, stop}
-use Rattle.derivation.specs.Held.{may, stepped}
+use Rattle.derivation.specs.Held.{may}
 use Rattle.derivation.specs.Tally.{ReadOn, Told, everyFrom, numbersTold, tally, tallyOn}
 use Rattle.derivation.specs.Tally.Told.{passed, stopped}
-use Rattle.derivation.specs.declared.Step.{Step}
 use Rattle.table.specs.Checks.{WellFormed}
 use Rattle.derivation.proofs.Readings.{reader-end}
 use Rattle.derivation.proofs.Applying.{applies-role, asks-more, asks-nothing}
@@ -64,7 +64,8 @@ module _ (t : List ℕ) (s : StateSets) (used nodes every : ℕ) where
   entered-onward below later (ask c m goals rest) = followed-onward c m later (below goals rest (suc (suc nodes)))
 
 -- goals are read one after the other
-reads-on : (t : List ℕ) (levels : ℕ) (branch : List Goal) (g : Goal) (goals : List Goal) (s : StateSets) (rec : List ℕ) (used nodes every : ℕ)
+reads-on : (t : List ℕ) (levels : ℕ) (branch : List Goal) (g : Goal) (goals : List Goal) (s : StateSets) (rec : List ℕ)
+    (used nodes every : ℕ)
     → tallyOn t levels branch (g ∷ goals) s rec used nodes every
     ≡ onward t s (reader t levels branch goals) (tallyOn t levels branch (g ∷ []) s rec used nodes every)
 unfolding tallyOn reader readAll
@@ -106,26 +107,24 @@ pub passed-told : (rest : List ℕ) (used nodes every refusal : ℕ) → refusal
 unfolding numbersTold pick
 passed-told rest used nodes every refusal h = rw h
 
--- a node that is entered: a level is left, two numbers are there, the credential applies, and the role is new
-pub record Asks (t : List ℕ) (levels : ℕ) (branch : List Goal) (g : Goal) (rec : List ℕ) (c m : ℕ) (goals : List Goal) (rest : List ℕ)
-    : Type 0 where
+-- a node that is entered: a level is left, two numbers are there, and the credential applies
+pub record Asks (t : List ℕ) (levels : ℕ) (g : Goal) (rec : List ℕ) (c m : ℕ) (goals : List Goal) : Type 0 where
   pub level : 1 ≤ levels
   pub long : 2 ≤ length rec
   pub own : premises t g c m ≡ some goals
-  pub free : may levels branch g ≡ true
 
 halt-ask : {number c m : ℕ} {goals : List Goal} {rest : List ℕ} → halt number ≡ ask c m goals rest → ⊥
 halt-ask e = let z : _≡_ {A = ℕ} 0 1 = cc in omega arith
 
 some-level : (levels : ℕ) (branch : List Goal) (g : Goal) → may levels branch g ≡ true → 1 ≤ levels
 unfolding may
-some-level zero branch g h = absurd (let z : _≡_ {A = ℕ} 0 1 = cc in omega arith)
+some-level zero branch g h = absurd (false-true h)
 some-level (suc levels) branch g h = omega arith
 
 module _ (t : List ℕ) (levels : ℕ) (branch : List Goal) (g : Goal) (c m : ℕ) (goals : List Goal) (rest : List ℕ) where
   admitted-asks : (first second : ℕ) (more : List ℕ) (found : Option (List Goal)) → premises t g first second ≡ found → (b : Bool)
       → may levels branch g ≡ b → admitted b first second more found ≡ ask c m goals rest
-      → Asks t levels branch g (first ∷ second ∷ more) c m goals rest
+      → Asks t levels g (first ∷ second ∷ more) c m goals
   unfolding admitted pick length
   admitted-asks first second more none e b f h = absurd (halt-ask h)
   admitted-asks first second more (some asked) e false f h = absurd (halt-ask h)
@@ -133,9 +132,9 @@ module _ (t : List ℕ) (levels : ℕ) (branch : List Goal) (g : Goal) (c m : �
       let a : first ≡ c = cc in
       let b : second ≡ m = cc in
       let d : asked ≡ goals = cc in
-      record { level = some-level levels branch g f; long = omega arith; own = rw (← a, ← b, ← d) e; free = f }
+      record { level = some-level levels branch g f; long = omega arith; own = rw (← a, ← b, ← d) e }
 
-  pub entry-asked : (rec : List ℕ) → entry t (may levels branch g) g rec ≡ ask c m goals rest → Asks t levels branch g rec c m goals rest
+  pub entry-asked : (rec : List ℕ) → entry t (may levels branch g) g rec ≡ ask c m goals rest → Asks t levels g rec c m goals
   unfolding entry
   entry-asked [] h = absurd (halt-ask h)
   entry-asked (x ∷ []) h = absurd (halt-ask h)
@@ -155,29 +154,7 @@ unfolding tallyOn tally reader readAll entered may
 node-stops t zero branch g s rec used nodes every number h = rw h
 node-stops t (suc levels) branch g s rec used nodes every number h = rw h
 
--- one goal that is entered: its children are read from what is kept once the node is counted
-module _ (t : List ℕ) (wf : WellFormed t) (g : Goal) (s : StateSets) (used nodes every c m : ℕ) where
-  below : StateSets
-  below = movedSets t (g .role) s
-
-  ended : ℕ → ℕ
-  ended len = pick (eqb len 0) (bitAnd every (acceptingSet t (movedSets t (g .role) s))) every
-
-  children-kept : (goals : List Goal) → premises t g c m ≡ some goals → (rest : List ℕ) (f : Forest) → (goals ≡ [] → f ≡ end)
-      → everyFrom t below (ended (length goals)) f ≡ everyFrom t s every (node c m f end)
-  unfolding everyFrom below ended pick length
-  children-kept [] applies rest f leaf = rw (leaf refl, asks-nothing t wf g c m applies, applies-role t g c m [] applies)
-  children-kept (h ∷ goals) applies rest f leaf =
-      rw (applies-role t g c m (h ∷ goals) applies, ne-eqb (credential t c .kind) 1 (asks-more t g c m h goals applies), ne-eqb (suc (length goals)) 0 (λ e. omega arith))
-
-  reading-kept : (goals : List Goal) → premises t g c m ≡ some goals → (after : Reading)
-      → (goals ≡ [] → (rest : List ℕ) (f : Forest) → after ≡ read rest f → f ≡ end)
-      → tally t below (bitOr used (2 ^ (c - 1))) (suc nodes) (ended (length goals)) after
-      ≡ tally t s used nodes every (followed c m (suc (suc nodes)) (λ rest later. read rest end) after)
-  unfolding tally followed joined usedFrom countFrom
-  reading-kept goals applies (read rest f) leaf = rw (children-kept goals applies rest f (λ none-asked. leaf none-asked rest f refl))
-  reading-kept goals applies (stop number at) leaf = refl
-
+-- where no goal is asked, no node is read
 reads-end : (t : List ℕ) (levels : ℕ) (branch goals : List Goal) (rec : List ℕ) (at : ℕ) → goals ≡ [] → (rest : List ℕ) (f : Forest)
     → reader t levels branch goals rec at ≡ read rest f → f ≡ end
 reads-end t levels branch goals rec at nothing rest f h =
@@ -185,13 +162,37 @@ reads-end t levels branch goals rec at nothing rest f h =
     let z = reader-end t branch rec at levels in
     cc
 
-pub node-asks : (t : List ℕ) → WellFormed t
-    → (here levels : ℕ) (branch : List Goal) (g : Goal) (s : StateSets) (rec : List ℕ) (used nodes every c m : ℕ) (goals : List Goal) (rest : List ℕ)
-    → here ≡ suc levels → premises t g c m ≡ some goals → entry t (may here branch g) g rec ≡ ask c m goals rest
-    → tallyOn t levels (g ∷ branch) goals (movedSets t (g .role) s) rest (bitOr used (2 ^ (c - 1))) (suc nodes) (pick (eqb (length goals) 0) (bitAnd every (acceptingSet t (movedSets t (g .role) s))) every)
-    ≡ tallyOn t here branch (g ∷ []) s rec used nodes every
-unfolding tallyOn below ended entered
-node-asks t wf here levels branch g s rec used nodes every c m goals rest one-more applies h =
-    let asked = rw one-more at h in
-    rw (one-more, one-goal t levels branch g rec (suc nodes), asked)
-    (reading-kept t wf g s used nodes every c m goals applies (reader t levels (g ∷ branch) goals rest (suc (suc nodes))) (reads-end t levels (g ∷ branch) goals rest (suc (suc nodes))))
+-- the automata that have accepted every word, once a node that asks so many goals is entered: one that asks none ends a word
+abbrev pub afterNode : List ℕ → ℕ → StateSets → ℕ → ℕ
+afterNode t every below len = pick (eqb len 0) (bitAnd every (acceptingSet t below)) every
+
+-- one goal that is entered: its children are read from what is kept once the node is counted
+module _ (t : List ℕ) (wf : WellFormed t) (g : Goal) (s : StateSets) (used nodes every c m : ℕ) where
+  abbrev below : StateSets
+  below = movedSets t (g .role) s
+
+  children-kept : (goals : List Goal) → premises t g c m ≡ some goals → (rest : List ℕ) (f : Forest) → (goals ≡ [] → f ≡ end)
+      → everyFrom t below (afterNode t every below (length goals)) f ≡ everyFrom t s every (node c m f end)
+  unfolding everyFrom pick length
+  children-kept [] applies rest f leaf = rw (leaf refl, asks-nothing t wf g c m applies, applies-role t g c m [] applies)
+  children-kept (h ∷ goals) applies rest f leaf =
+      let not-one = ne-eqb (credential t c .kind) 1 (asks-more t g c m h goals applies) in
+      rw (applies-role t g c m (h ∷ goals) applies, not-one, ne-eqb (suc (length goals)) 0 (λ e. omega arith))
+
+  reading-kept : (goals : List Goal) → premises t g c m ≡ some goals → (after : Reading)
+      → (goals ≡ [] → (rest : List ℕ) (f : Forest) → after ≡ read rest f → f ≡ end)
+      → tally t below (bitOr used (2 ^ (c - 1))) (suc nodes) (afterNode t every below (length goals)) after
+      ≡ tally t s used nodes every (followed c m (suc (suc nodes)) (λ rest later. read rest end) after)
+  unfolding tally followed joined usedFrom countFrom
+  reading-kept goals applies (read rest f) leaf = rw (children-kept goals applies rest f (λ none-asked. leaf none-asked rest f refl))
+  reading-kept goals applies (stop number at) leaf = refl
+
+  pub node-asks : (here levels : ℕ) (branch goals : List Goal) (rec rest : List ℕ) → here ≡ suc levels
+      → premises t g c m ≡ some goals → entry t (may here branch g) g rec ≡ ask c m goals rest
+      → tallyOn t levels (g ∷ branch) goals below rest (bitOr used (2 ^ (c - 1))) (suc nodes) (afterNode t every below (length goals))
+      ≡ tallyOn t here branch (g ∷ []) s rec used nodes every
+  unfolding tallyOn entered
+  node-asks here levels branch goals rec rest one-more applies h =
+      let asked = rw one-more at h in
+      let leaf = reads-end t levels (g ∷ branch) goals rest (suc (suc nodes)) in
+      rw (one-more, one-goal t levels branch g rec (suc nodes), asked) (reading-kept goals applies _ leaf)

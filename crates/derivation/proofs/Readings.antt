@@ -109,7 +109,8 @@ module _ (t : List ℕ) (branch : List Goal) where
   floor-all (g ∷ later) rec at = rw (reader-floor t branch rec at g later) (floor-ends t branch later g at _ _ rec)
 
   level-all : (levels : ℕ)
-      → ((g : Goal) (goals : List Goal) (rec : List ℕ) (at : ℕ) → Ends t levels (g ∷ branch) goals at rec (reader t levels (g ∷ branch) goals rec at))
+      → ((g : Goal) (goals : List Goal) (rec : List ℕ) (at : ℕ)
+      → Ends t levels (g ∷ branch) goals at rec (reader t levels (g ∷ branch) goals rec at))
       → (goals : List Goal) (rec : List ℕ) (at : ℕ)
       → Ends t (suc levels) branch goals at rec (reader t (suc levels) branch goals rec at)
   unfolding written
@@ -126,7 +127,7 @@ reader-ends t (suc levels) branch = level-all t branch levels (λ g. reader-ends
 -- what an ending says, once it is known which
 pub ends-read : {t : List ℕ} {levels : ℕ} {branch goals : List Goal} {at : ℕ} {rec rest : List ℕ} {r : Reading} {f : Forest}
     → Ends t levels branch goals at rec r → r ≡ read rest f → Derives t levels branch goals f × (rec ≡ written f ++ rest)
-ends-read {f} (reads {rest} {f = f′} d) e = let same : f′ ≡ f = cc in ((rw same at d), (cc))
+ends-read {f} (reads {rest} {f = f′} d) e = let same : f′ ≡ f = cc in (rw same at d, cc)
 ends-read (stops s) e = absurd (read-stop (sym e))
 
 pub ends-stop : {t : List ℕ} {levels : ℕ} {branch goals : List Goal} {at : ℕ} {rec : List ℕ} {r : Reading} {number position : ℕ}
@@ -154,7 +155,11 @@ pub reader-complete : {t : List ℕ} {levels : ℕ} {branch goals : List Goal} {
 unfolding written followed joined
 reader-complete {t} (done {levels} {branch}) rest at = reader-end t branch rest at levels
 reader-complete {t} (step {levels} {c} {m} {branch} {goals} {rest = later} {g} {children} {siblings} fits new d s) rest at =
-    rw (append-assoc (written children) (written siblings) rest, passes t levels c m branch goals later g (written children ++ (written siblings ++ rest)) at fits new, reader-complete d (written siblings ++ rest) (suc at), reader-complete s rest (countFrom (suc at) children))
+    let behind = written siblings ++ rest in
+    let here = passes t levels c m branch goals later g (written children ++ behind) at fits new in
+    let inside = reader-complete d behind (suc at) in
+    let after = reader-complete s rest (countFrom (suc at) children) in
+    rw (append-assoc (written children) (written siblings) rest, here, inside, after)
 
 -- a node that halts whatever its level and branch
 halts : (t : List ℕ) (levels : ℕ) (branch later : List Goal) (g : Goal) (rec : List ℕ) (at number : ℕ)

@@ -135,7 +135,7 @@ read-part-rest-end t c = omega arith
 read-loop-holds : (t : ℕ) → read-lts.Need-loop-holds (read-claims t) (read-at t) read.Post read-Inv-loop read-μ-loop
 read-loop-holds t c =
     let at = entered t c in
-    onward-starts _ _ _ _ _ _ _ _ _ _ (at .before .enter .ensures .0) (start t at .pre .1 .1 .1 .1)
+    onward-starts (at .before .enter .ensures .0) (start t at .pre .1 .1 .1 .1)
 
 read-mul-read : (t : ℕ) → read-lts.Need-mul-read (read-claims t) (read-at t) read.Post read-Inv-loop read-μ-loop
 read-mul-read t c = omega (arith, c .before .loop .inv .held .fits)
@@ -175,7 +175,7 @@ read-loop-less t c =
 read-loop-again : (t : ℕ) → read-lts.Need-loop-again (read-claims t) (read-at t) read.Post read-Inv-loop read-μ-loop
 read-loop-again t c =
     let inside = c .before .before .before .before .before .before .before .before in
-    onward-goes _ _ _ _ _ _ _ _ _ _ (inside .before .loop .inv) (inside .loop-test .taken) (c .before .before .read .ensures) (c .if2 .left)
+    onward-goes (inside .before .loop .inv) (inside .loop-test .taken) (c .before .before .read .ensures) (c .if2 .left)
 
 read-returns-3 : (t : ℕ) → read-lts.Need-returns-3 (read-claims t) (read-at t) read.Post read-Inv-loop read-μ-loop
 read-returns-3 t c =
