@@ -56,7 +56,7 @@ cons-nil e = let z : _≡_ {A = ℕ} 0 1 = cc in omega arith
 
 -- a chain has parts
 pub some-parts : (t : List ℕ) (f : Role → Goal) (first : ℕ) → 2 ≤ length (chain t first) → map f (parts t first) ≡ [] → ⊥
-unfolding parts length
+unfolding parts
 some-parts t f first long e = go (chain t first) long e
   where
     go : (cells : List ℕ) → 2 ≤ length cells → map f (map (λ (k : ℕ). cell t k .role) cells) ≡ [] → ⊥

@@ -104,7 +104,6 @@ asked-more g roles goals i d a room there =
     }
 
 pub asked-none : (g : Goal) (roles : List Role) (goals : List Goal) → length goals ≡ mostParts → Asked g roles goals 0
-unfolding take
 asked-none g roles goals size = record { size = size; so-far = refl }
 
 pub asked-all : (g : Goal) (roles : List Role) (goals : List Goal) (i len : ℕ) → i ≡ len → Asked g roles goals i

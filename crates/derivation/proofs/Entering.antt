@@ -52,14 +52,14 @@ halts-with {s} {number} rec some-number halted h =
 
 module _ (t : List ℕ) (open′ : Bool) (g : Goal) where
   pub entry-short : (rec : List ℕ) → length rec < 2 → halt 11 ≡ entry t open′ g rec
-  unfolding entry length
+  unfolding entry
   entry-short [] h = refl
   entry-short (c ∷ []) h = refl
   entry-short (c ∷ m ∷ rest) h = absurd (omega arith)
 
   entry-two : (rec : List ℕ) → 2 ≤ length rec
       → entry t open′ g rec ≡ admitted open′ (getD rec 0 0) (getD rec 1 0) (drop 2 rec) (premises t g (getD rec 0 0) (getD rec 1 0))
-  unfolding entry length getD drop
+  unfolding entry
   entry-two [] h = absurd (omega arith)
   entry-two (c ∷ []) h = absurd (omega arith)
   entry-two (c ∷ m ∷ rest) h = refl

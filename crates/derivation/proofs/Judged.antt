@@ -97,7 +97,6 @@ module _ (t : List ℕ) (s : StateSets) (rest : List ℕ) (used nodes every refu
   told-read (stop number at) told h = absurd (passed-stopped (rw h at told))
 
 no-numbers : (rest : List ℕ) → length rest ≡ 0 → rest ≡ []
-unfolding length
 no-numbers [] h = refl
 no-numbers (x ∷ rest) h = absurd (omega arith)
 

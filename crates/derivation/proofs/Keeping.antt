@@ -125,7 +125,7 @@ module _ (t : List ℕ) (levels : ℕ) (branch : List Goal) (g : Goal) (c m : �
   admitted-asks : (first second : ℕ) (more : List ℕ) (found : Option (List Goal)) → premises t g first second ≡ found → (b : Bool)
       → may levels branch g ≡ b → admitted b first second more found ≡ ask c m goals rest
       → Asks t levels g (first ∷ second ∷ more) c m goals
-  unfolding admitted pick length
+  unfolding admitted pick
   admitted-asks first second more none e b f h = absurd (halt-ask h)
   admitted-asks first second more (some asked) e false f h = absurd (halt-ask h)
   admitted-asks first second more (some asked) e true f h =
@@ -173,7 +173,7 @@ module _ (t : List ℕ) (wf : WellFormed t) (g : Goal) (s : StateSets) (used nod
 
   children-kept : (goals : List Goal) → premises t g c m ≡ some goals → (rest : List ℕ) (f : Forest) → (goals ≡ [] → f ≡ end)
       → everyFrom t below (afterNode t every below (length goals)) f ≡ everyFrom t s every (node c m f end)
-  unfolding everyFrom pick length
+  unfolding everyFrom pick
   children-kept [] applies rest f leaf = rw (leaf refl, asks-nothing t wf g c m applies, applies-role t g c m [] applies)
   children-kept (h ∷ goals) applies rest f leaf =
       let not-one = ne-eqb (credential t c .kind) 1 (asks-more t g c m h goals applies) in

@@ -71,7 +71,6 @@ pub record Onward (t : List ℕ) (levels : ℕ) (branch goals : List Goal) (len 
 pub onward-starts : {t : List ℕ} {levels : ℕ} {branch goals : List Goal} {len : ℕ} {s : StateSets} {rest : List ℕ}
     {used nodes every refusal : ℕ} → Room mostParts len goals → refusal ≡ 0
     → Onward t levels branch goals len s rest used nodes every rest used nodes every refusal 0
-unfolding drop
 onward-starts held h = record { held = held; few = omega arith; no-refusal = h; room = omega arith; whole = refl }
 
 module _ {t : List ℕ} {levels : ℕ} {branch goals : List Goal} {len : ℕ} {s : StateSets} {rest₀ : List ℕ} {used₀ nodes₀ every₀ : ℕ}
@@ -155,7 +154,8 @@ module _ {t : List ℕ} {levels : ℕ} {branch : Branch} {g : Goal} {s : StateSe
   node-whole =
       let one-less : levels ≡ suc (levels - 1) = omega (arith, node-level n) in
       let size = length-take-le (step .len) (step .goals) (omega (arith, n .held .fits, n .held .size)) in
-      let told = node-asks t (n .table) g s used nodes every _ _ levels (levels - 1) _ _ rec _ one-less (node-facts n .own) (node-entry n) in
+      let asked = node-asks t (n .table) g s used nodes every _ _ levels (levels - 1) in
+      let told = asked _ _ rec _ one-less (node-facts n .own) (node-entry n) in
       rw (d .branches, part-behind rec 2 (node-long n), d .uses, d .keeps, d .moves, add-one nodes) (rw size at told)
 
   module _ {rest : List ℕ} {used′ nodes′ every′ refusal i : ℕ}
@@ -174,7 +174,8 @@ module _ {t : List ℕ} {levels : ℕ} {branch : Branch} {g : Goal} {s : StateSe
         record { told = passes ∙ onward-ends o all ∙ node-whole; room = λ e. left }
 
     pub child-stops : {last rest″ : List ℕ} {used″ nodes″ every″ refusal″ : ℕ} → i < step .len
-        → ReadOn t (levels - 1) (above deeper) (getD (step .goals) i noGoal) below rest used′ nodes′ every′ rest″ used″ nodes″ every″ refusal″
+        → ReadOn t (levels - 1) (above deeper) (getD (step .goals) i noGoal) below rest used′ nodes′ every′
+        rest″ used″ nodes″ every″ refusal″
         → (refusal″ ≡ 0 → ⊥) → ReadOn t levels (above branch) g s rec used nodes every last used″ nodes″ every″ refusal″
     child-stops less child stops =
         stops-told stops (onward-stops o less child stops ∙ node-whole)

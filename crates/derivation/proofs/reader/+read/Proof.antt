@@ -78,7 +78,8 @@ module _ (t : ℕ) where
       let below = at .before .before .before .before .before .before .before .moved .result in
       let used₀ = at .before .before .before .before .with-credential .result in
       let every₀ = at .before .before .after-node .result in
-      Down (now (from .table)) (from .branch) (from .goal) (from .states) step (now (from .used)) (now (from .every)) deeper below used₀ every₀
+      Down (now (from .table)) (from .branch) (from .goal) (from .states) step (now (from .used)) (now (from .every))
+      deeper below used₀ every₀
   down at =
       record {
         branches = at .before .with .ensures .1 .1;

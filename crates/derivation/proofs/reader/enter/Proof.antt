@@ -6,7 +6,8 @@ use lib.ListN.{getD, take}
 use denote.Ref.{now}
 use borrow.Author.Needs.{needs}
 use borrow.Author.Tests.{not-false, not-true}
-use Rattle.derivation.proofs.Entering.{entry-asks, entry-closed, entry-short, entry-unfit, given-none, given-some, halts-with, may-fresh, may-none}
+use Rattle.derivation.proofs.Entering.{entry-asks, entry-closed, entry-short, entry-unfit}
+use Rattle.derivation.proofs.Entering.{given-none, given-some, halts-with, may-fresh, may-none}
 use Rattle.derivation.specs.Held.{stepped}
 use Rattle.derivation.specs.Rules.{premises}
 use Rattle.table.proofs.Tests.{failed, passed}
@@ -14,7 +15,7 @@ use Rattle.table.specs.Logic.{pick}
 use Rattle.derivation.proofs.reader.enter.Statement.{statement}
 use Rattle.derivation.proofs.reader.enter.Tie as tie
 
--- where the credential applies: what it asks are the premises
+-- where two numbers are there, and where the credential applies: what it asks are the premises
 abbrev start : tie.Else1 → tie.Start
 start at = at .before .before .before
 
@@ -23,7 +24,8 @@ two at = at .before .before .before .before .before
 
 asked : (at : tie.Else2) → let from = start (two at) .args in
     let found = at .before .before .premises .result in
-    premises (now (from .table)) (from .goal) (getD (now (from .rec)) 0 0) (getD (now (from .rec)) 1 0) ≡ some (take (found .len) (found .goals))
+    premises (now (from .table)) (from .goal) (getD (now (from .rec)) 0 0) (getD (now (from .rec)) 1 0)
+    ≡ some (take (found .len) (found .goals))
 asked at = sym (at .before .before .premises .ensures .1) ∙ given-some _ (not-false _ (at .if2 .left))
 
 halted-requires : tie.Need-halted-requires
