@@ -16,7 +16,7 @@ use Rattle.table.specs.declared.Goal.{Goal}
 use Rattle.table.proofs.Tests.{and-false}
 use Rattle.derivation.specs.Rules.{fresh}
 use Rattle.derivation.specs.Held.{Room, above, noGoal, upTo}
-use Rattle.derivation.specs.declared.Branch.{Branch}
+use Rattle.derivation.specs.declared.branches.Branch.{Branch}
 
 up-to-set : (goals : List Goal) (g : Goal) (len n : ℕ) → n ≤ len → upTo (set goals len g) n ≡ upTo goals n
 unfolding upTo

@@ -15,7 +15,7 @@ use Rattle.derivation.specs.Reading.{Entry, admitted, entry}
 use Rattle.derivation.specs.Reading.Entry.{ask, halt}
 use Rattle.derivation.specs.Held.{Halted, Room, given, may, stepped}
 use Rattle.derivation.specs.declared.Premises.{Premises}
-use Rattle.derivation.specs.declared.Step.{Step}
+use Rattle.derivation.specs.declared.reader.Step.{Step}
 
 pub may-none : (levels : ℕ) (branch : List Goal) (g : Goal) → levels ≡ 0 → may levels branch g ≡ false
 unfolding may

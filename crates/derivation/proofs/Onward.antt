@@ -21,8 +21,8 @@ use Rattle.derivation.specs.Reading.Entry.{ask}
 use Rattle.derivation.specs.Held.{Room, above, may, noGoal, stepped}
 use Rattle.derivation.specs.Tally.{ReadOn, Told, tallyOn}
 use Rattle.derivation.specs.Tally.Told.{passed, stopped}
-use Rattle.derivation.specs.declared.Branch.{Branch}
-use Rattle.derivation.specs.declared.Step.{Step}
+use Rattle.derivation.specs.declared.branches.Branch.{Branch}
+use Rattle.derivation.specs.declared.reader.Step.{Step}
 use Rattle.derivation.proofs.Applying.{applies-numbered}
 use Rattle.derivation.proofs.Entering.{step-asks, step-halts}
 use Rattle.derivation.proofs.Keeping.{Asks, afterNode, entry-asked, first-passed, first-stopped}

@@ -15,7 +15,7 @@ use Rattle.derivation.proofs.reader.read.Reads as read
 use Rattle.derivation.proofs.reader.read.Kinds as read-kinds
 use Rattle.derivation.proofs.reader.+read.Lts-read as read-lts
 use Rattle.automata.proofs.StateSets.moved.Reads as moved-reads
-use Rattle.derivation.proofs.Branch.with.Reads as with-reads
+use Rattle.derivation.proofs.branches.Branch.with.Reads as with-reads
 use Rattle.derivation.proofs.reader.after_node.Reads as after-node-reads
 use Rattle.derivation.proofs.reader.enter.Reads as enter-reads
 use Rattle.derivation.proofs.reader.with_credential.Reads as with-credential-reads

@@ -1,9 +1,9 @@
--- `derivation::Branch::with` meets its contract: the goal is the nearest of those above. Assumes nothing.
+-- `derivation::branches::Branch::with` meets its contract: the goal is the nearest of those above. Assumes nothing.
 use mathlib.Core.Path.{refl}
 use borrow.Author.Needs.{needs}
 use Rattle.derivation.proofs.Above.{above-with, room-with}
-use Rattle.derivation.proofs.Branch.with.Statement.{statement}
-use Rattle.derivation.proofs.Branch.with.Tie as tie
+use Rattle.derivation.proofs.branches.Branch.with.Statement.{statement}
+use Rattle.derivation.proofs.branches.Branch.with.Tie as tie
 
 mul-goals : tie.Need-mul-goals
 mul-goals c = search needs
