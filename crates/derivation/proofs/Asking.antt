@@ -20,6 +20,10 @@ use Rattle.table.specs.declared.Credential.{Credential}
 use Rattle.table.proofs.Tests.{and-is, and-is-off}
 use Rattle.derivation.specs.Rules.{asks, containmentAsks, goal, intersectionAsks, linkingAsks, membershipAsks, premises, when}
 
+-- a callee's answer, which is what the caller promises
+pub answer-is : {A B : Type 0} {x y z : B} → A × (x ≡ y) → y ≡ z → A × (x ≡ z)
+answer-is h e = (h .0, h .1 ∙ e)
+
 pub when-off : {test : Bool} (goals : List Goal) → test ≡ false → none ≡ when test goals
 unfolding pick
 when-off goals h = rw h

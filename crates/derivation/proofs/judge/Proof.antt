@@ -1,14 +1,14 @@
 -- `derivation::judge` meets its contract: what is kept after the whole record says what its forest says. Assumes nothing.
-use Rattle.derivation.proofs.Judged.{Begins, depth-fits, stops-number, verdict-leftover, verdict-stops, verdict-words}
-use Rattle.derivation.specs.Held.{above}
-use Rattle.derivation.specs.Verdict.{verdictTold}
-use Rattle.table.specs.Checks.{told}
-use denote.Ref.{now}
-use Prim.Native.Nat.{ℕ, _+_, _≤_}
-use Rattle.table.specs.Limits.{mostDepth}
 use mathlib.Core.Path.{_∙_, refl}
+use Prim.Native.Nat.{ℕ, _+_, _≤_}
 use native.Mathlib.Omega.{arith}
 use borrow.Author.Needs.{needs}
+use denote.Ref.{now}
+use Rattle.table.specs.Checks.{told}
+use Rattle.table.specs.Limits.{mostDepth}
+use Rattle.derivation.specs.Held.{above}
+use Rattle.derivation.specs.Verdict.{verdictTold}
+use Rattle.derivation.proofs.Judged.{Begins, depth-fits, stops-number, verdict-leftover, verdict-stops, verdict-words}
 use Rattle.derivation.proofs.judge.Statement.{statement}
 use Rattle.derivation.proofs.judge.Tie as tie
 

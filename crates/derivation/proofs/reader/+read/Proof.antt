@@ -5,12 +5,12 @@ use native.Mathlib.Omega.{arith}
 use borrow.Fn.Kinds.{In}
 use borrow.Fn.PlainCycle.{Measures, and, falls, is}
 use denote.Ref.{now}
+use Rattle.table.specs.Limits.{mostDepth}
+use Rattle.derivation.specs.Held.{Room, above}
 use Rattle.derivation.proofs.Onward.{Down, Node, Onward, child-stops, children-read, onward-goes, onward-starts, room-below}
 use Rattle.derivation.proofs.Onward.{node-credential, node-halts, node-level, node-long}
 use Rattle.derivation.proofs.reader.+read.{statement}
 use Rattle.derivation.proofs.reader.+read.Tie.{close}
-use Rattle.derivation.specs.Held.{Room, above}
-use Rattle.table.specs.Limits.{mostDepth}
 use Rattle.derivation.proofs.reader.read.Reads as read
 use Rattle.derivation.proofs.reader.read.Kinds as read-kinds
 use Rattle.derivation.proofs.reader.+read.Lts-read as read-lts

@@ -3,15 +3,15 @@ use mathlib.Core.Path.{_≡_, sym, _∙_}
 use mathlib.Core.Option.{some}
 use native.Mathlib.Omega.{arith}
 use lib.ListN.{getD, take}
-use denote.Ref.{now}
 use borrow.Author.Needs.{needs}
 use borrow.Author.Tests.{not-false, not-true}
-use Rattle.derivation.proofs.Entering.{entry-asks, entry-closed, entry-short, entry-unfit}
-use Rattle.derivation.proofs.Entering.{given-none, given-some, halts-with, may-fresh, may-none}
+use denote.Ref.{now}
+use Rattle.table.specs.Logic.{pick}
+use Rattle.table.proofs.Tests.{failed, passed}
 use Rattle.derivation.specs.Held.{stepped}
 use Rattle.derivation.specs.Rules.{premises}
-use Rattle.table.proofs.Tests.{failed, passed}
-use Rattle.table.specs.Logic.{pick}
+use Rattle.derivation.proofs.Entering.{entry-asks, entry-closed, entry-short, entry-unfit}
+use Rattle.derivation.proofs.Entering.{given-none, given-some, halts-with, may-fresh, may-none}
 use Rattle.derivation.proofs.reader.enter.Statement.{statement}
 use Rattle.derivation.proofs.reader.enter.Tie as tie
 

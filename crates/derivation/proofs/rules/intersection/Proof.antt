@@ -1,13 +1,13 @@
 -- `derivation::rules::intersection` meets its contract: the goals of the first i parts are gathered. Assumes nothing.
 use mathlib.Core.Path.{_∙_, ap, refl}
+use mathlib.Core.Option.{some}
 use Prim.Native.Nat.{_-_, _≤_}
 use native.Mathlib.Omega.{arith}
 use borrow.Author.Needs.{needs}
 use borrow.Author.Tests.{eq-eqb, ne-eqb}
-use Rattle.derivation.proofs.Asking.{Asked, asked-all, asked-more, asked-none, when-off, when-on}
-use Rattle.derivation.specs.Held.{given}
 use Rattle.table.specs.Logic.{pick}
-use mathlib.Core.Option.{some}
+use Rattle.derivation.specs.Held.{given}
+use Rattle.derivation.proofs.Asking.{Asked, answer-is, asked-all, asked-more, asked-none, when-off, when-on}
 use Rattle.derivation.proofs.rules.intersection.Statement.{statement}
 use Rattle.derivation.proofs.rules.intersection.Tie as tie
 
@@ -21,8 +21,7 @@ not-applying-requires : tie.Need-not-applying-requires Inv-loop μ-loop
 not-applying-requires c κs = search needs
 
 returns : tie.Need-returns Inv-loop μ-loop
-returns c =
-    (c .not-applying .ensures .0, c .not-applying .ensures .1 ∙ when-off _ (ne-eqb _ 0 (c .before .if1 .taken)))
+returns c = answer-is (c .not-applying .ensures) (when-off _ (ne-eqb _ 0 (c .before .if1 .taken)))
 
 loop-holds : tie.Need-loop-holds Inv-loop μ-loop
 loop-holds c = (omega arith, asked-none _ _ _ refl)

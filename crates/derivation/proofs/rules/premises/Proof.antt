@@ -4,23 +4,13 @@ use mathlib.Core.Path.{_≡_, _∙_, ap}
 use native.Mathlib.Omega.{arith}
 use borrow.Author.Needs.{needs}
 use denote.Ref.{now}
-use Rattle.derivation.proofs.Asking.{
-  asks-1,
-  asks-2,
-  asks-3,
-  asks-4,
-  asks-none,
-  chain-there,
-  credential-over,
-  no-credential,
-  other-role,
-  own-role,
-}
-use Rattle.derivation.specs.Rules.{asks, intersectionAsks, premises}
-use Rattle.table.proofs.Tests.{failed, passed}
-use Rattle.table.proofs.WellFormed.{wf-sized}
 use Rattle.table.specs.Layout.{Numbered, credential, credentials}
 use Rattle.table.specs.declared.Role.{Role}
+use Rattle.table.proofs.Tests.{failed, passed}
+use Rattle.table.proofs.WellFormed.{wf-sized}
+use Rattle.derivation.specs.Rules.{asks, intersectionAsks, premises}
+use Rattle.derivation.proofs.Asking.{answer-is, asks-1, asks-2, asks-3, asks-4, asks-none}
+use Rattle.derivation.proofs.Asking.{chain-there, credential-over, no-credential, other-role, own-role}
 use Rattle.derivation.proofs.rules.premises.Statement.{statement}
 use Rattle.derivation.proofs.rules.premises.Tie as tie
 
@@ -47,8 +37,7 @@ not-applying-requires : tie.Need-not-applying-requires
 not-applying-requires c κs = search needs
 
 returns : tie.Need-returns
-returns c =
-    (c .not-applying .ensures .0, c .not-applying .ensures .1 ∙ no-credential _ _ _ _ (c .before .if1 .taken))
+returns c = answer-is (c .not-applying .ensures) (no-credential _ _ _ _ (c .before .if1 .taken))
 
 shared-slice-read-if2 : tie.Need-shared-slice-read-if2
 shared-slice-read-if2 c =
@@ -59,8 +48,7 @@ not-applying-requires-2 : tie.Need-not-applying-requires-2
 not-applying-requires-2 c κs = search needs
 
 returns-2 : tie.Need-returns-2
-returns-2 c =
-    (c .not-applying2 .ensures .0, c .not-applying2 .ensures .1 ∙ credential-over _ _ _ _ (c .before .if2 .taken))
+returns-2 c = answer-is (c .not-applying2 .ensures) (credential-over _ _ _ _ (c .before .if2 .taken))
 
 wide-requires : tie.Need-wide-requires
 wide-requires c κs = search needs
@@ -81,7 +69,7 @@ returns-3 : tie.Need-returns-3
 returns-3 c =
     let read = c .before .before .before in
     let other = failed (c .before .before .same .ensures) (c .before .if3 .taken) in
-    (c .not-applying3 .ensures .0, c .not-applying3 .ensures .1 ∙ other-role _ _ _ _ (there read) _ (found read) other)
+    answer-is (c .not-applying3 .ensures) (other-role _ _ _ _ (there read) _ (found read) other)
 
 membership-requires : tie.Need-membership-requires
 membership-requires c κs = search needs
@@ -105,29 +93,26 @@ not-applying-requires-4 : tie.Need-not-applying-requires-4
 not-applying-requires-4 c κs = search needs
 
 returns-4 : tie.Need-returns-4
-returns-4 c =
-    (c .membership .ensures .0, c .membership .ensures .1 ∙ asks-1 _ _ _ _ (c .before .match .keys1) ∙ own (c .before .before))
+returns-4 c = answer-is (c .membership .ensures) (asks-1 _ _ _ _ (c .before .match .keys1) ∙ own (c .before .before))
 
 returns-5 : tie.Need-returns-5
-returns-5 c =
-    (c .containment .ensures .0, c .containment .ensures .1 ∙ asks-2 _ _ _ _ (c .before .match .keys2) ∙ own (c .before .before))
+returns-5 c = answer-is (c .containment .ensures) (asks-2 _ _ _ _ (c .before .match .keys2) ∙ own (c .before .before))
 
 returns-6 : tie.Need-returns-6
-returns-6 c =
-    (c .linking .ensures .0, c .linking .ensures .1 ∙ asks-3 _ _ _ _ (c .before .match .keys3) ∙ own (c .before .before))
+returns-6 c = answer-is (c .linking .ensures) (asks-3 _ _ _ _ (c .before .match .keys3) ∙ own (c .before .before))
 
 returns-7 : tie.Need-returns-7
 returns-7 c =
     let args = start (c .before .before .before .before .before) .args in
     let parts = ap (λ (roles : List Role). intersectionAsks (args .goal) roles (args .middle)) (c .before .chain .ensures .roles) in
     let asked = asks-4 _ _ _ _ (c .before .before .match .keys4) in
-    (c .intersection .ensures .0, c .intersection .ensures .1 ∙ parts ∙ asked ∙ own (c .before .before .before))
+    answer-is (c .intersection .ensures) (parts ∙ asked ∙ own (c .before .before .before))
 
 returns-8 : tie.Need-returns-8
 returns-8 c =
     let no = c .before .match .rest in
     let nothing = asks-none _ _ _ _ (no .0 .0 .0 .1) (no .0 .0 .1) (no .0 .1) (no .1) in
-    (c .not-applying4 .ensures .0, c .not-applying4 .ensures .1 ∙ nothing ∙ own (c .before .before))
+    answer-is (c .not-applying4 .ensures) (nothing ∙ own (c .before .before))
 
 pub premises-spec : {M : Type 1} → statement M
 premises-spec =

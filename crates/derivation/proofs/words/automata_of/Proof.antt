@@ -5,10 +5,10 @@ use Prim.Native.Nat.{_-_, _≤_}
 use native.Mathlib.Omega.{arith}
 use borrow.Author.Needs.{needs}
 use denote.Ref.{now}
-use Rattle.derivation.proofs.Judged.{automata-next, automaton-few}
-use Rattle.derivation.specs.Tally.{automataOf, automataUpTo}
-use Rattle.table.proofs.WellFormed.{wf-sized}
 use Rattle.table.specs.Layout.{credentials}
+use Rattle.table.proofs.WellFormed.{wf-sized}
+use Rattle.derivation.specs.Tally.{automataOf, automataUpTo}
+use Rattle.derivation.proofs.Judged.{automata-next, automaton-few}
 use Rattle.derivation.proofs.words.automata_of.Statement.{statement}
 use Rattle.derivation.proofs.words.automata_of.Tie as tie
 

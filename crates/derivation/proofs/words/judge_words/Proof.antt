@@ -5,16 +5,16 @@ use Prim.Native.Nat.{ℕ, _+_, _-_, _≤_}
 use native.Mathlib.Omega.{arith}
 use borrow.Author.Needs.{needs}
 use denote.Ref.{now}
-use Rattle.derivation.proofs.Judged.{kept-flag, refused-then}
-use Rattle.derivation.specs.Tally.{keeps}
-use Rattle.derivation.specs.Verdict.{verdictTold}
-use Rattle.table.proofs.Stages.{each-passes, each-stops, each-through, then-on}
-use Rattle.table.proofs.Tests.{failed, passed}
-use Rattle.table.proofs.WellFormed.{wf-sized}
 use Rattle.table.specs.Checks.{told}
 use Rattle.table.specs.Layout.{automata}
 use Rattle.table.specs.Outcome.{demandEach}
 use Rattle.table.specs.Outcome.Outcome.{accepted}
+use Rattle.table.proofs.Stages.{each-passes, each-stops, each-through, then-on}
+use Rattle.table.proofs.Tests.{failed, passed}
+use Rattle.table.proofs.WellFormed.{wf-sized}
+use Rattle.derivation.specs.Tally.{keeps}
+use Rattle.derivation.specs.Verdict.{verdictTold}
+use Rattle.derivation.proofs.Judged.{kept-flag, refused-then}
 use Rattle.derivation.proofs.words.judge_words.Statement.{statement}
 use Rattle.derivation.proofs.words.judge_words.Tie as tie
 

@@ -4,9 +4,9 @@ use mathlib.Core.Path.{_∙_, _≡_, refl, sym}
 use Prim.Native.Nat.{_-_, _≤_}
 use native.Mathlib.Omega.{arith}
 use borrow.Author.Needs.{needs}
-use Rattle.derivation.proofs.Above.{fresh-next, fresh-not}
 use Rattle.derivation.specs.Held.{above, upTo}
 use Rattle.derivation.specs.Rules.{fresh}
+use Rattle.derivation.proofs.Above.{fresh-next, fresh-not}
 use Rattle.derivation.proofs.branches.Branch.is_fresh.Statement.{statement}
 use Rattle.derivation.proofs.branches.Branch.is_fresh.Tie as tie
 

@@ -15,14 +15,9 @@ add-t5 : tie.Need-add-t5
 add-t5 c = search needs
 
 returns : tie.Need-returns
-returns c = (
-  room-with _ _ (c .before .pre .0) (c .before .pre .1),
-  (
-    refl,
-    above-with _ _ (c .before .pre .0)
-        (c .before .pre .1),
-  ),
-)
+returns c =
+    let pre = c .before .pre in
+    (room-with _ _ (pre .0) (pre .1), (refl, above-with _ _ (pre .0) (pre .1)))
 
 pub with-spec : {M : Type 1} → statement M
 with-spec = tie.close (tie.spec mul-goals array-set-from-goals add-t5 returns)
