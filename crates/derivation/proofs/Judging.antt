@@ -84,7 +84,7 @@ module _ (t : List ℕ) (k : ℕ) (own : Numbered (automata t) k) (few : automat
   node-member true every below word more h = inSet-and every _ (k - 1) ∙ rw (accepting-member word, and-true)
   node-member false every below word more h = h
 
-  pub every-member : (above : List Role) (every : ℕ) (f : Forest)
+  every-member : (above : List Role) (every : ℕ) (f : Forest)
       → inSet (everyFrom t (setsAfter t above) every f) (k - 1) ≡ (inSet every (k - 1) and acceptsAll t k (words t above f))
   unfolding everyFrom words acceptsAll
   every-member above every end = sym (and-true _)
@@ -100,7 +100,7 @@ unfolding setOf pick _and_
 all-automata k own = setOf-members (λ s. true) mostAutomata (k - 1) ∙ rw (lt-ltb (k - 1) mostAutomata (omega arith))
 
 -- tests that agree on 1 to n stop a row of checks at the same record
-pub demandEach-ext : (p q : ℕ → Bool) (n number : ℕ) → ((k : ℕ) → Numbered n k → p k ≡ q k) → demandEach p n number ≡ demandEach q n number
+demandEach-ext : (p q : ℕ → Bool) (n number : ℕ) → ((k : ℕ) → Numbered n k → p k ≡ q k) → demandEach p n number ≡ demandEach q n number
 unfolding demandEach
 demandEach-ext p q zero number same = refl
 demandEach-ext p q (suc n) number same =

@@ -6,15 +6,13 @@ use native.Mathlib.Omega.{arith}
 use native.Mathlib.Numerals.{add-one}
 use lib.ListN.{drop, getD, length, take, drop-of-length-le, length-drop}
 use lib.Seq.{drop-cons, getD-take, length-take-le, take-all}
-use lib.Bits.{bitAnd, bitOr}
-use lib.Dec.{eqb}
-use Rattle.table.specs.Logic.{pick}
+use lib.Bits.{bitOr}
 use Rattle.table.specs.Limits.{mostCredentials, mostParts}
 use Rattle.table.specs.Layout.{Numbered}
 use Rattle.table.specs.Checks.{WellFormed}
 use Rattle.table.specs.declared.Goal.{Goal}
 use Rattle.table.proofs.WellFormed.{wf-sized}
-use Rattle.automata.specs.Automata.{acceptingSet, movedSets}
+use Rattle.automata.specs.Automata.{movedSets}
 use Rattle.automata.specs.declared.StateSets.{StateSets}
 use Rattle.derivation.specs.Reading.{entry}
 use Rattle.derivation.specs.Reading.Entry.{ask}

@@ -4,9 +4,8 @@ use mathlib.Core.Path.{_≡_, refl, sym}
 use mathlib.Core.List.{List, [], _∷_, _++_, append-assoc}
 use mathlib.Core.Bool.{Bool, true, false}
 use mathlib.Core.Option.{Option, none, some}
-use Prim.Native.Nat.{ℕ, zero, suc, _<_}
+use Prim.Native.Nat.{ℕ, zero, suc}
 use native.Mathlib.Omega.{arith}
-use lib.ListN.{length}
 use Rattle.table.specs.Logic.{pick}
 use Rattle.table.specs.declared.Goal.{Goal}
 use Rattle.table.specs.declared.Query.{Query}
@@ -125,7 +124,7 @@ reader-ends t zero branch = floor-all t branch
 reader-ends t (suc levels) branch = level-all t branch levels (λ g. reader-ends t levels (g ∷ branch))
 
 -- what an ending says, once it is known which
-pub ends-read : {t : List ℕ} {levels : ℕ} {branch goals : List Goal} {at : ℕ} {rec rest : List ℕ} {r : Reading} {f : Forest}
+ends-read : {t : List ℕ} {levels : ℕ} {branch goals : List Goal} {at : ℕ} {rec rest : List ℕ} {r : Reading} {f : Forest}
     → Ends t levels branch goals at rec r → r ≡ read rest f → Derives t levels branch goals f × (rec ≡ written f ++ rest)
 ends-read {f} (reads {rest} {f = f′} d) e = let same : f′ ≡ f = cc in (rw same at d, cc)
 ends-read (stops s) e = absurd (read-stop (sym e))

@@ -28,7 +28,7 @@ place zero i h = absurd (h refl)
 place (suc c) i h = let e : suc c - 1 ≡ c = omega arith in rw (e, eqb·suc-suc c i)
 
 -- where no credential is 0, the used set has those that were in it before and those that are named
-pub used-member : (f : Forest) → names f 0 ≡ false → (used i : ℕ) → inSet (usedFrom used f) i ≡ (inSet used i or names f (suc i))
+used-member : (f : Forest) → names f 0 ≡ false → (used i : ℕ) → inSet (usedFrom used f) i ≡ (inSet used i or names f (suc i))
 unfolding usedFrom names
 used-member end h used i = sym (or-false (inSet used i))
 used-member (node c m children siblings) h used i =
