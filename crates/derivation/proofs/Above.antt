@@ -1,7 +1,7 @@
 -- The branch as the code holds it: one goal more, and whether a goal's role is on it.
 use mathlib.Core.Path.{_≡_, refl}
 use mathlib.Core.List.{List, _∷_}
-use mathlib.Core.Bool.{Bool, true, false, not}
+use mathlib.Core.Bool.{true, false, not}
 use mathlib.Core.Logic.{⊎-elim}
 use Prim.Native.Nat.{ℕ, zero, suc, _+_, _≤_, _<_}
 use native.Mathlib.Omega.{arith}
@@ -13,9 +13,10 @@ use Rattle.table.specs.Logic.{_and_}
 use Rattle.table.specs.Limits.{mostDepth}
 use Rattle.table.specs.Layout.{sameRole}
 use Rattle.table.specs.declared.Goal.{Goal}
+use Rattle.table.proofs.Tests.{and-false}
 use Rattle.derivation.specs.Rules.{fresh}
 use Rattle.derivation.specs.Held.{Room, above, noGoal, upTo}
-use Rattle.derivation.specs.declared.Branch.{Branch}
+use Rattle.derivation.specs.declared.branches.Branch.{Branch}
 
 up-to-set : (goals : List Goal) (g : Goal) (len n : ℕ) → n ≤ len → upTo (set goals len g) n ≡ upTo goals n
 unfolding upTo
@@ -23,26 +24,31 @@ up-to-set goals g len zero h = refl
 up-to-set goals g len (suc n) h =
     rw (getD-set-other goals len n g noGoal (λ e. omega arith), up-to-set goals g len n (omega arith))
 
-pub above-with : (b : Branch) (g : Goal) → Room mostDepth (b .len) (b .goals) → b .len < mostDepth → above (record { len = b .len + 1; goals = set (b .goals) (b .len) g }) ≡ g ∷ above b
+pub above-with : (b : Branch) (g : Goal) → Room mostDepth (b .len) (b .goals) → b .len < mostDepth
+    → above (record { len = b .len + 1; goals = set (b .goals) (b .len) g }) ≡ g ∷ above b
 unfolding above upTo
 above-with b g room less =
-    rw (add-one (b .len), getD-set-same (b .goals) (b .len) g noGoal (omega (arith, room .size)), up-to-set (b .goals) g (b .len) (b .len) (omega arith))
+    let nearest = getD-set-same (b .goals) (b .len) g noGoal (omega (arith, room .size)) in
+    let others = up-to-set (b .goals) g (b .len) (b .len) (omega arith) in
+    rw (add-one (b .len), nearest, others)
 
-pub room-with : (b : Branch) (g : Goal) → Room mostDepth (b .len) (b .goals) → b .len < mostDepth → Room mostDepth (b .len + 1) (set (b .goals) (b .len) g)
+pub room-with : (b : Branch) (g : Goal) → Room mostDepth (b .len) (b .goals) → b .len < mostDepth
+    → Room mostDepth (b .len + 1) (set (b .goals) (b .len) g)
 room-with b g room less = record { fits = omega arith; size = simp length-set (room .size) }
 
 -- the goals below i are of other roles, and so is goal i
-pub fresh-next : (goals : List Goal) (g : Goal) (i : ℕ) → fresh (upTo goals i) g ≡ true → sameRole (getD goals i noGoal .role) (g .role) ≡ false → fresh (upTo goals (i + 1)) g ≡ true
+pub fresh-next : (goals : List Goal) (g : Goal) (i : ℕ) → fresh (upTo goals i) g ≡ true
+    → sameRole (getD goals i noGoal .role) (g .role) ≡ false → fresh (upTo goals (i + 1)) g ≡ true
 unfolding upTo fresh _and_
 fresh-next goals g i so-far other = rw (add-one i, other) so-far
 
 -- goal i is of the same role
-pub fresh-not : (goals : List Goal) (g : Goal) (i n : ℕ) → i + 1 ≤ n → sameRole (getD goals i noGoal .role) (g .role) ≡ true → fresh (upTo goals n) g ≡ false
+pub fresh-not : (goals : List Goal) (g : Goal) (i n : ℕ) → i + 1 ≤ n → sameRole (getD goals i noGoal .role) (g .role) ≡ true
+    → fresh (upTo goals n) g ≡ false
 unfolding upTo fresh _and_
 fresh-not goals g i zero h same = absurd (omega arith)
 fresh-not goals g i (suc n) h same =
-    ⊎-elim (λ last. let e : n ≡ i = omega arith in rw (e, same)) (λ less. later (not (sameRole (getD goals n noGoal .role) (g .role))) (fresh-not goals g i n (omega arith) same)) (eq-or-lt-of-le h)
-  where
-    later : (b : Bool) → fresh (upTo goals n) g ≡ false → (b and fresh (upTo goals n) g) ≡ false
-    later true e = e
-    later false e = refl
+    ⊎-elim
+    (λ last. let e : n ≡ i = omega arith in rw (e, same))
+    (λ less. rw (fresh-not goals g i n (omega arith) same) (and-false (not (sameRole (getD goals n noGoal .role) (g .role)))))
+    (eq-or-lt-of-le h)

@@ -26,7 +26,8 @@ same-role r s h = ap₂ role (eqb-true _ _ (and-first _ _ h)) (eqb-true _ _ (and
 pub none-some : {goals : List Goal} → none ≡ some goals → ⊥
 none-some e = let z : _≡_ {A = ℕ} 0 1 = cc in omega arith
 
-pub picked : (test : Bool) (asked : Option (List Goal)) (goals : List Goal) → pick test asked none ≡ some goals → (test ≡ true) × (asked ≡ some goals)
+pub picked : (test : Bool) (asked : Option (List Goal)) (goals : List Goal) → pick test asked none ≡ some goals
+    → (test ≡ true) × (asked ≡ some goals)
 unfolding pick
 picked true asked goals h = (refl, h)
 picked false asked goals h = absurd (none-some h)
@@ -55,7 +56,7 @@ cons-nil e = let z : _≡_ {A = ℕ} 0 1 = cc in omega arith
 
 -- a chain has parts
 pub some-parts : (t : List ℕ) (f : Role → Goal) (first : ℕ) → 2 ≤ length (chain t first) → map f (parts t first) ≡ [] → ⊥
-unfolding parts length
+unfolding parts
 some-parts t f first long e = go (chain t first) long e
   where
     go : (cells : List ℕ) → 2 ≤ length cells → map f (map (λ (k : ℕ). cell t k .role) cells) ≡ [] → ⊥
@@ -63,7 +64,8 @@ some-parts t f first long e = go (chain t first) long e
     go (j ∷ more) few e = cons-nil e
 
 -- something is asked, so the kind is not 1
-pub asks-more : (t : List ℕ) (g : Goal) (c m : ℕ) (h : Goal) (goals : List Goal) → premises t g c m ≡ some (h ∷ goals) → credential t c .kind ≡ 1 → ⊥
+pub asks-more : (t : List ℕ) (g : Goal) (c m : ℕ) (h : Goal) (goals : List Goal) → premises t g c m ≡ some (h ∷ goals)
+    → credential t c .kind ≡ 1 → ⊥
 asks-more t g c m h goals applies one =
     cons-nil (sym (when-some _ [] (h ∷ goals) (asks-1 t g (credential t c) m one ∙ applies-asks t g c m (h ∷ goals) applies)))
 
@@ -85,5 +87,6 @@ asks-nothing t wf g c m applies = go (ℕ-discrete kind 1) (ℕ-discrete kind 2)
     go (no n1) (yes h) d3 d4 = absurd (cons-nil (when-some _ _ [] (asks-2 t g (credential t c) m h ∙ asked)))
     go (no n1) (no n2) (yes h) d4 = absurd (cons-nil (when-some _ _ [] (asks-3 t g (credential t c) m h ∙ asked)))
     go (no n1) (no n2) (no n3) (yes h) =
-        absurd (some-parts t _ (credential t c .first) (wf-chain t wf c there h .least) (when-some _ _ [] (asks-4 t g (credential t c) m h ∙ asked)))
+        let none-asked = when-some _ _ [] (asks-4 t g (credential t c) m h ∙ asked) in
+        absurd (some-parts t _ (credential t c .first) (wf-chain t wf c there h .least) none-asked)
     go (no n1) (no n2) (no n3) (no n4) = absurd (none-some (asks-none t g (credential t c) m n1 n2 n3 n4 ∙ asked))

@@ -20,6 +20,10 @@ use Rattle.table.specs.declared.Credential.{Credential}
 use Rattle.table.proofs.Tests.{and-is, and-is-off}
 use Rattle.derivation.specs.Rules.{asks, containmentAsks, goal, intersectionAsks, linkingAsks, membershipAsks, premises, when}
 
+-- a callee's answer, which is what the caller promises
+pub answer-is : {A B : Type 0} {x y z : B} → A × (x ≡ y) → y ≡ z → A × (x ≡ z)
+answer-is h e = (h .0, h .1 ∙ e)
+
 pub when-off : {test : Bool} (goals : List Goal) → test ≡ false → none ≡ when test goals
 unfolding pick
 when-off goals h = rw h
@@ -70,7 +74,9 @@ module _ (t : List ℕ) (g : Goal) (c m : ℕ) where
 
   pub credential-over : credentials t < c → none ≡ premises t g c m
   unfolding premises within pick
-  credential-over h = rw (and-is-off (sameRole (credential t c .role) (g .role)) (and-is (le-leb 1 c (omega arith)) (lt-leb c (credentials t) h)))
+  credential-over h =
+      let outside = and-is (le-leb 1 c (omega arith)) (lt-leb c (credentials t) h) in
+      rw (and-is-off (sameRole (credential t c .role) (g .role)) outside)
 
   within-all : Numbered (credentials t) c → within 1 (credentials t) c ≡ true
   unfolding within
@@ -92,23 +98,25 @@ pub record Asked (g : Goal) (roles : List Role) (goals : List Goal) (i : ℕ) : 
   pub so-far : take i goals ≡ map (λ (r : Role). goal (g .principal) r) (take i roles)
 
 -- one part more: role r of the chain stands at i
-pub asked-more : (g : Goal) (roles : List Role) (goals : List Goal) (i : ℕ) (d : Role) → Asked g roles goals i → i < mostParts → i < length roles → Asked g roles (set goals i (goal (g .principal) (getD roles i d))) (i + 1)
+pub asked-more : (g : Goal) (roles : List Role) (goals : List Goal) (i : ℕ) (d : Role) → Asked g roles goals i → i < mostParts
+    → i < length roles → Asked g roles (set goals i (goal (g .principal) (getD roles i d))) (i + 1)
 asked-more g roles goals i d a room there =
+    let one-more = take-suc-set goals i (goal (g .principal) (getD roles i d)) (omega (arith, a .size)) in
     record {
       size = simp length-set (a .size);
-      so-far =
-          rw (add-one i, take-suc-set goals i (goal (g .principal) (getD roles i d)) (omega (arith, a .size)), take-suc roles i d there, map-append, ← a .so-far);
+      so-far = rw (add-one i, one-more, take-suc roles i d there, map-append, ← a .so-far);
     }
 
 pub asked-none : (g : Goal) (roles : List Role) (goals : List Goal) → length goals ≡ mostParts → Asked g roles goals 0
-unfolding take
 asked-none g roles goals size = record { size = size; so-far = refl }
 
-pub asked-all : (g : Goal) (roles : List Role) (goals : List Goal) (i len : ℕ) → i ≡ len → Asked g roles goals i → take len goals ≡ map (λ (r : Role). goal (g .principal) r) (take len roles)
+pub asked-all : (g : Goal) (roles : List Role) (goals : List Goal) (i len : ℕ) → i ≡ len → Asked g roles goals i
+    → take len goals ≡ map (λ (r : Role). goal (g .principal) r) (take len roles)
 asked-all g roles goals i len all a = rw all at (a .so-far)
 
 -- an intersection's first cell is there, and its chain has 2 to 4 cells; the code has read credential c as x
-pub chain-there : (t : List ℕ) → WellFormed t → (c : ℕ) → Numbered (credentials t) c → (x : Credential) → x ≡ credential t c → x .kind ≡ 4 → Numbered (cells t) (x .first) × (chainOk t (x .first) ≡ true)
+pub chain-there : (t : List ℕ) → WellFormed t → (c : ℕ) → Numbered (credentials t) c → (x : Credential) → x ≡ credential t c
+    → x .kind ≡ 4 → Numbered (cells t) (x .first) × (chainOk t (x .first) ≡ true)
 chain-there t wf c there x read four =
     let kind = ap (λ (y : Credential). y .kind) (sym read) ∙ four in
     rw read (wf-credential t wf c there .intersection kind .0, wf-chain-ok t wf c there kind)

@@ -9,28 +9,37 @@ use Rattle.table.specs.Outcome.Outcome.{accepted, refused}
 use Rattle.table.specs.Layout.{automata}
 use Rattle.table.specs.Checks.{Valid, WellFormed, requestOutcome}
 use Rattle.table.specs.declared.Query.{Query}
-use Rattle.table.proofs.Stages.{FirstFailure, each-all, each-first, each-ok, each-refused, then-first, then-refused, then-second, refused-accepted}
+use Rattle.table.proofs.Stages.{FirstFailure, each-all, each-first, each-ok, each-refused}
+use Rattle.table.proofs.Stages.{refused-accepted, then-first, then-refused, then-second}
 use Rattle.derivation.specs.Rules.{goalOf}
 use Rattle.derivation.specs.Forest.{Derives, Forest, written}
 use Rattle.derivation.specs.Words.{met}
-use Rattle.derivation.specs.Reading.{Reading, reader}
+use Rattle.derivation.specs.Reading.{Reading}
 use Rattle.derivation.specs.Verdict.{Accepted, judged, verdict}
 use Rattle.derivation.specs.DemandTwo.{DemandTwo, EveryRefusal, FirstRefusal, OneDerivation, Refuses}
 use Rattle.derivation.specs.DemandTwo.Refuses.{stops as reading, leftover, rejected}
 use Rattle.derivation.proofs.Complying.{complies-met, met-complies}
-use Rattle.derivation.proofs.Readings.{Ends, ends-stop, reader-complete, reader-ends, reader-stops}
+use Rattle.derivation.proofs.Readings.{Ends, ends-stop, queried, reader-complete, reader-ends, reader-stops}
 use Rattle.derivation.proofs.Readings.Ends.{reads, stops}
 
 same-value : {v w : ℕ} → accepted v ≡ accepted w → v ≡ w
 same-value e = cc
 
 -- on an accepted table and a valid query the verdict is the reading's
-verdict-judged : (t : List ℕ) (q : Query) (rec : List ℕ) → WellFormed t → Valid q → verdict t q rec ≡ judged t (reader t (q .depth) [] (goalOf q ∷ []) rec 1)
+verdict-judged : (t : List ℕ) (q : Query) (rec : List ℕ) → WellFormed t → Valid q
+    → verdict t q rec ≡ judged t (queried t q rec)
 unfolding verdict requestOutcome _andThen_
 verdict-judged t q rec wf valid = rw (wf, valid)
 
+-- how the reading of a whole record ends
+abbrev EndsFor : List ℕ → Query → List ℕ → Reading → Type 0
+EndsFor t q rec r = Ends t (q .depth) [] (goalOf q ∷ []) 1 rec r
+
+ends-for : (t : List ℕ) (q : Query) (rec : List ℕ) → EndsFor t q rec (queried t q rec)
+ends-for t q rec = reader-ends t (q .depth) [] (goalOf q ∷ []) rec 1
+
 module _ (t : List ℕ) (wf : WellFormed t) (q : Query) (S : ℕ) where
-  judged-accepts : {rec : List ℕ} {r : Reading} → Ends t (q .depth) [] (goalOf q ∷ []) 1 rec r → judged t r ≡ accepted S → Accepted t q rec S
+  judged-accepts : {rec : List ℕ} {r : Reading} → EndsFor t q rec r → judged t r ≡ accepted S → Accepted t q rec S
   unfolding judged
   judged-accepts (reads {rest = []} {f} d) e =
       record {
@@ -43,14 +52,16 @@ module _ (t : List ℕ) (wf : WellFormed t) (q : Query) (S : ℕ) where
   judged-accepts (reads {rest = x ∷ more} d) e = absurd (refused-accepted e)
   judged-accepts (stops s) e = absurd (refused-accepted e)
 
-  accepts-judged : {rec : List ℕ} → Accepted t q rec S → judged t (reader t (q .depth) [] (goalOf q ∷ []) rec 1) ≡ accepted S
+  accepts-judged : {rec : List ℕ} → Accepted t q rec S → judged t (queried t q rec) ≡ accepted S
   unfolding judged _andThen_
   accepts-judged a =
-      rw (← a .whole, ← append-nil (written (a .forest)), reader-complete (a .derives) [] 1, each-all (met t (a .forest)) 14 (automata t) (complies-met wf (a .derives) (a .complies)), a .uses)
+      let all-met = each-all (met t (a .forest)) 14 (automata t) (complies-met wf (a .derives) (a .complies)) in
+      rw (← a .whole, ← append-nil (written (a .forest)), reader-complete (a .derives) [] 1, all-met, a .uses)
 
 pub demand-two : DemandTwo
 demand-two t q rec S wf valid =
-    ((λ e. judged-accepts t wf q S (reader-ends t (q .depth) [] (goalOf q ∷ []) rec 1) (sym (verdict-judged t q rec wf valid) ∙ e)), (λ a. verdict-judged t q rec wf valid ∙ accepts-judged t wf q S a))
+    let told = verdict-judged t q rec wf valid in
+    ((λ e. judged-accepts t wf q S (ends-for t q rec) (sym told ∙ e)), (λ a. told ∙ accepts-judged t wf q S a))
 
 pub one-derivation : OneDerivation
 one-derivation t levels branch goals f f′ d d′ same =
@@ -64,18 +75,22 @@ first-refusal t levels branch goals rec at number position =
 
 -- what is told where a reading is refused, both ways
 module _ (t : List ℕ) (q : Query) where
-  same-refusal : {rec : List ℕ} {number position number′ position′ : ℕ} → refused number position ≡ refused number′ position′ → Refuses t q rec number position → Refuses t q rec number′ position′
+  same-refusal : {rec : List ℕ} {number position number′ position′ : ℕ} → refused number position ≡ refused number′ position′
+      → Refuses t q rec number position → Refuses t q rec number′ position′
   same-refusal {number} {position} {number′} {position′} e r =
       let one : number ≡ number′ = cc in
       let two : position ≡ position′ = cc in
       rw (one, two) at r
 
   -- the row of automata stops: 14, and the first that is not met
-  rejects : {f : Forest} {number position : ℕ} → Derives t (q .depth) [] (goalOf q ∷ []) f → (14 ≡ number) × FirstFailure (met t f) (automata t) position → Refuses t q (written f ++ []) number position
+  rejects : {f : Forest} {number position : ℕ} → Derives t (q .depth) [] (goalOf q ∷ []) f
+      → (14 ≡ number) × FirstFailure (met t f) (automata t) position
+      → Refuses t q (written f ++ []) number position
   rejects {f} d (own, first) =
       rw own at (rejected d (append-nil (written f)) (first .within) (first .fails) (first .before))
 
-  judged-refuses : {rec : List ℕ} {r : Reading} {number position : ℕ} → Ends t (q .depth) [] (goalOf q ∷ []) 1 rec r → judged t r ≡ refused number position → Refuses t q rec number position
+  judged-refuses : {rec : List ℕ} {r : Reading} {number position : ℕ} → EndsFor t q rec r → judged t r ≡ refused number position
+      → Refuses t q rec number position
   unfolding judged
   judged-refuses (reads {rest = []} {f} d) e =
       ⊎-elim (λ row. rejects d (each-refused (met t f) 14 (automata t) _ _ row))
@@ -84,13 +99,16 @@ module _ (t : List ℕ) (q : Query) where
   judged-refuses (reads {rest = x ∷ more} d) e = same-refusal e (leftover x more d refl)
   judged-refuses (stops s) e = same-refusal e (reading s)
 
-  refuses-judged : {rec : List ℕ} {number position : ℕ} → Refuses t q rec number position → judged t (reader t (q .depth) [] (goalOf q ∷ []) rec 1) ≡ refused number position
+  refuses-judged : {rec : List ℕ} {number position : ℕ} → Refuses t q rec number position
+      → judged t (queried t q rec) ≡ refused number position
   unfolding judged _andThen_
   refuses-judged (reading s) = rw (reader-stops s)
   refuses-judged (leftover x more d whole) = rw (whole, reader-complete d (x ∷ more) 1)
   refuses-judged (rejected {f} {k} d whole within fails before) =
-      rw (whole, ← append-nil (written f), reader-complete d [] 1, each-first (met t f) 14 (automata t) k (record { within = within; fails = fails; before = before }))
+      let row = each-first (met t f) 14 (automata t) k (record { within = within; fails = fails; before = before }) in
+      rw (whole, ← append-nil (written f), reader-complete d [] 1, row)
 
 pub every-refusal : EveryRefusal
 every-refusal t q rec number position wf valid =
-    ((λ e. judged-refuses t q (reader-ends t (q .depth) [] (goalOf q ∷ []) rec 1) (sym (verdict-judged t q rec wf valid) ∙ e)), (λ r. verdict-judged t q rec wf valid ∙ refuses-judged t q r))
+    let told = verdict-judged t q rec wf valid in
+    ((λ e. judged-refuses t q (ends-for t q rec) (sym told ∙ e)), (λ r. told ∙ refuses-judged t q r))

@@ -1,5 +1,5 @@
 -- A node's entry, test by test: rows 11, 12 and 13, and what the code's step says of them.
-use mathlib.Core.Path.{_≡_, refl}
+use mathlib.Core.Path.{_≡_, refl, ap, _∙_}
 use mathlib.Core.List.{List, [], _∷_}
 use mathlib.Core.Bool.{Bool, true, false}
 use mathlib.Core.Option.{none, some}
@@ -8,13 +8,14 @@ use native.Mathlib.Omega.{arith}
 use lib.ListN.{drop, getD, length, take}
 use borrow.Author.Tests.{ne-eqb}
 use Rattle.table.specs.Logic.{pick}
+use Rattle.table.specs.Limits.{mostParts}
 use Rattle.table.specs.declared.Goal.{Goal}
 use Rattle.derivation.specs.Rules.{fresh, premises}
-use Rattle.derivation.specs.Reading.{admitted, entry}
+use Rattle.derivation.specs.Reading.{Entry, admitted, entry}
 use Rattle.derivation.specs.Reading.Entry.{ask, halt}
-use Rattle.derivation.specs.Held.{given, may, stepped}
+use Rattle.derivation.specs.Held.{Halted, Room, given, may, stepped}
 use Rattle.derivation.specs.declared.Premises.{Premises}
-use Rattle.derivation.specs.declared.Step.{Step}
+use Rattle.derivation.specs.declared.reader.Step.{Step}
 
 pub may-none : (levels : ℕ) (branch : List Goal) (g : Goal) → levels ≡ 0 → may levels branch g ≡ false
 unfolding may
@@ -33,19 +34,32 @@ pub given-some : (p : Premises) → p .applies ≡ true → given p ≡ some (ta
 unfolding given pick
 given-some p h = rw h
 
-pub halted-tells : (s : Step) (number : ℕ) (rec : List ℕ) → 0 < number → s .refusal ≡ number → stepped s rec ≡ halt number
+-- the code's step says how a node is entered
+pub step-halts : (s : Step) (rec : List ℕ) → (s .refusal ≡ 0 → ⊥) → stepped s rec ≡ halt (s .refusal)
 unfolding stepped pick
-halted-tells s number rec some-number h = rw (h, ne-eqb number 0 (omega arith))
+step-halts s rec h = rw (ne-eqb (s .refusal) 0 h)
+
+pub step-asks : (s : Step) (rec : List ℕ) → s .refusal ≡ 0
+    → stepped s rec ≡ ask (s .credential) (s .middle) (take (s .len) (s .goals)) (drop 2 rec)
+unfolding stepped pick
+step-asks s rec h = rw h
+
+-- a step that halts says of the record what its entry says
+pub halts-with : {s : Step} {number : ℕ} {e : Entry} (rec : List ℕ) → 0 < number → Halted s number → halt number ≡ e
+    → Room mostParts (s .len) (s .goals) × (stepped s rec ≡ e)
+halts-with {s} {number} rec some-number halted h =
+    (halted .room, step-halts s rec (λ z. omega (arith, halted .refusal)) ∙ ap halt (halted .refusal) ∙ h)
 
 module _ (t : List ℕ) (open′ : Bool) (g : Goal) where
   pub entry-short : (rec : List ℕ) → length rec < 2 → halt 11 ≡ entry t open′ g rec
-  unfolding entry length
+  unfolding entry
   entry-short [] h = refl
   entry-short (c ∷ []) h = refl
   entry-short (c ∷ m ∷ rest) h = absurd (omega arith)
 
-  entry-two : (rec : List ℕ) → 2 ≤ length rec → entry t open′ g rec ≡ admitted open′ (getD rec 0 0) (getD rec 1 0) (drop 2 rec) (premises t g (getD rec 0 0) (getD rec 1 0))
-  unfolding entry length getD drop
+  entry-two : (rec : List ℕ) → 2 ≤ length rec
+      → entry t open′ g rec ≡ admitted open′ (getD rec 0 0) (getD rec 1 0) (drop 2 rec) (premises t g (getD rec 0 0) (getD rec 1 0))
+  unfolding entry
   entry-two [] h = absurd (omega arith)
   entry-two (c ∷ []) h = absurd (omega arith)
   entry-two (c ∷ m ∷ rest) h = refl
@@ -55,10 +69,12 @@ module _ (t : List ℕ) (open′ : Bool) (g : Goal) where
     unfolding admitted
     entry-unfit h = rw (entry-two rec long, h)
 
-    pub entry-closed : {goals : List Goal} → premises t g (getD rec 0 0) (getD rec 1 0) ≡ some goals → open′ ≡ false → halt 13 ≡ entry t open′ g rec
+    pub entry-closed : {goals : List Goal} → premises t g (getD rec 0 0) (getD rec 1 0) ≡ some goals
+        → open′ ≡ false → halt 13 ≡ entry t open′ g rec
     unfolding admitted pick
     entry-closed h shut = rw (entry-two rec long, h, shut)
 
-    pub entry-asks : {goals : List Goal} → premises t g (getD rec 0 0) (getD rec 1 0) ≡ some goals → open′ ≡ true → ask (getD rec 0 0) (getD rec 1 0) goals (drop 2 rec) ≡ entry t open′ g rec
+    pub entry-asks : {goals : List Goal} → premises t g (getD rec 0 0) (getD rec 1 0) ≡ some goals
+        → open′ ≡ true → ask (getD rec 0 0) (getD rec 1 0) goals (drop 2 rec) ≡ entry t open′ g rec
     unfolding admitted pick
     entry-asks h free = rw (entry-two rec long, h, free)

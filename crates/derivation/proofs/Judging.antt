@@ -76,28 +76,31 @@ module _ (t : List ℕ) (k : ℕ) (own : Numbered (automata t) k) (few : automat
       ∙ rw (lt-ltb (k - 1) (automata t) (omega arith), together-at (λ i. run t i (starting t i) word) k eight, next)
 
   -- a node of kind 1 has one word, and any other has those of its children
-  node-member : (one : Bool) (every below : ℕ) (word : List Role) (more : List (List Role)) → inSet below (k - 1) ≡ (inSet every (k - 1) and acceptsAll t k more)
-      → inSet (pick one (bitAnd every (acceptingSet t (setsAfter t word))) below) (k - 1) ≡ (inSet every (k - 1) and acceptsAll t k (pick one (word ∷ []) more))
+  node-member : (one : Bool) (every below : ℕ) (word : List Role) (more : List (List Role))
+      → inSet below (k - 1) ≡ (inSet every (k - 1) and acceptsAll t k more)
+      → inSet (pick one (bitAnd every (acceptingSet t (setsAfter t word))) below) (k - 1)
+      ≡ (inSet every (k - 1) and acceptsAll t k (pick one (word ∷ []) more))
   unfolding pick acceptsAll
   node-member true every below word more h = inSet-and every _ (k - 1) ∙ rw (accepting-member word, and-true)
   node-member false every below word more h = h
 
-  pub every-member : (above : List Role) (every : ℕ) (f : Forest)
+  every-member : (above : List Role) (every : ℕ) (f : Forest)
       → inSet (everyFrom t (setsAfter t above) every f) (k - 1) ≡ (inSet every (k - 1) and acceptsAll t k (words t above f))
   unfolding everyFrom words acceptsAll
   every-member above every end = sym (and-true _)
   every-member above every (node c m children siblings) =
       let word = above ++ (credential t c .role ∷ []) in
+      let below = every-member word every children in
+      let here = node-member (eqb (credential t c .kind) 1) every _ word (words t word children) below in
       rw (sets-after-next t above (credential t c .role), accepts-all-append)
-      (every-member above _ siblings
-      ∙ rw (node-member (eqb (credential t c .kind) 1) every _ word (words t word children) (every-member word every children)) (and-assoc _ _ _))
+      (every-member above _ siblings ∙ rw here (and-assoc _ _ _))
 
 all-automata : (k : ℕ) → Numbered mostAutomata k → inSet allAutomata (k - 1) ≡ true
 unfolding setOf pick _and_
 all-automata k own = setOf-members (λ s. true) mostAutomata (k - 1) ∙ rw (lt-ltb (k - 1) mostAutomata (omega arith))
 
 -- tests that agree on 1 to n stop a row of checks at the same record
-pub demandEach-ext : (p q : ℕ → Bool) (n number : ℕ) → ((k : ℕ) → Numbered n k → p k ≡ q k) → demandEach p n number ≡ demandEach q n number
+demandEach-ext : (p q : ℕ → Bool) (n number : ℕ) → ((k : ℕ) → Numbered n k → p k ≡ q k) → demandEach p n number ≡ demandEach q n number
 unfolding demandEach
 demandEach-ext p q zero number same = refl
 demandEach-ext p q (suc n) number same =

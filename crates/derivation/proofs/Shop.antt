@@ -6,7 +6,9 @@ use Rattle.table.specs.Logic.{_and_, _or_, pick}
 use Rattle.table.specs.Outcome.{Outcome, _andThen_, demand, demandEach}
 use Rattle.table.specs.Outcome.Outcome.{accepted, refused}
 use Rattle.table.specs.Layout.{automaton, cell, cellsFrom, credential, edge, name, parts, principal, sameRole}
-use Rattle.table.specs.Checks.{cellOk, cellsOutcome, chainOk, chainsOutcome, countsOk, credentialOk, credentialsOutcome, edgeOk, edgesOutcome, goodCell, goodChain, goodCredential, goodEdge, headOutcome, isName, isPrincipal, isRole, labelOk, meaningOk, queryOutcome, requestOutcome, tableOutcome, within}
+use Rattle.table.specs.Checks.{cellOk, cellsOutcome, chainOk, chainsOutcome, countsOk, credentialOk, credentialsOutcome, edgeOk}
+use Rattle.table.specs.Checks.{edgesOutcome, goodCell, goodChain, goodCredential, goodEdge, headOutcome, isName, isPrincipal}
+use Rattle.table.specs.Checks.{isRole, labelOk, meaningOk, queryOutcome, requestOutcome, tableOutcome, within}
 use Rattle.table.specs.declared.Query.{Query}
 use Rattle.automata.specs.Sets.{inSet, meets}
 use Rattle.automata.specs.Automata.{accepts, acceptsFrom, leads, matches, moved, movedBy, run, starting}
@@ -35,7 +37,8 @@ tableT = 4 ∷ 0 ∷ 0 ∷ 0 ∷ (membersT ++ (2 ∷ 2 ∷ 1 ∷ 4 ∷ 0 ∷ 0 �
 -- T with an automaton, attached to credential 3, that rejects every word that begins with Shop.discount
 unfoldable pub tableU : List ℕ
 tableU =
-    4 ∷ 0 ∷ 1 ∷ 2 ∷ (membersT ++ (2 ∷ 2 ∷ 1 ∷ 4 ∷ 0 ∷ 1 ∷ 1 ∷ 1 ∷ 1 ∷ 4 ∷ 0 ∷ 0 ∷ 1 ∷ 2 ∷ 1 ∷ 0 ∷ 3 ∷ 1 ∷ 1 ∷ 1 ∷ 1 ∷ 1 ∷ 2 ∷ 0 ∷ 0 ∷ 1 ∷ []))
+    4 ∷ 0 ∷ 1 ∷ 2
+    ∷ (membersT ++ (2 ∷ 2 ∷ 1 ∷ 4 ∷ 0 ∷ 1 ∷ 1 ∷ 1 ∷ 1 ∷ 4 ∷ 0 ∷ 0 ∷ 1 ∷ 2 ∷ 1 ∷ 0 ∷ 3 ∷ 1 ∷ 1 ∷ 1 ∷ 1 ∷ 1 ∷ 2 ∷ 0 ∷ 0 ∷ 1 ∷ []))
 
 row : List ℕ → ℕ → List ℕ → Outcome → Row
 row t depth rec outcome = record { table = t; query = query 4 1 1 depth; rec = rec; outcome = outcome }
@@ -55,5 +58,10 @@ Holds [] = Unit {0}
 Holds (r ∷ rows) = (verdict (r .table) (r .query) (r .rec) ≡ r .outcome) × Holds rows
 
 pub record-rows : Holds recordRows
-unfolding Holds recordRows row query tableT tableU membersT verdict judged reader readAll entered followed joined entry admitted words usesAutomaton acceptsAll met countFrom usedFrom usedSet premises asks fresh accepts acceptsFrom leads matches moved movedBy run starting inSet meets requestOutcome tableOutcome queryOutcome headOutcome credentialsOutcome cellsOutcome chainsOutcome edgesOutcome goodCredential goodCell goodChain goodEdge countsOk credentialOk cellOk chainOk edgeOk labelOk meaningOk isRole isName isPrincipal within credential cell automaton edge parts cellsFrom sameRole _and_ _or_ pick _andThen_ demand demandEach
+unfolding Holds recordRows row query tableT tableU membersT verdict judged reader readAll entered followed joined entry admitted
+    words usesAutomaton acceptsAll met countFrom usedFrom usedSet premises asks fresh accepts acceptsFrom leads matches moved
+    movedBy run starting inSet meets requestOutcome tableOutcome queryOutcome headOutcome credentialsOutcome cellsOutcome
+    chainsOutcome edgesOutcome goodCredential goodCell goodChain goodEdge countsOk credentialOk cellOk chainOk edgeOk labelOk
+    meaningOk isRole isName isPrincipal within credential cell automaton edge parts cellsFrom sameRole _and_ _or_ pick _andThen_
+    demand demandEach
 record-rows = (refl, (refl, (refl, (refl, (refl, tt)))))

@@ -13,9 +13,9 @@ use Rattle.table.specs.declared.Goal.{Goal}
 use Rattle.derivation.specs.Rules.{fresh, goal}
 use Rattle.derivation.specs.Reading.{Entry}
 use Rattle.derivation.specs.Reading.Entry.{ask, halt}
-use Rattle.derivation.specs.declared.Branch.{Branch}
+use Rattle.derivation.specs.declared.branches.Branch.{Branch}
 use Rattle.derivation.specs.declared.Premises.{Premises}
-use Rattle.derivation.specs.declared.Step.{Step}
+use Rattle.derivation.specs.declared.reader.Step.{Step}
 
 -- so many goals, in an array with room for `most`
 pub record Room (most len : ℕ) (goals : List Goal) : Type 0 where

@@ -1,6 +1,4 @@
 // The goals on the way from the query to a node. What may not repeat there is known here alone.
-use crate::Branch;
-use crate::MOST_LEVELS;
 use table::Goal;
 use table::Name;
 use table::Principal;
@@ -11,6 +9,15 @@ ghost use Prim.Native.Nat.{_+_, _<_};
 ghost use Rattle.table.specs.Limits.{mostDepth};
 ghost use Rattle.derivation.specs.Rules.{fresh};
 ghost use Rattle.derivation.specs.Held.{Room, above};
+
+// As many levels as a query can allow.
+const MOST_LEVELS: usize = 16;
+
+// The goals above a node: the first `len`.
+pub struct Branch {
+    pub len: usize,
+    pub goals: [Goal; MOST_LEVELS],
+}
 
 impl Branch {
     // Nothing stands above the query's goal.

@@ -7,6 +7,7 @@ pub mod rules; // rules.rt: which goals a credential asks
 mod words; // words.rt: row 14
 
 use automata::StateSets;
+pub use branches::Branch;
 use table::Goal;
 use table::Number;
 use table::Query;
@@ -33,24 +34,6 @@ pub enum Verdict {
 // Which goals a credential asks: the first `len`; or that it does not apply.
 pub struct Premises {
     pub applies: bool,
-    pub len: usize,
-    pub goals: [Goal; layout::MOST_PARTS],
-}
-
-// As many levels as a query can allow.
-const MOST_LEVELS: usize = 16;
-
-// The goals above a node: the first `len`.
-pub struct Branch {
-    pub len: usize,
-    pub goals: [Goal; MOST_LEVELS],
-}
-
-// A node's entry: a refusal's number, or 0 and what the node asks.
-struct Step {
-    pub refusal: u32,
-    pub credential: Number,
-    pub middle: Number,
     pub len: usize,
     pub goals: [Goal; layout::MOST_PARTS],
 }

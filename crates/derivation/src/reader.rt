@@ -1,7 +1,6 @@
 // A record, read node by node in preorder: rows 11 to 13. The reader of a sub-derivation hands back the rest of the caller's
 // record, from the next node on; what it keeps on the way it keeps in numbers that the caller lends.
 use crate::Branch;
-use crate::Step;
 use crate::rules;
 use automata::StateSets;
 use table::Goal;
@@ -20,6 +19,15 @@ ghost use Rattle.automata.specs.Automata.{acceptingSet};
 ghost use Rattle.derivation.specs.Reading.{entry};
 ghost use Rattle.derivation.specs.Held.{Halted, Room, above, may, stepped};
 ghost use Rattle.derivation.specs.Tally.{ReadOn};
+
+// A node's entry: a refusal's number, or 0 and what the node asks.
+struct Step {
+    pub refusal: u32,
+    pub credential: Number,
+    pub middle: Number,
+    pub len: usize,
+    pub goals: [Goal; layout::MOST_PARTS],
+}
 
 // Rows 11, 12 and 13 of one node, in that order.
 fn enter(table: &[Number], rec: &[Number], goal: Goal, levels: usize, branch: Branch) -> Step

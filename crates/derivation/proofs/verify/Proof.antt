@@ -1,12 +1,11 @@
 -- `derivation::verify` meets its contract: rows 1 to 8 are those of the request, then the record is judged. Assumes nothing.
 use mathlib.Core.Path.{_∙_, ap, sym}
 use borrow.Author.Needs.{needs}
-use Rattle.derivation.proofs.Judged.{refused-then}
-use Rattle.derivation.specs.Held.{given}
-use Rattle.derivation.specs.Verdict.{verdict, verdictTold}
+use Rattle.table.specs.Checks.{queryTold, told}
 use Rattle.table.proofs.Stages.{then-on}
 use Rattle.table.proofs.WellFormed.{request-accepted}
-use Rattle.table.specs.Checks.{queryTold, told}
+use Rattle.derivation.specs.Verdict.{verdict, verdictTold}
+use Rattle.derivation.proofs.Judged.{refused-then}
 use Rattle.derivation.proofs.verify.Statement.{statement}
 use Rattle.derivation.proofs.verify.Tie as tie
 

@@ -1,11 +1,11 @@
 -- `derivation::rules::containment` meets its contract: one goal is asked. Assumes nothing.
-use mathlib.Core.Path.{_∙_, refl}
+use mathlib.Core.Path.{refl}
 use native.Mathlib.Omega.{arith}
 use borrow.Author.Needs.{needs}
 use borrow.Author.Tests.{eq-eqb, ne-eqb}
-use Rattle.derivation.proofs.Asking.{when-off, when-on}
-use Rattle.derivation.specs.Held.{given}
 use Rattle.table.specs.Logic.{pick}
+use Rattle.derivation.specs.Held.{given}
+use Rattle.derivation.proofs.Asking.{answer-is, when-off, when-on}
 use Rattle.derivation.proofs.rules.containment.Statement.{statement}
 use Rattle.derivation.proofs.rules.containment.Tie as tie
 
@@ -13,8 +13,7 @@ not-applying-requires : tie.Need-not-applying-requires
 not-applying-requires c κs = search needs
 
 returns : tie.Need-returns
-returns c =
-    (c .not-applying .ensures .0, c .not-applying .ensures .1 ∙ when-off _ (ne-eqb _ 0 (c .before .if1 .taken)))
+returns c = answer-is (c .not-applying .ensures) (when-off _ (ne-eqb _ 0 (c .before .if1 .taken)))
 
 returns-2 : tie.Need-returns-2
 unfolding given pick

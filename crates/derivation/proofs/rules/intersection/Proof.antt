@@ -1,15 +1,13 @@
 -- `derivation::rules::intersection` meets its contract: the goals of the first i parts are gathered. Assumes nothing.
 use mathlib.Core.Path.{_∙_, ap, refl}
+use mathlib.Core.Option.{some}
 use Prim.Native.Nat.{_-_, _≤_}
 use native.Mathlib.Omega.{arith}
 use borrow.Author.Needs.{needs}
 use borrow.Author.Tests.{eq-eqb, ne-eqb}
-use Rattle.derivation.proofs.Asking.{Asked, asked-all, asked-more, asked-none, when-off, when-on}
-use Rattle.derivation.specs.Held.{given}
-use Rattle.derivation.specs.Rules.{goal}
-use Rattle.table.specs.Layout.{chain}
 use Rattle.table.specs.Logic.{pick}
-use mathlib.Core.Option.{some}
+use Rattle.derivation.specs.Held.{given}
+use Rattle.derivation.proofs.Asking.{Asked, answer-is, asked-all, asked-more, asked-none, when-off, when-on}
 use Rattle.derivation.proofs.rules.intersection.Statement.{statement}
 use Rattle.derivation.proofs.rules.intersection.Tie as tie
 
@@ -23,8 +21,7 @@ not-applying-requires : tie.Need-not-applying-requires Inv-loop μ-loop
 not-applying-requires c κs = search needs
 
 returns : tie.Need-returns Inv-loop μ-loop
-returns c =
-    (c .not-applying .ensures .0, c .not-applying .ensures .1 ∙ when-off _ (ne-eqb _ 0 (c .before .if1 .taken)))
+returns c = answer-is (c .not-applying .ensures) (when-off _ (ne-eqb _ 0 (c .before .if1 .taken)))
 
 loop-holds : tie.Need-loop-holds Inv-loop μ-loop
 loop-holds c = (omega arith, asked-none _ _ _ refl)
@@ -60,13 +57,10 @@ loop-again c =
 returns-2 : tie.Need-returns-2 Inv-loop μ-loop
 unfolding given pick
 returns-2 c =
-    let pre = c .before .before .before .pre in
-    let args = c .before .before .before .args in
-    let if1 = c .before .before .if1 in (
-      record { fits = pre .0; size = c .before .loop .inv .1 .size },
-      ap some (asked-all _ _ _ (c .before .loop .i)
-          (args .t1 .len) (omega arith) (c .before .loop .inv .1)) ∙ when-on _ (eq-eqb _ 0 (if1 .left)),
-    )
+    let loop = c .before .loop in
+    let start = c .before .before .before in
+    let all = asked-all _ _ _ (loop .i) (start .args .t1 .len) (omega arith) (loop .inv .1) in
+    (record { fits = start .pre .0; size = loop .inv .1 .size }, ap some all ∙ when-on _ (eq-eqb _ 0 (c .before .before .if1 .left)))
 
 pub intersection-spec : {M : Type 1} → statement M
 intersection-spec =

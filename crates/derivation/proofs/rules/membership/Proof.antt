@@ -1,12 +1,12 @@
 -- `derivation::rules::membership` meets its contract: the member and the middle are compared. Assumes nothing.
-use mathlib.Core.Path.{_∙_, refl}
+use mathlib.Core.Path.{refl}
 use native.Mathlib.Omega.{arith}
 use borrow.Author.Needs.{needs}
 use borrow.Author.Tests.{eq-eqb, ne-eqb}
-use Rattle.derivation.proofs.Asking.{when-off, when-on}
-use Rattle.derivation.specs.Held.{given}
 use Rattle.table.specs.Logic.{pick}
 use Rattle.table.proofs.Tests.{and-is, and-is-off}
+use Rattle.derivation.specs.Held.{given}
+use Rattle.derivation.proofs.Asking.{answer-is, when-off, when-on}
 use Rattle.derivation.proofs.rules.membership.Statement.{statement}
 use Rattle.derivation.proofs.rules.membership.Tie as tie
 
@@ -14,30 +14,21 @@ not-applying-requires : tie.Need-not-applying-requires
 not-applying-requires c κs = search needs
 
 returns : tie.Need-returns
-returns c = (
-  c .not-applying .ensures .0,
-  c .not-applying .ensures .1 ∙ when-off _ (and-is-off _ (ne-eqb _ _
-      (c .before .if1 .taken))),
-)
+returns c = answer-is (c .not-applying .ensures) (when-off _ (and-is-off _ (ne-eqb _ _ (c .before .if1 .taken))))
 
 not-applying-requires-2 : tie.Need-not-applying-requires-2
 not-applying-requires-2 c κs = search needs
 
 returns-2 : tie.Need-returns-2
 returns-2 c =
-    let if1 = c .before .before .if1 in (
-      c .not-applying2 .ensures .0,
-      c .not-applying2 .ensures .1 ∙ when-off _ (and-is (eq-eqb _ _ (if1 .left))
-          (ne-eqb _ 0 (c .before .if2 .taken))),
-    )
+    let both = and-is (eq-eqb _ _ (c .before .before .if1 .left)) (ne-eqb _ 0 (c .before .if2 .taken)) in
+    answer-is (c .not-applying2 .ensures) (when-off _ both)
 
 returns-3 : tie.Need-returns-3
 unfolding given pick
-returns-3 c = (
-  record { fits = omega arith; size = refl },
-  when-on _ (and-is (eq-eqb _ _ (c .before .if1 .left)) (eq-eqb _ 0
-      (c .if2 .left))),
-)
+returns-3 c =
+    let both = and-is (eq-eqb _ _ (c .before .if1 .left)) (eq-eqb _ 0 (c .if2 .left)) in
+    (record { fits = omega arith; size = refl }, when-on _ both)
 
 pub membership-spec : {M : Type 1} → statement M
 membership-spec =

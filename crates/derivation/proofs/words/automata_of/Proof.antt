@@ -1,14 +1,14 @@
--- `derivation::words::automata_of` meets its contract: the mask has the automata of those of the first i credentials that are in the set. Assumes nothing.
+-- `derivation::words::automata_of` meets its contract: the mask has the automata of those of the first i credentials that are in
+-- the set. Assumes nothing.
 use mathlib.Core.Path.{_∙_, _≡_, refl}
 use Prim.Native.Nat.{_-_, _≤_}
 use native.Mathlib.Omega.{arith}
 use borrow.Author.Needs.{needs}
 use denote.Ref.{now}
-use Rattle.derivation.proofs.Judged.{automata-next, automaton-few}
-use Rattle.derivation.specs.Tally.{automataOf, automataUpTo}
-use Rattle.table.proofs.Sizes.{counted}
+use Rattle.table.specs.Layout.{credentials}
 use Rattle.table.proofs.WellFormed.{wf-sized}
-use Rattle.table.specs.Layout.{credential, credentials}
+use Rattle.derivation.specs.Tally.{automataOf, automataUpTo}
+use Rattle.derivation.proofs.Judged.{automata-next, automaton-few}
 use Rattle.derivation.proofs.words.automata_of.Statement.{statement}
 use Rattle.derivation.proofs.words.automata_of.Tie as tie
 
@@ -61,18 +61,15 @@ loop-less c = search needs
 
 loop-again : tie.Need-loop-again Inv-loop μ-loop
 loop-again c =
-    let loop = c .before .before .before .loop in (
-      omega arith,
-      c .with-automaton .ensures ∙ automata-next _ _ _ _ _ (c .before .credential .ensures)
-          (loop .inv .1),
-    )
+    let loop = c .before .before .before .loop in
+    (omega arith, c .with-automaton .ensures ∙ automata-next _ _ _ _ _ (c .before .credential .ensures) (loop .inv .1))
 
 returns : tie.Need-returns Inv-loop μ-loop
 unfolding automataOf
 returns c =
     let args = c .before .before .before .before .before .args in
-    let all : c .before .loop .i ≡ credentials (now (args .table)) = omega arith in rw all at
-    (c .before .loop .inv .1)
+    let all : c .before .loop .i ≡ credentials (now (args .table)) = omega arith in
+    rw all at (c .before .loop .inv .1)
 
 pub automata-of-spec : {M : Type 1} → statement M
 automata-of-spec =

@@ -1,20 +1,20 @@
 -- `derivation::words::judge_words` meets its contract: the first k automata are kept, and the first that is not is told. Assumes nothing.
 use mathlib.Core.Path.{_∙_, _≡_, refl, sym}
-use Prim.Native.Nat.{_-_, _≤_}
+use mathlib.Core.Bool.{Bool}
+use Prim.Native.Nat.{ℕ, _+_, _-_, _≤_}
 use native.Mathlib.Omega.{arith}
 use borrow.Author.Needs.{needs}
 use denote.Ref.{now}
-use Rattle.derivation.proofs.Judged.{kept-flag, refused-then}
-use Rattle.derivation.specs.Tally.{keeps}
-use Rattle.derivation.specs.Verdict.{verdictTold}
-use Rattle.table.proofs.Sizes.{counted}
-use Rattle.table.proofs.Stages.{each-passes, each-stops, each-through, then-on}
-use Rattle.table.proofs.Tests.{failed, passed}
-use Rattle.table.proofs.WellFormed.{wf-sized}
 use Rattle.table.specs.Checks.{told}
 use Rattle.table.specs.Layout.{automata}
 use Rattle.table.specs.Outcome.{demandEach}
 use Rattle.table.specs.Outcome.Outcome.{accepted}
+use Rattle.table.proofs.Stages.{each-passes, each-stops, each-through, then-on}
+use Rattle.table.proofs.Tests.{failed, passed}
+use Rattle.table.proofs.WellFormed.{wf-sized}
+use Rattle.derivation.specs.Tally.{keeps}
+use Rattle.derivation.specs.Verdict.{verdictTold}
+use Rattle.derivation.proofs.Judged.{kept-flag, refused-then}
 use Rattle.derivation.proofs.words.judge_words.Statement.{statement}
 use Rattle.derivation.proofs.words.judge_words.Tie as tie
 
@@ -23,6 +23,17 @@ Inv-loop table used every imposed a k₀ k = (k ≤ a) × (demandEach (keeps tab
 
 abbrev μ-loop : tie.MeasureT-loop
 μ-loop table used every imposed a k₀ k = a - k
+
+-- where automaton k + 1 has been looked at: the code's flag is the test
+abbrev start : tie.At-loop Inv-loop μ-loop → tie.Start Inv-loop μ-loop
+start at = at .before .before .before .before .before
+
+abbrev test : tie.At-loop Inv-loop μ-loop → ℕ → Bool
+test at = let from = start at .args in keeps (now (from .table)) (from .used) (from .every)
+
+kept : (at : tie.After-is-kept Inv-loop μ-loop) → let loop = at .before .before in
+    at .is-kept .result ≡ test loop (loop .loop .k + 1)
+kept at = at .is-kept .ensures ∙ kept-flag _ _ _ _ _ (at .before .before .before .before .before .automata-of .ensures)
 
 automata-of-requires : tie.Need-automata-of-requires Inv-loop μ-loop
 automata-of-requires c κs = c .before .pre
@@ -50,32 +61,25 @@ is-kept-requires c κs =
 returns : tie.Need-returns Inv-loop μ-loop
 unfolding verdictTold told
 returns c =
-    let args = c .before .before .before .before .before .before .before .before .args in
-    let loop = c .before .before .before .loop in
-    let automata-of = c .before .before .before .before .before .before .automata-of in
-    refused-then _ (each-stops (keeps (now (args .table)) (args .used) (args .every)) 14 (loop .k) (automata (now
-    (args .table))) (omega arith) (loop .inv .1) (failed (c .before .is-kept .ensures ∙ kept-flag _ _ _ _ _
-    (automata-of .ensures)) (c .if1 .taken)))
+    let loop = c .before .before .before in
+    let stops = failed (kept (c .before)) (c .if1 .taken) in
+    let all = automata (now (start loop .args .table)) in
+    refused-then _ (each-stops (test loop) 14 (loop .loop .k) all (omega arith) (loop .loop .inv .1) stops)
 
 loop-less : tie.Need-loop-less Inv-loop μ-loop
 loop-less c = search needs
 
 loop-again : tie.Need-loop-again Inv-loop μ-loop
 loop-again c =
-    let args = c .before .before .before .before .before .before .before .before .args in
-    let loop = c .before .before .before .loop in
-    let automata-of = c .before .before .before .before .before .before .automata-of in (
-      omega arith,
-      each-passes (keeps (now (args .table)) (args .used) (args .every)) 14 _ (loop .inv .1) (passed
-          (c .before .is-kept .ensures ∙ kept-flag _ _ _ _ _ (automata-of .ensures)) (c .if1 .left)),
-    )
+    let loop = c .before .before .before in
+    (omega arith, each-passes (test loop) 14 _ (loop .loop .inv .1) (passed (kept (c .before)) (c .if1 .left)))
 
 returns-2 : tie.Need-returns-2 Inv-loop μ-loop
 unfolding verdictTold
 returns-2 c =
-    let args = c .before .before .before .before .before .before .args in
-    then-on (sym (each-through (keeps (now (args .table)) (args .used) (args .every)) 14 (c .before .loop .k)
-    (automata (now (args .table))) (omega arith) (c .before .loop .inv .1)))
+    let loop = c .before in
+    let all = automata (now (start loop .args .table)) in
+    then-on (sym (each-through (test loop) 14 (loop .loop .k) all (omega arith) (loop .loop .inv .1)))
 
 pub judge-words-spec : {M : Type 1} → statement M
 judge-words-spec =

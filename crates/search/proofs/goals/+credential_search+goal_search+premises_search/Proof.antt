@@ -29,8 +29,8 @@ use Rattle.search.proofs.goals.premises_search.Kinds as premises-search
 use Rattle.search.proofs.goals.+credential_search+goal_search+premises_search.Lts-premises_search as premises-search-lts
 use Rattle.automata.proofs.StateSets.accepting.Reads as accepting-reads
 use Rattle.automata.proofs.StateSets.moved.Reads as moved-reads
-use Rattle.derivation.proofs.Branch.is_fresh.Reads as is-fresh-reads
-use Rattle.derivation.proofs.Branch.with.Reads as with-reads
+use Rattle.derivation.proofs.branches.Branch.is_fresh.Reads as is-fresh-reads
+use Rattle.derivation.proofs.branches.Branch.with.Reads as with-reads
 use Rattle.derivation.proofs.rules.premises.Reads as premises-reads
 use Rattle.search.proofs.goals.is_asked_before.Reads as is-asked-before-reads
 use Rattle.search.proofs.goals.may_use.Reads as may-use-reads

@@ -1,14 +1,14 @@
--- `derivation::Branch::is_fresh` meets its contract: the goals below i are of other roles. Assumes nothing.
+-- `derivation::branches::Branch::is_fresh` meets its contract: the goals below i are of other roles. Assumes nothing.
 use mathlib.Core.Bool.{true}
 use mathlib.Core.Path.{_∙_, _≡_, refl, sym}
 use Prim.Native.Nat.{_-_, _≤_}
 use native.Mathlib.Omega.{arith}
 use borrow.Author.Needs.{needs}
-use Rattle.derivation.proofs.Above.{fresh-next, fresh-not}
 use Rattle.derivation.specs.Held.{above, upTo}
-use Rattle.derivation.specs.Rules.{fresh, goal}
-use Rattle.derivation.proofs.Branch.is_fresh.Statement.{statement}
-use Rattle.derivation.proofs.Branch.is_fresh.Tie as tie
+use Rattle.derivation.specs.Rules.{fresh}
+use Rattle.derivation.proofs.Above.{fresh-next, fresh-not}
+use Rattle.derivation.proofs.branches.Branch.is_fresh.Statement.{statement}
+use Rattle.derivation.proofs.branches.Branch.is_fresh.Tie as tie
 
 abbrev Inv-loop : tie.InvT-loop
 Inv-loop goal self len i₀ i = (i ≤ len) × (fresh (upTo (self .goals) i) goal ≡ true)

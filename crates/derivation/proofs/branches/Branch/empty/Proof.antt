@@ -1,9 +1,9 @@
--- `derivation::Branch::empty` meets its contract: no goal stands on it. Assumes nothing.
+-- `derivation::branches::Branch::empty` meets its contract: no goal stands on it. Assumes nothing.
 use mathlib.Core.Path.{refl}
 use native.Mathlib.Omega.{arith}
 use Rattle.derivation.specs.Held.{above, upTo}
-use Rattle.derivation.proofs.Branch.empty.Statement.{statement}
-use Rattle.derivation.proofs.Branch.empty.Tie as tie
+use Rattle.derivation.proofs.branches.Branch.empty.Statement.{statement}
+use Rattle.derivation.proofs.branches.Branch.empty.Tie as tie
 
 returns : tie.Need-returns
 unfolding above upTo
