@@ -52,6 +52,11 @@ unfolding _and_
 and-second true b h = h
 and-second false b h = absurd (false-true h)
 
+pub and-parts : {A B : Type 0} {a b : Bool} → (a ≡ true → A) → (b ≡ true → B) → (a and b) ≡ true → A × B
+unfolding _and_
+and-parts {a = true} f g h = (f refl, g h)
+and-parts {a = false} f g h = absurd (false-true h)
+
 -- one part of a disjunction that holds
 pub or-either : {A : Type 0} {a b : Bool} → (a ≡ true → A) → (b ≡ true → A) → (a or b) ≡ true → A
 unfolding _or_
@@ -165,7 +170,8 @@ any-not p n k h l = go (p k) refl
     go false e = e
 
 -- a search in ascending order: nothing from `from` up to `next` passes
-pub any-on : (p : ℕ → Bool) (from next : ℕ) → anyBelow p from ≡ false → ((k : ℕ) → from ≤ k → k < next → p k ≡ false) → anyBelow p next ≡ false
+pub any-on : (p : ℕ → Bool) (from next : ℕ) → anyBelow p from ≡ false → ((k : ℕ) → from ≤ k → k < next → p k ≡ false)
+    → anyBelow p next ≡ false
 any-on p from next before none = any-none p next (λ k l. go k l (ltb k from) refl)
   where
     go : (k : ℕ) → k < next → (b : Bool) → ltb k from ≡ b → p k ≡ false
