@@ -59,7 +59,7 @@ loop-holds : tie.Need-loop-holds Inv-loop μ-loop Inv-credentials μ-credentials
 loop-holds c =
     let pre = c .before .before .before .before .before .before .before .before .pre in
     let credential = c .before .before .credential in
-    walk-starts _ _ (first-inside _ _ (pre .1 .0) _ (record { first = omega arith; last = omega arith }) _
+    walk-starts _ _ (first-inside _ _ (pre .1 .0) _ (omega arith)
     (credential .ensures) (c .if2 .left))
 
 add-met : tie.Need-add-met Inv-loop μ-loop Inv-credentials μ-credentials
