@@ -8,3 +8,4 @@ pub mod Accepted
 pub mod Chains
 pub mod Parts
 pub mod WellFormed
+pub mod Queries

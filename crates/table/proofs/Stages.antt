@@ -171,12 +171,12 @@ each-value ok zero number v e = cc
 each-value ok (suc n) number v e = demand-value (ok (suc n)) number (suc n) v (then-second (demandEach ok n number) _ v e)
 
 -- a call that makes one stage: what its answer says of the stage's outcome
-module _ (answer : TableCheck) (stage : Outcome) (meets : tableTold answer ≡ stage) where
+module _ {answer : TableCheck} {stage : Outcome} (meets : tableTold answer ≡ stage) where
   pub stage-passed : answer ≡ table.Accepted → stage ≡ accepted 0
   unfolding tableTold
   stage-passed h = sym meets ∙ ap tableTold h
 
   -- a refused answer is the whole check's, whatever follows
-  pub stage-stops : (why : Refusal) (later : Outcome) → answer ≡ table.Refused why → tableTold answer ≡ (stage andThen later)
+  pub stage-stops : {why : Refusal} (later : Outcome) → answer ≡ table.Refused why → tableTold answer ≡ (stage andThen later)
   unfolding tableTold told _andThen_
-  stage-stops why later h = rw (← meets, h)
+  stage-stops later h = rw (← meets, h)
