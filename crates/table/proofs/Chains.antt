@@ -42,7 +42,6 @@ stop-at t (suc most) j h = rw h
 module _ (t : List ℕ) (first met j : ℕ) (walked : Walked t first met j) where
   left : (most : ℕ) → suc mostParts - met ≡ suc most → (j ≡ 0 → ⊥)
       → met + suc (length (cellsFrom t most (cell t j .next))) ≡ length (chain t first)
-  unfolding length
   left most e h = rw (e, step-from t most j h) at (walked .whole)
 
   -- there is one cell more
@@ -57,14 +56,13 @@ module _ (t : List ℕ) (first met j : ℕ) (walked : Walked t first met j) wher
 
   -- a fifth cell is met
   pub walk-too-long : (j ≡ 0 → ⊥) → mostParts < met + 1 → chainOk t first ≡ false
-  unfolding chainOk within _and_ cellsFrom length
+  unfolding chainOk within _and_ cellsFrom
   walk-too-long h over =
       let five : length (chain t first) ≡ 5 = omega (arith, left 0 (omega arith) h) in
       rw five
 
   -- the chain has ended with `met` cells
   met-all : j ≡ 0 → length (chain t first) ≡ met
-  unfolding length
   met-all e = let z = rw (stop-at t (suc mostParts - met) j e) at (walked .whole) in omega arith
 
   pub walk-too-short : j ≡ 0 → met < leastParts → chainOk t first ≡ false

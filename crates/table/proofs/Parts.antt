@@ -24,7 +24,7 @@ pub record Gathered (t : List ℕ) (first : ℕ) (roles : List Role) (len j : �
 
 pub gather-starts : (t : List ℕ) (first : ℕ) (roles : List Role) → length roles ≡ mostParts → first ≤ cells t
     → Gathered t first roles 0 first
-unfolding parts take
+unfolding parts
 gather-starts t first roles room h = record { walked = walk-starts t first h; room = room; whole = refl }
 
 module _ (t : List ℕ) (first : ℕ) (roles : List Role) (len j : ℕ) (so-far : Gathered t first roles len j) where

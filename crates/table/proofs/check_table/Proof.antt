@@ -1,4 +1,5 @@
--- `table::check_table` meets its contract: the stages of rows 1 to 7, each asked where those before it passed. Assumes nothing.
+-- `table::check_table` meets its contract: the stages of rows 1 to 7, each asked where those before it have passed. Assumes
+-- nothing.
 use mathlib.Core.Path.{_∙_, _≡_}
 use mathlib.Core.List.{List}
 use Prim.Native.Nat.{ℕ}
@@ -11,21 +12,30 @@ use Rattle.table.specs.Outcome.Outcome.{accepted}
 use Rattle.table.proofs.check_table.Statement.{statement}
 use Rattle.table.proofs.check_table.Tie as tie
 
--- which stages have passed at each place where the code goes on
-abbrev tableOf : tie.Start → List ℕ
-tableOf c = now (c .args .table)
+-- the table, at each place where a later stage is asked
+abbrev at-credentials : tie.After-enum-told → List ℕ
+at-credentials c = now (c .before .before .before .before .args .table)
 
-head-passed : (c : tie.After-enum-told) → headOutcome (tableOf (c .before .before .before .before)) ≡ accepted 0
+abbrev at-cells : tie.After-enum-told3 → List ℕ
+at-cells c = at-credentials (c .before .before .before)
+
+abbrev at-chains : tie.After-enum-told5 → List ℕ
+at-chains c = at-cells (c .before .before .before)
+
+abbrev at-edges : tie.After-enum-told7 → List ℕ
+at-edges c = at-chains (c .before .before .before)
+
+-- the stage before it has passed
+head-passed : (c : tie.After-enum-told) → headOutcome (at-credentials c) ≡ accepted 0
 head-passed c = stage-passed (c .before .before .check-head .ensures) (c .enum-told .given .1)
 
-credentials-passed : (c : tie.After-enum-told3) → credentialsOutcome (tableOf (c .before .before .before .before .before .before .before)) ≡ accepted 0
+credentials-passed : (c : tie.After-enum-told3) → credentialsOutcome (at-cells c) ≡ accepted 0
 credentials-passed c = stage-passed (c .before .before .check-credentials .ensures) (c .enum-told3 .given .1)
 
-cells-passed : (c : tie.After-enum-told5) → cellsOutcome (tableOf (c .before .before .before .before .before .before .before .before .before .before)) ≡ accepted 0
+cells-passed : (c : tie.After-enum-told5) → cellsOutcome (at-chains c) ≡ accepted 0
 cells-passed c = stage-passed (c .before .before .check-cells .ensures) (c .enum-told5 .given .1)
 
-chains-passed : (c : tie.After-enum-told7)
-    → chainsOutcome (tableOf (c .before .before .before .before .before .before .before .before .before .before .before .before .before)) ≡ accepted 0
+chains-passed : (c : tie.After-enum-told7) → chainsOutcome (at-edges c) ≡ accepted 0
 chains-passed c = stage-passed (c .before .before .check-chains .ensures) (c .enum-told7 .given .1)
 
 check-head-requires : tie.Need-check-head-requires
