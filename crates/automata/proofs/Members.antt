@@ -1,7 +1,7 @@
 -- A number as a set: what is in an empty set, a union, an intersection, a set of one and a set by a test, for any number
 -- of states; two sets with the same members are one number.
 use mathlib.Core.Path.{_≡_, refl, sym, ap, _∙_}
-use mathlib.Core.Bool.{Bool, true, false, not}
+use mathlib.Core.Bool.{Bool, true, false}
 use Prim.Native.Nat.{ℕ, zero, suc, _*_, _/_, _%_, _^_, _<_, _≤_}
 use native.Mathlib.Omega.{arith}
 use native.Mathlib.Nat.{div-eq-of-lt, div-one, div-div-eq-div-mul, mod-eq-of-lt, one-mul, pow-suc, pow-succ'}

@@ -16,6 +16,7 @@ use Rattle.table.specs.Logic.{_and_, pick}
 use Rattle.table.specs.Limits.{lastState, mostAutomata}
 use Rattle.table.specs.Layout.{Numbered, automata, automaton, edge, edges}
 use Rattle.table.specs.Checks.{WellFormed, within}
+use Rattle.table.proofs.Tests.{pick-apart, pick-same}
 use Rattle.table.proofs.WellFormed.{wf-edge, wf-sized}
 use Rattle.table.specs.declared.Role.{Role}
 use Rattle.table.specs.declared.Automaton.{Automaton}
@@ -72,69 +73,66 @@ leadsOwn from r e = leads (e .automaton) r (getD (from .sets) (e .automaton - 1)
 
 -- an edge may change the set of its own automaton, and no other
 module _ (from : StateSets) (r : Role) (e : Edge) (next : StateSets) where
-  abbrev led : List ℕ
-  led = set (next .sets) (e .automaton - 1) (bitOr (getD (next .sets) (e .automaton - 1) 0) (2 ^ (e .to)))
+  abbrev led : StateSets
+  led = record { sets = set (next .sets) (e .automaton - 1) (bitOr (getD (next .sets) (e .automaton - 1) 0) (2 ^ (e .to))) }
+
+  edge-apart : {A : Type 0} (f : StateSets → A) → f (withEdge from r e next) ≡ pick (leadsOwn from r e) (f led) (f next)
+  unfolding withEdge
+  edge-apart f = pick-apart f (leadsOwn from r e) led next
 
   edge-sizes : length (withEdge from r e next .sets) ≡ length (next .sets)
-  unfolding withEdge pick
-  edge-sizes = go (leadsOwn from r e)
-    where
-      go : (b : Bool) → length (pick b (record { sets = led }) next .sets) ≡ length (next .sets)
-      go true = simp length-set
-      go false = refl
+  edge-sizes = edge-apart (λ s. length (s .sets)) ∙ pick-same (leadsOwn from r e) (simp length-set)
 
   edge-own : (j : ℕ) → suc j ≡ e .automaton → j < length (next .sets)
       → getD (withEdge from r e next .sets) j 0
       ≡ pick (leadsOwn from r e) (bitOr (getD (next .sets) j 0) (2 ^ (e .to))) (getD (next .sets) j 0)
-  unfolding withEdge pick
-  edge-own j own h = go (leadsOwn from r e)
-    where
-      go : (b : Bool) → getD (pick b (record { sets = led }) next .sets) j 0
-          ≡ pick b (bitOr (getD (next .sets) j 0) (2 ^ (e .to))) (getD (next .sets) j 0)
-      go true = let place : e .automaton - 1 ≡ j = omega arith in rw place (getD-set-same (next .sets) j _ 0 h)
-      go false = refl
+  edge-own j own h =
+      let place : e .automaton - 1 ≡ j = omega arith in
+      edge-apart (λ s. getD (s .sets) j 0) ∙ rw (place, getD-set-same (next .sets) j _ 0 h)
 
   edge-other : (j : ℕ) → 1 ≤ e .automaton → (suc j ≡ e .automaton → ⊥)
       → getD (withEdge from r e next .sets) j 0 ≡ getD (next .sets) j 0
-  unfolding withEdge pick
-  edge-other j one other = go (leadsOwn from r e)
-    where
-      go : (b : Bool) → getD (pick b (record { sets = led }) next .sets) j 0 ≡ getD (next .sets) j 0
-      go true = getD-set-other (next .sets) _ j _ 0 (λ same. other (omega arith))
-      go false = refl
+  edge-other j one other =
+      edge-apart (λ s. getD (s .sets) j 0)
+      ∙ pick-same (leadsOwn from r e) (getD-set-other (next .sets) _ j _ 0 (λ same. other (omega arith)))
 
 leads-alike : (r : Role) (e : Edge) {k l x y : ℕ} → k ≡ l → x ≡ y → leads k r x e ≡ leads l r y e
 leads-alike r e h i = cc
 
--- and so it is with what edge n + 1 adds to the moved sets
+-- and so it is with what the edge after the first n adds to the moved sets
+abbrev nextEdge : List ℕ → ℕ → Edge
+nextEdge t n = edge t (n + 1)
+
 module _ (t : List ℕ) (r : Role) (from : StateSets) (n j : ℕ) where
-  others-stay : (suc j ≡ edge t (n + 1) .automaton → ⊥) → movedAt t r from j (n + 1) ≡ movedAt t r from j n
+  others-stay : (suc j ≡ nextEdge t n .automaton → ⊥) → movedAt t r from j (n + 1) ≡ movedAt t r from j n
   unfolding movedBy leads _and_ pick
   others-stay other = rw (add-one n, ne-eqb (edge t (suc n) .automaton) (suc j) (λ e. other (rw (add-one n) (sym e))))
 
-  own-moves : suc j ≡ edge t (n + 1) .automaton
+  own-moves : suc j ≡ nextEdge t n .automaton
       → movedAt t r from j (n + 1)
-      ≡ pick (leadsOwn from r (edge t (n + 1))) (bitOr (movedAt t r from j n) (2 ^ (edge t (n + 1) .to))) (movedAt t r from j n)
+      ≡ pick (leadsOwn from r (nextEdge t n)) (bitOr (movedAt t r from j n) (2 ^ (nextEdge t n .to))) (movedAt t r from j n)
   unfolding movedBy
   own-moves same =
-      let place : j ≡ edge t (n + 1) .automaton - 1 = omega arith in
-      let leading = leads-alike r (edge t (n + 1)) same (ap (λ (i : ℕ). getD (from .sets) i 0) place) in
+      let place : j ≡ nextEdge t n .automaton - 1 = omega arith in
+      let leading = leads-alike r (nextEdge t n) same (ap (λ (i : ℕ). getD (from .sets) i 0) place) in
       rw (← leading, add-one n)
 
-pub moving-more : (t : List ℕ) (r : Role) (from : StateSets) (n : ℕ) (next : StateSets) → Moving t r from n next
-    → Numbered mostAutomata (edge t (n + 1) .automaton) → Moving t r from (n + 1) (withEdge from r (edge t (n + 1)) next)
-moving-more t r from n next m there =
-    record {
-      size = edge-sizes from r (edge t (n + 1)) next ∙ m .size;
-      here = λ j h. at j h (ℕ-discrete (suc j) (edge t (n + 1) .automaton));
-    }
-  where
-    at : (j : ℕ) → j < mostAutomata → Dec (suc j ≡ edge t (n + 1) .automaton)
-        → getD (withEdge from r (edge t (n + 1)) next .sets) j 0 ≡ movedAt t r from j (n + 1)
-    at j h (yes own) =
-        edge-own from r (edge t (n + 1)) next j own (omega (arith, m .size)) ∙ rw (m .here j h) (sym (own-moves t r from n j own))
-    at j h (no other) =
-        edge-other from r (edge t (n + 1)) next j (there .first) other ∙ m .here j h ∙ sym (others-stay t r from n j other)
+module _ (t : List ℕ) (r : Role) (from : StateSets) (n : ℕ) (next : StateSets) (so-far : Moving t r from n next)
+    (there : Numbered mostAutomata (nextEdge t n .automaton)) where
+  next-here : (j : ℕ) → j < mostAutomata → Dec (suc j ≡ nextEdge t n .automaton)
+      → getD (withEdge from r (nextEdge t n) next .sets) j 0 ≡ movedAt t r from j (n + 1)
+  next-here j h (yes own) =
+      edge-own from r (nextEdge t n) next j own (omega (arith, so-far .size))
+      ∙ rw (so-far .here j h) (sym (own-moves t r from n j own))
+  next-here j h (no other) =
+      edge-other from r (nextEdge t n) next j (there .first) other ∙ so-far .here j h ∙ sym (others-stay t r from n j other)
+
+  pub moving-more : Moving t r from (n + 1) (withEdge from r (nextEdge t n) next)
+  moving-more =
+      record {
+        size = edge-sizes from r (nextEdge t n) next ∙ so-far .size;
+        here = λ j h. next-here j h (ℕ-discrete (suc j) (nextEdge t n .automaton));
+      }
 
 pub moving-all : (t : List ℕ) (r : Role) (from : StateSets) (n : ℕ) (next : StateSets) → n ≡ edges t → Moving t r from n next
     → next ≡ movedSets t r from

@@ -40,25 +40,26 @@ stop-at t zero j h = refl
 stop-at t (suc most) j h = rw h
 
 module _ (t : List ℕ) (first met j : ℕ) (walked : Walked t first met j) where
-  left : (most : ℕ) → suc mostParts - met ≡ suc most → (j ≡ 0 → ⊥)
+  -- cell j and those after it
+  cells-left : (most : ℕ) → suc mostParts - met ≡ suc most → (j ≡ 0 → ⊥)
       → met + suc (length (cellsFrom t most (cell t j .next))) ≡ length (chain t first)
-  left most e h = rw (e, step-from t most j h) at (walked .whole)
+  cells-left most e h = rw (e, step-from t most j h) at (walked .whole)
 
   -- there is one cell more
   pub walk-more : (j ≡ 0 → ⊥) → met + 1 ≤ length (chain t first)
-  walk-more h = omega (arith, left (mostParts - met) (omega (arith, walked .few)) h)
+  walk-more h = omega (arith, cells-left (mostParts - met) (omega (arith, walked .few)) h)
 
   pub walk-goes-on : {v : ℕ} → cellsOutcome t ≡ accepted v → (j ≡ 0 → ⊥) → met + 1 ≤ mostParts
       → Walked t first (met + 1) (cell t j .next)
   walk-goes-on good h few =
-      let l = left (suc mostParts - (met + 1)) (omega arith) h in
+      let l = cells-left (suc mostParts - (met + 1)) (omega arith) h in
       record { few = few; inside = next-inside t _ good j (omega arith); whole = omega arith }
 
   -- a fifth cell is met
   pub walk-too-long : (j ≡ 0 → ⊥) → mostParts < met + 1 → chainOk t first ≡ false
   unfolding chainOk within _and_ cellsFrom
   walk-too-long h over =
-      let five : length (chain t first) ≡ 5 = omega (arith, left 0 (omega arith) h) in
+      let five : length (chain t first) ≡ 5 = omega (arith, cells-left 0 (omega arith) h) in
       rw five
 
   -- the chain has ended with `met` cells

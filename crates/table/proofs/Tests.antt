@@ -6,7 +6,7 @@ use native.Mathlib.Omega.{arith}
 use native.Mathlib.Decide.{ℕ-discrete}
 use lib.Dec.{ltb}
 use borrow.Author.Tests.{ltb-false, ltb-true, not-true, not-false}
-use Rattle.table.specs.Logic.{_and_, _or_, anyBelow}
+use Rattle.table.specs.Logic.{_and_, _or_, anyBelow, pick}
 
 -- what `if !flag { .. }` tells of p, in its body and after it
 pub failed : {flag p : Bool} → flag ≡ p → not flag ≡ true → p ≡ false
@@ -137,6 +137,17 @@ pub same-test : (a b : Bool) → (a ≡ true → b ≡ true) → (b ≡ true →
 same-test true b f g = sym (f refl)
 same-test false true f g = g refl
 same-test false false f g = refl
+
+-- a choice between two that are one, and what is made of a choice
+pub pick-same : {A : Type 0} (b : Bool) {x y : A} → x ≡ y → pick b x y ≡ y
+unfolding pick
+pick-same true e = e
+pick-same false e = refl
+
+pub pick-apart : {A B : Type 0} (f : A → B) (b : Bool) (x y : A) → f (pick b x y) ≡ pick b (f x) (f y)
+unfolding pick
+pick-apart f true x y = refl
+pick-apart f false x y = refl
 
 -- some number below n passes exactly where one can be named
 pub any-shows : (p : ℕ → Bool) (n : ℕ) → anyBelow p n ≡ true → (k : ℕ) × (k < n) × (p k ≡ true)

@@ -15,8 +15,7 @@ abbrev μ-loop : tie.MeasureT-loop
 μ-loop self table role next₀ e k₀ next k = e - k
 
 shared-slice-read-wide : tie.Need-shared-slice-read-wide Inv-loop μ-loop
-shared-slice-read-wide c =
-    omega (arith, wf-sized _ (c .before .before .pre) .counted .head)
+shared-slice-read-wide c = omega (arith, wf-sized _ (c .before .before .pre) .counted .head)
 
 wide-requires : tie.Need-wide-requires Inv-loop μ-loop
 wide-requires c κs = search needs
