@@ -34,19 +34,26 @@ module _ (e : Edge) (r : Role) where
   label-none h1 h2 h3 = rw (ne-eqb (e .label) 1 h1, ne-eqb (e .label) 2 h2, ne-eqb (e .label) 3 h3)
 
 -- an edge, judged by its own automaton's set: the code has read the automaton's number as w
-module _ (from next : StateSets) (r : Role) (e : Edge) (w : ℕ) (read : w ≡ e .automaton) where
+module _ (from next : StateSets) (r : Role) (e : Edge) {w : ℕ} (read : w ≡ e .automaton) where
   leads-own : (x : ℕ) → leads (e .automaton) r x e ≡ (inSet x (e .from) and matches e r)
   unfolding leads _and_
   leads-own x = rw (eq-eqb (e .automaton) (e .automaton) refl)
 
-  pub edge-elsewhere : (getD (from .sets) (w - 1) 0 / 2 ^ (e .from) % 2 ≡ 1 → ⊥) → next ≡ withEdge from r e next
+  abbrev inOwnSet : Type 0
+  inOwnSet = getD (from .sets) (w - 1) 0 / 2 ^ (e .from) % 2 ≡ 1
+
+  pub edge-elsewhere : (inOwnSet → ⊥) → next ≡ withEdge from r e next
   unfolding withEdge inSet _and_ pick
   edge-elsewhere h = rw (leads-own, ne-eqb _ 1 (rw read at h))
 
-  pub edge-unmatched : getD (from .sets) (w - 1) 0 / 2 ^ (e .from) % 2 ≡ 1 → matches e r ≡ false → next ≡ withEdge from r e next
+  pub edge-unmatched : inOwnSet → matches e r ≡ false → next ≡ withEdge from r e next
   unfolding withEdge inSet _and_ pick
   edge-unmatched h off = rw (leads-own, eq-eqb _ 1 (rw read at h), off)
 
-  pub edge-leads : getD (from .sets) (w - 1) 0 / 2 ^ (e .from) % 2 ≡ 1 → matches e r ≡ true → e .to ≤ lastState → record { sets = set (next .sets) (w - 1) (bitOr (getD (next .sets) (w - 1) 0) ((1 * 2 ^ (e .to)) % 2 ^ 16)) } ≡ withEdge from r e next
+  -- the sets with the `to` state added, as the code makes them
+  abbrev withState : StateSets
+  withState = record { sets = set (next .sets) (w - 1) (bitOr (getD (next .sets) (w - 1) 0) ((1 * 2 ^ (e .to)) % 2 ^ 16)) }
+
+  pub edge-leads : inOwnSet → matches e r ≡ true → e .to ≤ lastState → withState ≡ withEdge from r e next
   unfolding withEdge inSet _and_ pick
   edge-leads h on state = rw (read, leads-own, eq-eqb _ 1 (rw read at h), on, one-bit 16 (e .to) (omega arith))

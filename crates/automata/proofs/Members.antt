@@ -1,7 +1,7 @@
 -- A number as a set: what is in an empty set, a union, an intersection, a set of one and a set by a test, for any number
 -- of states; two sets with the same members are one number.
 use mathlib.Core.Path.{_≡_, refl, sym, ap, _∙_}
-use mathlib.Core.Bool.{Bool, true, false, not}
+use mathlib.Core.Bool.{Bool, true, false}
 use Prim.Native.Nat.{ℕ, zero, suc, _*_, _/_, _%_, _^_, _<_, _≤_}
 use native.Mathlib.Omega.{arith}
 use native.Mathlib.Nat.{div-eq-of-lt, div-one, div-div-eq-div-mul, mod-eq-of-lt, one-mul, pow-suc, pow-succ'}
@@ -12,7 +12,8 @@ use lib.Pow.{pow-lt, pow-mono}
 use lib.Dec.{eqb, ltb, eqb·zero-suc, eqb·suc-zero, eqb·suc-suc}
 use borrow.Author.Tests.{ne-eqb, eq-eqb, eqb-true, eqb-false, not-true, ltb-true, ltb-false, lt-ltb, le-ltb}
 use Rattle.table.specs.Logic.{_and_, _or_, pick}
-use Rattle.table.proofs.Tests.{and-false, and-first, and-is, and-is-off, and-second, and-true, false-true, or-either, or-false, or-first, or-second}
+use Rattle.table.proofs.Tests.{and-false, and-first, and-is, and-is-off, and-second, and-true, false-true}
+use Rattle.table.proofs.Tests.{or-either, or-false, or-first, or-second}
 use Rattle.automata.specs.Sets.{inSet, meets, part, setOf}
 
 -- state 0 is the lowest digit, and the states after it are the other digits
@@ -47,11 +48,15 @@ and-digit (suc (suc a)) b h l = absurd (omega arith)
 
 pub inSet-or : (x y s : ℕ) → inSet (bitOr x y) s ≡ (inSet x s or inSet y s)
 unfolding inSet
-inSet-or x y s = rw (or-shr x y s, or-mod (x / 2 ^ s) (y / 2 ^ s) 1) (or-digit (x / 2 ^ s % 2) (y / 2 ^ s % 2) (omega arith) (omega arith))
+inSet-or x y s =
+    rw (or-shr x y s, or-mod (x / 2 ^ s) (y / 2 ^ s) 1)
+    (or-digit (x / 2 ^ s % 2) (y / 2 ^ s % 2) (omega arith) (omega arith))
 
 pub inSet-and : (x y s : ℕ) → inSet (bitAnd x y) s ≡ (inSet x s and inSet y s)
 unfolding inSet
-inSet-and x y s = rw (and-shr x y s, and-mod (x / 2 ^ s) (y / 2 ^ s) 1) (and-digit (x / 2 ^ s % 2) (y / 2 ^ s % 2) (omega arith) (omega arith))
+inSet-and x y s =
+    rw (and-shr x y s, and-mod (x / 2 ^ s) (y / 2 ^ s) 1)
+    (and-digit (x / 2 ^ s % 2) (y / 2 ^ s % 2) (omega arith) (omega arith))
 
 pub inSet-pow : (t s : ℕ) → inSet (2 ^ t) s ≡ eqb t s
 inSet-pow zero zero = member-first 1
@@ -91,32 +96,25 @@ same-members =
     (λ x ih y same. alike x y (same 0) (ih (y / 2) (same-rest x y same)))
 
 -- a number that is not 0 has a member: state 0, or one of the states after it
-some-member : (x : ℕ) → (x ≡ 0 → ⊥) → (s : ℕ) × (inSet x s ≡ true)
-some-member =
-    bin-ind (λ (x : ℕ). (x ≡ 0 → ⊥) → (s : ℕ) × (inSet x s ≡ true)) (λ h. absurd (h refl))
-    (λ x ih h. go x ih h (inSet x 0) refl)
-  where
-    go : (x : ℕ) → ((x / 2 ≡ 0 → ⊥) → (s : ℕ) × (inSet (x / 2) s ≡ true)) → (x ≡ 0 → ⊥) → (b : Bool) → inSet x 0 ≡ b
-        → (s : ℕ) × (inSet x s ≡ true)
-    go x ih h true e = (0, e)
-    go x ih h false e =
-        let rest = ih (λ z. h (omega (arith, even x e))) in
-        (suc (rest .0), member-next x (rest .0) ∙ rest .1)
+abbrev HasMember : ℕ → Type 0
+HasMember x = (x ≡ 0 → ⊥) → (s : ℕ) × (inSet x s ≡ true)
 
--- two sets meet exactly where some state is in both
+first-or-later : (x : ℕ) (b : Bool) → inSet x 0 ≡ b → HasMember (x / 2) → HasMember x
+first-or-later x true e later h = (0, e)
+first-or-later x false e later h =
+    let (s, inside) = later (λ z. h (omega (arith, even x e))) in
+    (suc s, member-next x s ∙ inside)
+
+some-member : (x : ℕ) → HasMember x
+some-member = bin-ind HasMember (λ h. absurd (h refl)) (λ x later. first-or-later x (inSet x 0) refl later)
+
+-- sets that meet have a state in both
 pub meets-common : (x y : ℕ) → meets x y ≡ true → (s : ℕ) × (inSet x s ≡ true) × (inSet y s ≡ true)
 unfolding meets
 meets-common x y h =
-    let both = some-member (bitAnd x y) (eqb-false (bitAnd x y) 0 (not-true _ h)) in
-    let e = sym (inSet-and x y (both .0)) ∙ both .1 in
-    (both .0, and-first _ _ e, and-second _ _ e)
-
-pub meets-shown : (x y s : ℕ) → inSet x s ≡ true → inSet y s ≡ true → meets x y ≡ true
-unfolding meets _and_
-meets-shown x y s h l =
-    ap not (ne-eqb (bitAnd x y) 0 (λ z.
-    let e : inSet (bitAnd x y) s ≡ true = inSet-and x y s ∙ rw (h, l) in
-    false-true (sym (inSet-zero s) ∙ (rw z at e))))
+    let (s, inside) = some-member (bitAnd x y) (eqb-false (bitAnd x y) 0 (not-true _ h)) in
+    let both = sym (inSet-and x y s) ∙ inside in
+    (s, and-first _ _ both, and-second _ _ both)
 
 -- a set that takes in one state more where a test passes
 pub inSet-pick : (b : Bool) (x t s : ℕ) → inSet (pick b (bitOr x (2 ^ t)) x) s ≡ (inSet x s or (b and eqb t s))
@@ -125,7 +123,7 @@ inSet-pick true x t s = rw (inSet-or x (2 ^ t) s, inSet-pow t s)
 inSet-pick false x t s = sym (or-false (inSet x s))
 
 -- one number more below, other than k, leaves it where it was
-ltb-next : (k n : ℕ) → (n ≡ k → ⊥) → ltb k n ≡ ltb k (suc n)
+pub ltb-next : (k n : ℕ) → (n ≡ k → ⊥) → ltb k n ≡ ltb k (suc n)
 ltb-next k n h = go (ltb k n) refl
   where
     go : (b : Bool) → ltb k n ≡ b → ltb k n ≡ ltb k (suc n)
@@ -203,17 +201,20 @@ members-below x n all =
     let h = setOf-fits (λ s. true) n in
     omega arith
 
-pub below-members : (x n s : ℕ) → x < 2 ^ n → inSet x s ≡ true → s < n
+-- no state beyond is in it
+inSet-beyond : (x n s : ℕ) → x < 2 ^ n → n ≤ s → inSet x s ≡ false
 unfolding inSet
+inSet-beyond x n s few beyond =
+    let wide = pow-mono {i = n} {j = s} beyond in
+    let none : x / 2 ^ s ≡ 0 = div-eq-of-lt (omega arith) in
+    rw none
+
+pub below-members : (x n s : ℕ) → x < 2 ^ n → inSet x s ≡ true → s < n
 below-members x n s few h = go (decLt s n)
   where
     go : Dec (s < n) → s < n
     go (yes less) = less
-    go (no more) =
-        let l = pow-mono {i = n} {j = s} (omega arith) in
-        let over : x < 2 ^ s = omega arith in
-        let e : x / 2 ^ s ≡ 0 = div-eq-of-lt over in
-        absurd (false-true (rw e at h))
+    go (no more) = absurd (false-true (sym (inSet-beyond x n s few (omega arith)) ∙ h))
 
 -- one bit, as the code makes it: nothing is shifted out of a number's width
 pub one-bit : (width k : ℕ) → k < width → (1 * 2 ^ k) % 2 ^ width ≡ 2 ^ k

@@ -2,7 +2,7 @@
 -- from a state in the set before and matching the role, leads to s. So an empty set stays empty, and unions stay unions.
 use mathlib.Core.Path.{_≡_, refl, sym, _∙_}
 use mathlib.Core.List.{List, [], _∷_}
-use mathlib.Core.Bool.{true, false}
+use mathlib.Core.Bool.{Bool, true, false}
 use mathlib.Core.Logic.{⊎-elim}
 use Prim.Native.Nat.{ℕ, zero, suc}
 use native.Mathlib.Omega.{arith}
@@ -14,48 +14,43 @@ use Rattle.table.specs.Logic.{_and_, _or_, pick}
 use Rattle.table.specs.Layout.{Numbered, edge, edges}
 use Rattle.table.specs.declared.Role.{Role}
 use Rattle.table.specs.declared.Edge.{Edge}
-use Rattle.table.proofs.Tests.{and-both, and-false, and-first, and-or-and, and-second, false-true, or-and, or-either, or-exchange, or-first, or-second}
+use Rattle.table.proofs.Tests.{and-both, and-false, and-or-and, and-parts, false-true}
+use Rattle.table.proofs.Tests.{or-and, or-either, or-exchange, or-first, or-second}
 use Rattle.automata.specs.Sets.{inSet}
 use Rattle.automata.specs.Automata.{leads, matches, moved, movedBy, run}
 use Rattle.automata.proofs.Members.{inSet-zero, inSet-or, inSet-pick, same-members}
 
 module _ (t : List ℕ) (k : ℕ) (r : Role) where
+  -- edge i leads automaton k on from the set x to state s
+  abbrev leadsTo : ℕ → ℕ → ℕ → Bool
+  leadsTo x s i = leads k r x (edge t i) and eqb (edge t i .to) s
+
   -- edge n + 1 adds its `to` state where it leads on
-  moved-next : (x n s : ℕ)
-      → inSet (movedBy t k r x (suc n)) s ≡ (inSet (movedBy t k r x n) s or (leads k r x (edge t (suc n)) and eqb (edge t (suc n) .to) s))
+  moved-next : (x n s : ℕ) → inSet (movedBy t k r x (suc n)) s ≡ (inSet (movedBy t k r x n) s or leadsTo x s (suc n))
   unfolding movedBy
   moved-next x n s = inSet-pick (leads k r x (edge t (suc n))) (movedBy t k r x n) (edge t (suc n) .to) s
 
   -- a state in the moved set has an edge that leads to it
-  pub moved-shows : (x n s : ℕ) → inSet (movedBy t k r x n) s ≡ true → (i : ℕ) × Numbered n i × (leads k r x (edge t i) ≡ true) × (edge t i .to ≡ s)
+  pub moved-shows : (x n s : ℕ) → inSet (movedBy t k r x n) s ≡ true
+      → (i : ℕ) × Numbered n i × (leads k r x (edge t i) ≡ true) × (edge t i .to ≡ s)
   unfolding movedBy
   moved-shows x zero s h = absurd (false-true (sym (inSet-zero s) ∙ h))
   moved-shows x (suc n) s h =
       or-either
-      (λ before.
-      let found = moved-shows x n s before in
-      (found .0, record { first = found .1 .first; last = omega (arith, found .1 .last) }, found .2, found .3))
-      (λ here. (suc n, record { first = omega arith; last = omega arith }, and-first _ _ here, eqb-true _ _ (and-second _ _ here)))
+      (λ before. let (i, there, on, to) = moved-shows x n s before in (i, omega arith, on, to))
+      (λ here. let (on, to) = and-parts (λ l. l) (eqb-true _ _) here in (suc n, omega arith, on, to))
       (sym (moved-next x n s) ∙ h)
 
   -- and the state that such an edge leads to is in it
-  pub moved-reached : (x n s i : ℕ) → Numbered n i → leads k r x (edge t i) ≡ true → edge t i .to ≡ s → inSet (movedBy t k r x n) s ≡ true
+  pub moved-reached : (x n s i : ℕ) → Numbered n i → leads k r x (edge t i) ≡ true → edge t i .to ≡ s
+      → inSet (movedBy t k r x n) s ≡ true
   moved-reached x zero s i h l e = absurd (omega arith)
   moved-reached x (suc n) s i h l e =
       moved-next x n s
       ∙ ⊎-elim
       (λ same. or-second _ (and-both (rw same at l) (eq-eqb _ _ (rw same at e))))
-      (λ less. or-first _ (moved-reached x n s i (record { first = h .first; last = omega arith }) l e))
+      (λ less. or-first _ (moved-reached x n s i (omega arith) l e))
       (eq-or-lt-of-le (h .last))
-
-  -- over all edges of the table
-  pub all-moved-shows : (x s : ℕ) → inSet (moved t k r x) s ≡ true → (i : ℕ) × Numbered (edges t) i × (leads k r x (edge t i) ≡ true) × (edge t i .to ≡ s)
-  unfolding moved
-  all-moved-shows x s h = moved-shows x (edges t) s h
-
-  pub all-moved-reached : (x s i : ℕ) → Numbered (edges t) i → leads k r x (edge t i) ≡ true → edge t i .to ≡ s → inSet (moved t k r x) s ≡ true
-  unfolding moved
-  all-moved-reached x s i h l e = moved-reached x (edges t) s i h l e
 
   -- no edge leads on from no state
   leads-from-none : (e : Edge) → leads k r 0 e ≡ false
@@ -80,9 +75,12 @@ module _ (t : List ℕ) (k : ℕ) (r : Role) (x y : ℕ) where
   -- an edge leads on from a union where it leads on from one of its parts
   leads-from-union : (e : Edge) → leads k r (bitOr x y) e ≡ (leads k r x e or leads k r y e)
   unfolding leads
-  leads-from-union e = rw (inSet-or x y (e .from)) (and-or-and (eqb (e .automaton) k) (inSet x (e .from)) (inSet y (e .from)) (matches e r))
+  leads-from-union e =
+      rw (inSet-or x y (e .from))
+      (and-or-and (eqb (e .automaton) k) (inSet x (e .from)) (inSet y (e .from)) (matches e r))
 
-  moved-from-union : (n s : ℕ) → inSet (movedBy t k r (bitOr x y) n) s ≡ (inSet (movedBy t k r x n) s or inSet (movedBy t k r y n) s)
+  moved-from-union : (n s : ℕ)
+      → inSet (movedBy t k r (bitOr x y) n) s ≡ (inSet (movedBy t k r x n) s or inSet (movedBy t k r y n) s)
   unfolding movedBy _or_
   moved-from-union zero s = rw (inSet-zero s)
   moved-from-union (suc n) s =

@@ -10,7 +10,16 @@ use Rattle.table.specs.Logic.{_and_, pick}
 use Rattle.table.specs.Limits.{mostParts, leastParts}
 use Rattle.table.specs.Layout.{cell, cells, cellsFrom, chain, credential}
 use Rattle.table.specs.declared.Credential.{Credential}
-use Rattle.table.specs.Checks.{within, chainOk, goodChain}
+use Rattle.table.specs.Outcome.Outcome.{accepted}
+use Rattle.table.specs.Checks.{within, chainOk, goodChain, cellsOutcome}
+use Rattle.table.proofs.Fields.{within-bounds}
+use Rattle.table.proofs.Accepted.{next-inside}
+
+-- a chain that is ok has 2 to 4 cells
+pub chain-bounds : (t : List ℕ) (first : ℕ) → chainOk t first ≡ true
+    → (leastParts ≤ length (chain t first)) × (length (chain t first) ≤ mostParts)
+unfolding chainOk
+chain-bounds t first ok = within-bounds leastParts mostParts _ ok
 
 pub record Walked (t : List ℕ) (first met j : ℕ) : Type 0 where
   pub few : met ≤ mostParts
@@ -31,29 +40,30 @@ stop-at t zero j h = refl
 stop-at t (suc most) j h = rw h
 
 module _ (t : List ℕ) (first met j : ℕ) (walked : Walked t first met j) where
-  left : (most : ℕ) → suc mostParts - met ≡ suc most → (j ≡ 0 → ⊥) → met + suc (length (cellsFrom t most (cell t j .next))) ≡ length (chain t first)
-  unfolding length
-  left most e h = rw (e, step-from t most j h) at (walked .whole)
+  -- cell j and those after it
+  cells-left : (most : ℕ) → suc mostParts - met ≡ suc most → (j ≡ 0 → ⊥)
+      → met + suc (length (cellsFrom t most (cell t j .next))) ≡ length (chain t first)
+  cells-left most e h = rw (e, step-from t most j h) at (walked .whole)
 
   -- there is one cell more
   pub walk-more : (j ≡ 0 → ⊥) → met + 1 ≤ length (chain t first)
-  walk-more h = omega (arith, left (mostParts - met) (omega (arith, walked .few)) h)
+  walk-more h = omega (arith, cells-left (mostParts - met) (omega (arith, walked .few)) h)
 
-  pub walk-goes-on : (j ≡ 0 → ⊥) → met + 1 ≤ mostParts → cell t j .next ≤ cells t → Walked t first (met + 1) (cell t j .next)
-  walk-goes-on h few inside =
-      let l = left (suc mostParts - (met + 1)) (omega arith) h in
-      record { few = few; inside = inside; whole = omega arith }
+  pub walk-goes-on : {v : ℕ} → cellsOutcome t ≡ accepted v → (j ≡ 0 → ⊥) → met + 1 ≤ mostParts
+      → Walked t first (met + 1) (cell t j .next)
+  walk-goes-on good h few =
+      let l = cells-left (suc mostParts - (met + 1)) (omega arith) h in
+      record { few = few; inside = next-inside t _ good j (omega arith); whole = omega arith }
 
   -- a fifth cell is met
   pub walk-too-long : (j ≡ 0 → ⊥) → mostParts < met + 1 → chainOk t first ≡ false
-  unfolding chainOk within _and_ cellsFrom length
+  unfolding chainOk within _and_ cellsFrom
   walk-too-long h over =
-      let five : length (chain t first) ≡ 5 = omega (arith, left 0 (omega arith) h) in
+      let five : length (chain t first) ≡ 5 = omega (arith, cells-left 0 (omega arith) h) in
       rw five
 
   -- the chain has ended with `met` cells
   met-all : j ≡ 0 → length (chain t first) ≡ met
-  unfolding length
   met-all e = let z = rw (stop-at t (suc mostParts - met) j e) at (walked .whole) in omega arith
 
   pub walk-too-short : j ≡ 0 → met < leastParts → chainOk t first ≡ false
@@ -65,7 +75,7 @@ module _ (t : List ℕ) (first met j : ℕ) (walked : Walked t first met j) wher
   walk-ends e enough = rw (met-all e, le-leb leastParts met enough, le-leb met mostParts (walked .few))
 
 -- credential i, which the code has read as c, has a chain where its kind is 4, and only there
-module _ (t : List ℕ) (i : ℕ) (c : Credential) (read : c ≡ credential t i) where
+module _ (t : List ℕ) (i : ℕ) {c : Credential} (read : c ≡ credential t i) where
   pub chain-of-kind-4 : c .kind ≡ 4 → goodChain t i ≡ chainOk t (c .first)
   unfolding goodChain pick
   chain-of-kind-4 h = rw (← read, h)

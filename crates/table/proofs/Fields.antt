@@ -1,11 +1,13 @@
 -- What a record that passes its check is: every field's range, by kind and by label.
 use mathlib.Core.Path.{_≡_, sym, _∙_}
-use mathlib.Core.Bool.{true}
+use mathlib.Core.Bool.{Bool, true, false}
 use mathlib.Core.Logic.{_⊎_, inl, inr}
 use Prim.Native.Nat.{ℕ, _≤_, _<_}
 use native.Mathlib.Omega.{arith}
-use native.Mathlib.Decide.{ℕ-discrete}
+use native.Mathlib.Decide.{ℕ-discrete, decLe}
+use lib.Dec.{eqb, leb, ltb}
 use borrow.Author.Tests.{leb-true, ltb-true, eqb-true}
+use Rattle.table.specs.Logic.{_and_, _or_}
 use Rattle.table.specs.Limits.{mostPrincipals, mostNames, lastState}
 use Rattle.table.specs.Layout.{Numbered, principal, name}
 use Rattle.table.specs.Checks.{within, isPrincipal, isName, isRole, meaningOk, credentialOk, cellOk, labelOk, edgeOk}
@@ -13,7 +15,7 @@ use Rattle.table.specs.declared.Role.{Role}
 use Rattle.table.specs.declared.Credential.{Credential}
 use Rattle.table.specs.declared.Cell.{Cell}
 use Rattle.table.specs.declared.Edge.{Edge}
-use Rattle.table.proofs.Tests.{and-first, and-second, or-either, false-true}
+use Rattle.table.proofs.Tests.{and-parts, or-either, false-true}
 use Rattle.table.proofs.Meanings.{kind-1, kind-2, kind-3, kind-4, kind-none, label-1, label-2, label-3, label-none}
 
 pub record RoleRange (r : Role) : Type 0 where
@@ -41,9 +43,12 @@ pub record EdgeRange (a : ℕ) (e : Edge) : Type 0 where
   pub named : (e .label ≡ 2 → ⊥) → RoleRange (e .role)
   pub unnamed : e .label ≡ 2 → (e .role .owner .0 ≡ 0) × (e .role .name .0 ≡ 0)
 
-pub within-range : (n x : ℕ) → within 1 n x ≡ true → Numbered n x
+pub within-bounds : (low high x : ℕ) → within low high x ≡ true → (low ≤ x) × (x ≤ high)
 unfolding within
-within-range n x e = record { first = leb-true 1 x (and-first _ _ e); last = leb-true x n (and-second _ _ e) }
+within-bounds low high x e = and-parts (leb-true low x) (leb-true x high) e
+
+pub within-range : (n x : ℕ) → within 1 n x ≡ true → Numbered n x
+within-range n x e = let (first, last) = within-bounds 1 n x e in record { first = first; last = last }
 
 pub principal-range : (x : ℕ) → isPrincipal (principal x) ≡ true → Numbered mostPrincipals x
 unfolding isPrincipal
@@ -56,85 +61,94 @@ name-range x e = within-range mostNames x e
 pub role-range : (r : Role) → isRole r ≡ true → RoleRange r
 unfolding isRole
 role-range r e =
-    record { owner = principal-range (r .owner .0) (and-first _ _ e); name = name-range (r .name .0) (and-second _ _ e) }
+    let (owner, name) = and-parts (principal-range (r .owner .0)) (name-range (r .name .0)) e in
+    record { owner = owner; name = name }
 
--- a kind that is none of the four allows nothing
-kind-range : (kind first second q : ℕ) → meaningOk kind first second q ≡ true → Numbered 4 kind
-kind-range kind first second q e = go (ℕ-discrete kind 1) (ℕ-discrete kind 2) (ℕ-discrete kind 3) (ℕ-discrete kind 4)
+-- a number that passes a test is from 1 to n where no other passes it
+only-numbered : (n x : ℕ) {p : Bool} → (((i : ℕ) → Numbered n i → x ≡ i → ⊥) → p ≡ false) → p ≡ true → Numbered n x
+only-numbered n x none e = go (decLe 1 x) (decLe x n)
   where
-    go : Dec (kind ≡ 1) → Dec (kind ≡ 2) → Dec (kind ≡ 3) → Dec (kind ≡ 4) → Numbered 4 kind
-    go (yes h) d2 d3 d4 = record { first = omega arith; last = omega arith }
-    go (no n1) (yes h) d3 d4 = record { first = omega arith; last = omega arith }
-    go (no n1) (no n2) (yes h) d4 = record { first = omega arith; last = omega arith }
-    go (no n1) (no n2) (no n3) (yes h) = record { first = omega arith; last = omega arith }
-    go (no n1) (no n2) (no n3) (no n4) = absurd (false-true (sym (kind-none kind first second q n1 n2 n3 n4) ∙ e))
+    go : Dec (1 ≤ x) → Dec (x ≤ n) → Numbered n x
+    go (no low) d = absurd (false-true (sym (none (λ i h same. omega arith)) ∙ e))
+    go (yes low) (no high) = absurd (false-true (sym (none (λ i h same. omega arith)) ∙ e))
+    go (yes low) (yes high) = omega arith
 
-module _ (q a : ℕ) (c : Credential) where
-  pub credential-range : credentialOk q a c ≡ true → CredentialRange q a c
-  unfolding credentialOk
-  credential-range e =
-      let later = and-second _ _ e in
-      let means = and-first _ _ later in
-      record {
-        role = role-range (c .role) (and-first _ _ e);
-        kind = kind-range (c .kind) (c .first) (c .second) q means;
-        membership = λ h.
-            let m = sym (kind-1 _ _ _ _ h) ∙ means in
-            (principal-range _ (and-first _ _ m), eqb-true _ _ (and-second _ _ m));
-        containment = λ h.
-            let m = sym (kind-2 _ _ _ _ h) ∙ means in
-            (principal-range _ (and-first _ _ m), name-range _ (and-second _ _ m));
-        linking = λ h.
-            let m = sym (kind-3 _ _ _ _ h) ∙ means in
-            (name-range _ (and-first _ _ m), name-range _ (and-second _ _ m));
-        intersection = λ h.
-            let m = sym (kind-4 _ _ _ _ h) ∙ means in
-            (within-range q _ (and-first _ _ m), eqb-true _ _ (and-second _ _ m));
-        automaton = leb-true _ _ (and-second _ _ later);
-      }
+-- what first and second are, kind by kind, where they are allowed
+module _ (kind first second q : ℕ) (ok : meaningOk kind first second q ≡ true) where
+  kind-range : Numbered 4 kind
+  kind-range =
+      only-numbered 4 kind (λ other.
+      kind-none kind first second q (other 1 (omega arith)) (other 2 (omega arith)) (other 3 (omega arith)) (other 4 (omega arith)))
+      ok
+
+  membership-range : kind ≡ 1 → Numbered mostPrincipals first × (second ≡ 0)
+  membership-range h =
+      and-parts (principal-range first) (eqb-true second 0) (sym (kind-1 kind first second q h) ∙ ok)
+
+  containment-range : kind ≡ 2 → Numbered mostPrincipals first × Numbered mostNames second
+  containment-range h =
+      and-parts (principal-range first) (name-range second) (sym (kind-2 kind first second q h) ∙ ok)
+
+  linking-range : kind ≡ 3 → Numbered mostNames first × Numbered mostNames second
+  linking-range h = and-parts (name-range first) (name-range second) (sym (kind-3 kind first second q h) ∙ ok)
+
+  intersection-range : kind ≡ 4 → Numbered q first × (second ≡ 0)
+  intersection-range h =
+      and-parts (within-range q first) (eqb-true second 0) (sym (kind-4 kind first second q h) ∙ ok)
+
+pub credential-range : (q a : ℕ) (c : Credential) → credentialOk q a c ≡ true → CredentialRange q a c
+unfolding credentialOk
+credential-range q a c e =
+    let (role, (means, known)) = and-parts (role-range (c .role)) (and-parts (λ m. m) (leb-true (c .automaton) a)) e in
+    record {
+      role = role;
+      kind = kind-range _ _ _ _ means;
+      membership = membership-range _ _ _ _ means;
+      containment = containment-range _ _ _ _ means;
+      linking = linking-range _ _ _ _ means;
+      intersection = intersection-range _ _ _ _ means;
+      automaton = known;
+    }
+
+-- a chain ends with cell j, or goes on to a greater cell
+next-range : (q j next : ℕ) → (eqb next 0 or ltb j next and leb next q) ≡ true → (next ≡ 0) ⊎ ((j < next) × (next ≤ q))
+next-range q j next e =
+    or-either (λ h. inl (eqb-true next 0 h)) (λ h. inr (and-parts (ltb-true j next) (leb-true next q) h)) e
 
 pub cell-range : (q j : ℕ) (c : Cell) → cellOk q j c ≡ true → CellRange q j c
 unfolding cellOk
 cell-range q j c e =
-    record {
-      role = role-range (c .role) (and-first _ _ e);
-      next = or-either
-          (λ h. inl (eqb-true _ _ h))
-          (λ h. inr (ltb-true _ _ (and-first _ _ h), leb-true _ _ (and-second _ _ h)))
-          (and-second _ _ e);
-    }
+    let (role, next) = and-parts (role-range (c .role)) (next-range q j (c .next)) e in
+    record { role = role; next = next }
 
-label-range : (label : ℕ) (r : Role) → labelOk label r ≡ true → Numbered 3 label
-label-range label r e = go (ℕ-discrete label 1) (ℕ-discrete label 2) (ℕ-discrete label 3)
-  where
-    go : Dec (label ≡ 1) → Dec (label ≡ 2) → Dec (label ≡ 3) → Numbered 3 label
-    go (yes h) d2 d3 = record { first = omega arith; last = omega arith }
-    go (no n1) (yes h) d3 = record { first = omega arith; last = omega arith }
-    go (no n1) (no n2) (yes h) = record { first = omega arith; last = omega arith }
-    go (no n1) (no n2) (no n3) = absurd (false-true (sym (label-none label r n1 n2 n3) ∙ e))
+-- what the role is, label by label, where it is allowed
+module _ (label : ℕ) (r : Role) (ok : labelOk label r ≡ true) where
+  label-range : Numbered 3 label
+  label-range =
+      only-numbered 3 label (λ other. label-none label r (other 1 (omega arith)) (other 2 (omega arith)) (other 3 (omega arith))) ok
 
--- labels 1 and 3 name a role
-label-named : (label : ℕ) (r : Role) → labelOk label r ≡ true → (label ≡ 2 → ⊥) → RoleRange r
-label-named label r e n2 = go (ℕ-discrete label 1) (ℕ-discrete label 3)
-  where
-    go : Dec (label ≡ 1) → Dec (label ≡ 3) → RoleRange r
-    go (yes h) d3 = role-range r (sym (label-1 label r h) ∙ e)
-    go (no n1) (yes h) = role-range r (sym (label-3 label r h) ∙ e)
-    go (no n1) (no n3) = absurd (false-true (sym (label-none label r n1 n2 n3) ∙ e))
+  -- labels 1 and 3 name a role
+  label-named : (label ≡ 2 → ⊥) → RoleRange r
+  label-named n2 = go (ℕ-discrete label 1) (ℕ-discrete label 3)
+    where
+      go : Dec (label ≡ 1) → Dec (label ≡ 3) → RoleRange r
+      go (yes h) d3 = role-range r (sym (label-1 label r h) ∙ ok)
+      go (no n1) (yes h) = role-range r (sym (label-3 label r h) ∙ ok)
+      go (no n1) (no n3) = absurd (false-true (sym (label-none label r n1 n2 n3) ∙ ok))
+
+  label-unnamed : label ≡ 2 → (r .owner .0 ≡ 0) × (r .name .0 ≡ 0)
+  label-unnamed h = and-parts (eqb-true (r .owner .0) 0) (eqb-true (r .name .0) 0) (sym (label-2 label r h) ∙ ok)
 
 pub edge-range : (a : ℕ) (d : Edge) → edgeOk a d ≡ true → EdgeRange a d
 unfolding edgeOk
 edge-range a d e =
-    let e1 = and-second _ _ e in
-    let e2 = and-second _ _ e1 in
-    let labelled = and-second _ _ e2 in
+    let states = and-parts (leb-true (d .from) lastState) (and-parts (leb-true (d .to) lastState) (λ l. l)) in
+    let (automaton, (from, (to, labelled))) = and-parts (within-range a (d .automaton)) states e in
     record {
-      automaton = within-range a _ (and-first _ _ e);
-      from = leb-true _ _ (and-first _ _ e1);
-      to = leb-true _ _ (and-first _ _ e2);
-      label = label-range (d .label) (d .role) labelled;
-      named = λ h. label-named (d .label) (d .role) labelled h;
-      unnamed = λ h.
-          let m = sym (label-2 (d .label) (d .role) h) ∙ labelled in
-          (eqb-true _ _ (and-first _ _ m), eqb-true _ _ (and-second _ _ m));
+      automaton = automaton;
+      from = from;
+      to = to;
+      label = label-range _ _ labelled;
+      named = label-named _ _ labelled;
+      unnamed = label-unnamed _ _ labelled;
     }

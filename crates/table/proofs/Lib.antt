@@ -4,7 +4,8 @@ pub mod Meanings
 pub mod Fields
 pub mod Stages
 pub mod Sizes
+pub mod Accepted
 pub mod Chains
 pub mod Parts
-pub mod Accepted
 pub mod WellFormed
+pub mod Queries

@@ -26,7 +26,8 @@ module _ (kind first second q : ℕ) where
   unfolding meaningOk pick
   kind-4 h = rw h
 
-  pub kind-none : (kind ≡ 1 → ⊥) → (kind ≡ 2 → ⊥) → (kind ≡ 3 → ⊥) → (kind ≡ 4 → ⊥) → meaningOk kind first second q ≡ false
+  pub kind-none : (kind ≡ 1 → ⊥) → (kind ≡ 2 → ⊥) → (kind ≡ 3 → ⊥) → (kind ≡ 4 → ⊥)
+      → meaningOk kind first second q ≡ false
   unfolding meaningOk pick
   kind-none h1 h2 h3 h4 = rw (ne-eqb kind 1 h1, ne-eqb kind 2 h2, ne-eqb kind 3 h3, ne-eqb kind 4 h4)
 

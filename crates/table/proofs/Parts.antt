@@ -7,13 +7,12 @@ use native.Mathlib.Omega.{arith}
 use native.Mathlib.Numerals.{add-one}
 use lib.ListN.{length, take, set, length-set}
 use lib.Seq.{take-suc-set}
-use borrow.Author.Tests.{leb-true}
 use Rattle.table.specs.Limits.{mostParts}
-use Rattle.table.specs.Layout.{cell, cells, cellsFrom, chain, parts}
-use Rattle.table.specs.Checks.{chainOk, within}
+use Rattle.table.specs.Layout.{cell, cells, cellsFrom, parts}
+use Rattle.table.specs.Outcome.Outcome.{accepted}
+use Rattle.table.specs.Checks.{chainOk, cellsOutcome}
 use Rattle.table.specs.declared.Role.{Role}
-use Rattle.table.proofs.Tests.{and-second}
-use Rattle.table.proofs.Chains.{Walked, walk-starts, walk-more, walk-goes-on, step-from, stop-at}
+use Rattle.table.proofs.Chains.{Walked, chain-bounds, walk-starts, walk-more, walk-goes-on, step-from, stop-at}
 
 abbrev partsFrom : List ℕ → ℕ → ℕ → List Role
 partsFrom t most j = map (λ (k : ℕ). cell t k .role) (cellsFrom t most j)
@@ -23,27 +22,32 @@ pub record Gathered (t : List ℕ) (first : ℕ) (roles : List Role) (len j : �
   pub room : length roles ≡ mostParts
   pub whole : take len roles ++ partsFrom t (suc mostParts - len) j ≡ parts t first
 
-pub gather-starts : (t : List ℕ) (first : ℕ) (roles : List Role) → length roles ≡ mostParts → first ≤ cells t → Gathered t first roles 0 first
-unfolding parts take
+pub gather-starts : (t : List ℕ) (first : ℕ) (roles : List Role) → length roles ≡ mostParts → first ≤ cells t
+    → Gathered t first roles 0 first
+unfolding parts
 gather-starts t first roles room h = record { walked = walk-starts t first h; room = room; whole = refl }
 
 module _ (t : List ℕ) (first : ℕ) (roles : List Role) (len j : ℕ) (so-far : Gathered t first roles len j) where
   pub gather-room : chainOk t first ≡ true → (j ≡ 0 → ⊥) → len < mostParts
-  unfolding chainOk within
   gather-room ok h =
       let more = walk-more t first len j (so-far .walked) h in
-      let most : length (chain t first) ≤ mostParts = leb-true _ _ (and-second _ _ ok) in
-      omega arith
+      omega (arith, chain-bounds t first ok .1)
 
-  pub gather-goes-on : (j ≡ 0 → ⊥) → len < mostParts → cell t j .next ≤ cells t → Gathered t first (set roles len (cell t j .role)) (len + 1) (cell t j .next)
-  gather-goes-on h room inside =
+  -- with cell j's role there is one role more among those gathered, and one less to come
+  one-more : (j ≡ 0 → ⊥) → len < mostParts
+      → take (len + 1) (set roles len (cell t j .role)) ++ partsFrom t (suc mostParts - (len + 1)) (cell t j .next) ≡ parts t first
+  one-more h room =
       let one-less : suc mostParts - len ≡ suc (suc mostParts - suc len) = omega arith in
+      rw (add-one len, take-suc-set roles len (cell t j .role) (omega (arith, so-far .room)), append-assoc)
+      (rw (one-less, step-from t (suc mostParts - suc len) j h) at (so-far .whole))
+
+  pub gather-goes-on : {v : ℕ} → cellsOutcome t ≡ accepted v → (j ≡ 0 → ⊥) → len < mostParts
+      → Gathered t first (set roles len (cell t j .role)) (len + 1) (cell t j .next)
+  gather-goes-on good h room =
       record {
-        walked = walk-goes-on t first len j (so-far .walked) h (omega arith) inside;
+        walked = walk-goes-on t first len j (so-far .walked) good h (omega arith);
         room = simp length-set (so-far .room);
-        whole =
-            rw (add-one len, take-suc-set roles len (cell t j .role) (omega (arith, so-far .room)), append-assoc)
-            (rw (one-less, step-from t (suc mostParts - suc len) j h) at (so-far .whole));
+        whole = one-more h room;
       }
 
   pub gather-ends : j ≡ 0 → take len roles ≡ parts t first

@@ -7,23 +7,19 @@ use native.Mathlib.Omega.{arith}
 use lib.ListN.{length}
 use borrow.Author.Tests.{leb-true, eqb-true}
 use Rattle.table.specs.Outcome.Outcome.{accepted}
-use Rattle.table.specs.Layout.{Counted, Numbered, Sized, automata, automataBase, automatonSize, cellSize, cells, cellsBase, credentialSize, credentials, edgeSize, edges, edgesBase, headSize}
+use Rattle.table.specs.Layout.{Counted, Numbered, Sized, credentials, cells, automata, edges}
+use Rattle.table.specs.Layout.{cellsBase, automataBase, edgesBase}
+use Rattle.table.specs.Layout.{headSize, credentialSize, cellSize, automatonSize, edgeSize}
 use Rattle.table.specs.Checks.{countsOk, headOutcome}
-use Rattle.table.proofs.Tests.{and-first, and-second}
+use Rattle.table.proofs.Tests.{and-parts}
 use Rattle.table.proofs.Stages.{then-first, then-second, demand-true}
 
 pub counted : (t : List ℕ) → headSize ≤ length t → countsOk t ≡ true → Counted t
 unfolding countsOk
 counted t h e =
-    let e1 = and-second _ _ e in
-    let e2 = and-second _ _ e1 in
-    record {
-      head = h;
-      fewCredentials = leb-true _ _ (and-first _ _ e);
-      fewCells = leb-true _ _ (and-first _ _ e1);
-      fewAutomata = leb-true _ _ (and-first _ _ e2);
-      fewEdges = leb-true _ _ (and-second _ _ e2);
-    }
+    let (n, (q, (a, m))) =
+    and-parts (leb-true _ _) (and-parts (leb-true _ _) (and-parts (leb-true _ _) (leb-true _ _))) e in
+    record { head = h; fewCredentials = n; fewCells = q; fewAutomata = a; fewEdges = m }
 
 pub sized : (t : List ℕ) (v : ℕ) → headOutcome t ≡ accepted v → Sized t
 unfolding headOutcome

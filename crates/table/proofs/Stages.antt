@@ -53,7 +53,8 @@ then-second (accepted w) later v e = e
 then-second (refused number position) later v e = absurd (refused-accepted e)
 
 -- a chain that stops: its first part does, or has passed and the rest does
-pub then-refused : (a later : Outcome) (number position : ℕ) → (a andThen later) ≡ refused number position → (a ≡ refused number position) ⊎ ((w : ℕ) × (a ≡ accepted w) × (later ≡ refused number position))
+pub then-refused : (a later : Outcome) (number position : ℕ) → (a andThen later) ≡ refused number position
+    → (a ≡ refused number position) ⊎ ((w : ℕ) × (a ≡ accepted w) × (later ≡ refused number position))
 unfolding _andThen_
 then-refused (accepted w) later number position e = inr (w, refl, e)
 then-refused (refused number′ position′) later number position e = inl e
@@ -64,7 +65,8 @@ demand-true true number position v e = refl
 demand-true false number position v e = absurd (refused-accepted e)
 
 -- a check that stops does so with its own number and position
-demand-refused : (p : Bool) (number position number′ position′ : ℕ) → demand p number position ≡ refused number′ position′ → (p ≡ false) × (number ≡ number′) × (position ≡ position′)
+demand-refused : (p : Bool) (number position number′ position′ : ℕ) → demand p number position ≡ refused number′ position′
+    → (p ≡ false) × (number ≡ number′) × (position ≡ position′)
 unfolding demand
 demand-refused true number position number′ position′ e = absurd (refused-accepted (sym e))
 demand-refused false number position number′ position′ e = (refl, (cc), (cc))
@@ -82,19 +84,22 @@ module _ (ok : ℕ → Bool) (number : ℕ) where
   each-next i = rw (add-one i)
 
   -- record i + 1 passes too
-  pub each-passes : (i : ℕ) → demandEach ok i number ≡ accepted 0 → ok (i + 1) ≡ true → demandEach ok (i + 1) number ≡ accepted 0
+  pub each-passes : (i : ℕ) → demandEach ok i number ≡ accepted 0 → ok (i + 1) ≡ true
+      → demandEach ok (i + 1) number ≡ accepted 0
   unfolding demand _andThen_
   each-passes i before here = rw (each-next i, before, here)
 
   -- a refusal stays, however many records follow
-  each-stays : (i n position : ℕ) → i ≤ n → demandEach ok i number ≡ refused number position → demandEach ok n number ≡ refused number position
+  each-stays : (i n position : ℕ) → i ≤ n → demandEach ok i number ≡ refused number position
+      → demandEach ok n number ≡ refused number position
   unfolding demandEach _andThen_
   each-stays i zero position h e = let z : i ≡ 0 = omega arith in rw z at e
   each-stays i (suc n) position h e =
       ⊎-elim (λ same. rw same at e) (λ less. rw (each-stays i n position (omega arith) e)) (eq-or-lt-of-le h)
 
   -- the row stops at record i + 1
-  pub each-stops : (i n : ℕ) → i + 1 ≤ n → demandEach ok i number ≡ accepted 0 → ok (i + 1) ≡ false → refused number (i + 1) ≡ demandEach ok n number
+  pub each-stops : (i n : ℕ) → i + 1 ≤ n → demandEach ok i number ≡ accepted 0 → ok (i + 1) ≡ false
+      → refused number (i + 1) ≡ demandEach ok n number
   unfolding demand _andThen_
   each-stops i n h before here = sym (each-stays (i + 1) n (i + 1) h (rw (each-next i, before, here)))
 
@@ -108,7 +113,7 @@ module _ (ok : ℕ → Bool) (number : ℕ) where
   each-ok zero v e i h = absurd (omega arith)
   each-ok (suc n) v e i h =
       ⊎-elim (λ same. rw same (demand-true (ok (suc n)) number (suc n) v (then-second (demandEach ok n number) _ v e)))
-      (λ less. each-ok n _ (then-first (demandEach ok n number) _ v e .1) i (record { first = h .first; last = omega arith }))
+      (λ less. each-ok n _ (then-first (demandEach ok n number) _ v e .1) i (omega arith))
       (eq-or-lt-of-le (h .last))
 
   -- the row passes where every record is ok
@@ -116,34 +121,36 @@ module _ (ok : ℕ → Bool) (number : ℕ) where
   unfolding demandEach _andThen_
   each-all zero every = refl
   each-all (suc n) every =
-      rw (each-all n (λ i h. every i (record { first = h .first; last = omega arith })))
-      (demand-passes number (suc n) (every (suc n) (record { first = omega arith; last = omega arith })))
+      rw (each-all n (λ i h. every i (omega arith)))
+      (demand-passes number (suc n) (every (suc n) (omega arith)))
 
   -- one more record changes nothing
   later-failure : {n position : ℕ} → FirstFailure ok n position → FirstFailure ok (suc n) position
   later-failure f =
       record {
-        within = record { first = f .within .first; last = omega arith };
+        within = omega arith;
         fails = f .fails;
-        before = λ j h less. f .before j (record { first = h .first; last = omega arith }) less;
+        before = λ j h less. f .before j (omega arith) less;
       }
 
   -- the records before it passed, and the last is not ok
   last-failure : (n w : ℕ) → demandEach ok n number ≡ accepted w → ok (suc n) ≡ false → FirstFailure ok (suc n) (suc n)
   last-failure n w passed fails =
       record {
-        within = record { first = omega arith; last = omega arith };
+        within = omega arith;
         fails = fails;
-        before = λ j h less. each-ok n w passed j (record { first = h .first; last = omega arith });
+        before = λ j h less. each-ok n w passed j (omega arith);
       }
 
-  last-refused : (n w number′ position : ℕ) → demandEach ok n number ≡ accepted w → demand (ok (suc n)) number (suc n) ≡ refused number′ position → (number ≡ number′) × FirstFailure ok (suc n) position
+  last-refused : (n w number′ position : ℕ) → demandEach ok n number ≡ accepted w
+      → demand (ok (suc n)) number (suc n) ≡ refused number′ position → (number ≡ number′) × FirstFailure ok (suc n) position
   last-refused n w number′ position passed e =
       let (fails, own, here) = demand-refused (ok (suc n)) number (suc n) number′ position e in
       (own, rw (← here) (last-failure n w passed fails))
 
   -- where the row stops, it tells its own number, and the first record that is not ok
-  pub each-refused : (n number′ position : ℕ) → demandEach ok n number ≡ refused number′ position → (number ≡ number′) × FirstFailure ok n position
+  pub each-refused : (n number′ position : ℕ) → demandEach ok n number ≡ refused number′ position
+      → (number ≡ number′) × FirstFailure ok n position
   unfolding demandEach
   each-refused zero number′ position e = absurd (refused-accepted (sym e))
   each-refused (suc n) number′ position e =
@@ -157,7 +164,7 @@ module _ (ok : ℕ → Bool) (number : ℕ) where
   each-first n zero f = absurd (omega arith)
   each-first n (suc i) f =
       each-stays (suc i) n (suc i) (f .within .last)
-      (rw (each-all i (λ j h. f .before j (record { first = h .first; last = omega arith }) (omega arith)), f .fails))
+      (rw (each-all i (λ j h. f .before j (omega arith) (omega arith)), f .fails))
 
 -- what passes has the value 0
 demand-value : (p : Bool) (number position v : ℕ) → demand p number position ≡ accepted v → v ≡ 0
@@ -171,12 +178,12 @@ each-value ok zero number v e = cc
 each-value ok (suc n) number v e = demand-value (ok (suc n)) number (suc n) v (then-second (demandEach ok n number) _ v e)
 
 -- a call that makes one stage: what its answer says of the stage's outcome
-module _ (answer : TableCheck) (stage : Outcome) (meets : tableTold answer ≡ stage) where
+module _ {answer : TableCheck} {stage : Outcome} (meets : tableTold answer ≡ stage) where
   pub stage-passed : answer ≡ table.Accepted → stage ≡ accepted 0
   unfolding tableTold
   stage-passed h = sym meets ∙ ap tableTold h
 
   -- a refused answer is the whole check's, whatever follows
-  pub stage-stops : (why : Refusal) (later : Outcome) → answer ≡ table.Refused why → tableTold answer ≡ (stage andThen later)
+  pub stage-stops : {why : Refusal} (later : Outcome) → answer ≡ table.Refused why → tableTold answer ≡ (stage andThen later)
   unfolding tableTold told _andThen_
-  stage-stops why later h = rw (← meets, h)
+  stage-stops later h = rw (← meets, h)

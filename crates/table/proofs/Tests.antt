@@ -6,7 +6,7 @@ use native.Mathlib.Omega.{arith}
 use native.Mathlib.Decide.{ℕ-discrete}
 use lib.Dec.{ltb}
 use borrow.Author.Tests.{ltb-false, ltb-true, not-true, not-false}
-use Rattle.table.specs.Logic.{_and_, _or_, anyBelow}
+use Rattle.table.specs.Logic.{_and_, _or_, anyBelow, pick}
 
 -- what `if !flag { .. }` tells of p, in its body and after it
 pub failed : {flag p : Bool} → flag ≡ p → not flag ≡ true → p ≡ false
@@ -51,6 +51,11 @@ pub and-second : (a b : Bool) → (a and b) ≡ true → b ≡ true
 unfolding _and_
 and-second true b h = h
 and-second false b h = absurd (false-true h)
+
+pub and-parts : {A B : Type 0} {a b : Bool} → (a ≡ true → A) → (b ≡ true → B) → (a and b) ≡ true → A × B
+unfolding _and_
+and-parts {a = true} f g h = (f refl, g h)
+and-parts {a = false} f g h = absurd (false-true h)
 
 -- one part of a disjunction that holds
 pub or-either : {A : Type 0} {a b : Bool} → (a ≡ true → A) → (b ≡ true → A) → (a or b) ≡ true → A
@@ -133,6 +138,17 @@ same-test true b f g = sym (f refl)
 same-test false true f g = g refl
 same-test false false f g = refl
 
+-- a choice between two that are one, and what is made of a choice
+pub pick-same : {A : Type 0} (b : Bool) {x y : A} → x ≡ y → pick b x y ≡ y
+unfolding pick
+pick-same true e = e
+pick-same false e = refl
+
+pub pick-apart : {A B : Type 0} (f : A → B) (b : Bool) (x y : A) → f (pick b x y) ≡ pick b (f x) (f y)
+unfolding pick
+pick-apart f true x y = refl
+pick-apart f false x y = refl
+
 -- some number below n passes exactly where one can be named
 pub any-shows : (p : ℕ → Bool) (n : ℕ) → anyBelow p n ≡ true → (k : ℕ) × (k < n) × (p k ≡ true)
 unfolding anyBelow
@@ -165,7 +181,8 @@ any-not p n k h l = go (p k) refl
     go false e = e
 
 -- a search in ascending order: nothing from `from` up to `next` passes
-pub any-on : (p : ℕ → Bool) (from next : ℕ) → anyBelow p from ≡ false → ((k : ℕ) → from ≤ k → k < next → p k ≡ false) → anyBelow p next ≡ false
+pub any-on : (p : ℕ → Bool) (from next : ℕ) → anyBelow p from ≡ false → ((k : ℕ) → from ≤ k → k < next → p k ≡ false)
+    → anyBelow p next ≡ false
 any-on p from next before none = any-none p next (λ k l. go k l (ltb k from) refl)
   where
     go : (k : ℕ) → k < next → (b : Bool) → ltb k from ≡ b → p k ≡ false

@@ -7,19 +7,18 @@ use Prim.Native.Nat.{ℕ, zero, suc, _≤_, _<_}
 use native.Mathlib.Omega.{arith}
 use native.Mathlib.Decide.{ℕ-discrete}
 use lib.ListN.{length}
-use borrow.Author.Tests.{leb-true}
 use Rattle.table.specs.Outcome.{_andThen_}
 use Rattle.table.specs.Outcome.Outcome.{accepted}
 use Rattle.table.specs.Limits.{leastParts, mostParts}
 use Rattle.table.specs.Layout.{Numbered, Sized, automata, cell, cells, cellsFrom, chain, credential, credentials, edge, edges}
-use Rattle.table.specs.Checks.{Valid, WellFormed, within, chainOk, goodChain, goodEdge, queryOutcome, requestOutcome, tableOutcome, headOutcome, credentialsOutcome, cellsOutcome, chainsOutcome, edgesOutcome}
-use Rattle.table.proofs.Tests.{and-first, and-second}
+use Rattle.table.specs.Checks.{Valid, WellFormed, chainOk, goodChain, goodEdge, queryOutcome, requestOutcome, tableOutcome}
+use Rattle.table.specs.Checks.{headOutcome, credentialsOutcome, cellsOutcome, chainsOutcome, edgesOutcome}
 use Rattle.table.proofs.Stages.{then-first, then-second, each-ok, each-value}
 use Rattle.table.specs.declared.Query.{Query}
 use Rattle.table.proofs.Sizes.{sized}
 use Rattle.table.proofs.Fields.{CredentialRange, CellRange, EdgeRange}
 use Rattle.table.proofs.Accepted.{credentials-in-range, cells-in-range, edges-in-range}
-use Rattle.table.proofs.Chains.{chain-of-kind-4, step-from, stop-at}
+use Rattle.table.proofs.Chains.{chain-bounds, chain-of-kind-4, step-from, stop-at}
 
 -- numbers that ascend from above `low` up to q
 pub data Climbs (q : ℕ) : ℕ → List ℕ → Type 0 where
@@ -32,19 +31,21 @@ pub record ChainRange (t : List ℕ) (first : ℕ) : Type 0 where
   pub most : length (chain t first) ≤ mostParts
   pub ascending : Climbs (cells t) 0 (chain t first)
 
--- where the chain ends before the limit, a greater limit gives the same chain
-pub cells-settled : (t : List ℕ) (most big j : ℕ) → length (cellsFrom t most j) < most → most ≤ big → cellsFrom t big j ≡ cellsFrom t most j
-unfolding length
-cells-settled t zero big j h le = absurd (omega arith)
-cells-settled t (suc most) zero j h le = absurd (omega arith)
-cells-settled t (suc most) (suc big) j h le =
-    settle (ℕ-discrete j 0) (λ shorter. cells-settled t most big (cell t j .next) shorter (omega arith))
-  where
-    settle : Dec (j ≡ 0) → (length (cellsFrom t most (cell t j .next)) < most → cellsFrom t big (cell t j .next) ≡ cellsFrom t most (cell t j .next)) → cellsFrom t (suc big) j ≡ cellsFrom t (suc most) j
-    settle (yes z) same = rw (stop-at t (suc big) j z, stop-at t (suc most) j z)
-    settle (no nz) same =
-        let shorter = rw (step-from t most j nz) at h in
-        rw (step-from t big j nz, step-from t most j nz, same (omega arith))
+-- where the chain from cell j ends before the limit `most`, a greater limit gives the same chain
+abbrev Settled : List ℕ → ℕ → ℕ → ℕ → Type 0
+Settled t most big j = length (cellsFrom t most j) < most → cellsFrom t big j ≡ cellsFrom t most j
+
+settled-step : (t : List ℕ) (most big j : ℕ) → Dec (j ≡ 0) → Settled t most big (cell t j .next) → Settled t (suc most) (suc big) j
+settled-step t most big j (yes z) later h = rw (stop-at t (suc big) j z, stop-at t (suc most) j z)
+settled-step t most big j (no nz) later h =
+    let shorter = rw (step-from t most j nz) at h in
+    rw (step-from t big j nz, step-from t most j nz, later (omega arith))
+
+cells-settled : (t : List ℕ) (most big j : ℕ) → most ≤ big → Settled t most big j
+cells-settled t zero big j le = λ h. absurd (omega arith)
+cells-settled t (suc most) zero j le = absurd (omega arith)
+cells-settled t (suc most) (suc big) j le =
+    settled-step t most big j (ℕ-discrete j 0) (cells-settled t most big (cell t j .next) (omega arith))
 
 module _ (t : List ℕ) (good : (j : ℕ) → Numbered (cells t) j → CellRange (cells t) j (cell t j)) where
   cells-climb : (most low j : ℕ) → ((j ≡ 0) ⊎ ((low < j) × (j ≤ cells t))) → Climbs (cells t) low (cellsFrom t most j)
@@ -53,7 +54,7 @@ module _ (t : List ℕ) (good : (j : ℕ) → Numbered (cells t) j → CellRange
   cells-climb (suc most) low j (inl z) = rw (stop-at t (suc most) j z) ends
   cells-climb (suc most) low j (inr (above, there)) =
       rw (step-from t most j (omega arith))
-      (climbs above there (cells-climb most j (cell t j .next) (good j (record { first = omega arith; last = there }) .next)))
+      (climbs above there (cells-climb most j (cell t j .next) (good j (omega arith) .next)))
 
 module _ (t : List ℕ) (wf : WellFormed t) where
   after-head : (credentialsOutcome t andThen cellsOutcome t andThen chainsOutcome t andThen edgesOutcome t) ≡ accepted 0
@@ -85,32 +86,30 @@ module _ (t : List ℕ) (wf : WellFormed t) where
   pub wf-chain-ok : (i : ℕ) → Numbered (credentials t) i → credential t i .kind ≡ 4 → chainOk t (credential t i .first) ≡ true
   unfolding chainsOutcome
   wf-chain-ok i h four =
-      sym (chain-of-kind-4 t i (credential t i) refl four)
+      sym (chain-of-kind-4 t i refl four)
       ∙ each-ok (goodChain t) 6 (credentials t) _ (then-first (chainsOutcome t) _ 0 after-cells .1) i h
 
   pub wf-chain : (i : ℕ) → Numbered (credentials t) i → credential t i .kind ≡ 4 → ChainRange t (credential t i .first)
-  unfolding chainOk within
   wf-chain i h four =
-      let ok = wf-chain-ok i h four in
+      let (least, most) = chain-bounds t (credential t i .first) (wf-chain-ok i h four) in
       let there = wf-credential i h .intersection four .0 in
-      record {
-        least = leb-true _ _ (and-first _ _ ok);
-        most = leb-true _ _ (and-second _ _ ok);
-        ascending = cells-climb t wf-cell (suc mostParts) 0 (credential t i .first) (inr (there .first, there .last));
-      }
+      let ascending = cells-climb t wf-cell (suc mostParts) 0 (credential t i .first) (inr (there .first, there .last)) in
+      record { least = least; most = most; ascending = ascending }
 
   -- the chain is whole: reading on gives no further cell
-  pub wf-chain-whole : (i : ℕ) → Numbered (credentials t) i → credential t i .kind ≡ 4 → (big : ℕ) → suc mostParts ≤ big → cellsFrom t big (credential t i .first) ≡ chain t (credential t i .first)
+  pub wf-chain-whole : (i : ℕ) → Numbered (credentials t) i → credential t i .kind ≡ 4 → (big : ℕ) → suc mostParts ≤ big
+      → cellsFrom t big (credential t i .first) ≡ chain t (credential t i .first)
   wf-chain-whole i h four big le =
       let few = wf-chain i h four .most in
-      cells-settled t (suc mostParts) big (credential t i .first) (omega arith) le
+      cells-settled t (suc mostParts) big (credential t i .first) le (omega arith)
 
 -- where rows 1 to 8 find nothing, the table is accepted and the query valid
 table-value : (t : List ℕ) (v : ℕ) → tableOutcome t ≡ accepted v → v ≡ 0
 unfolding tableOutcome edgesOutcome
 table-value t v e =
     each-value (goodEdge t) (edges t) 7 v
-    (then-second (chainsOutcome t) _ v (then-second (cellsOutcome t) _ v (then-second (credentialsOutcome t) _ v (then-second (headOutcome t) _ v e))))
+    (then-second (chainsOutcome t) _ v (then-second (cellsOutcome t) _ v
+    (then-second (credentialsOutcome t) _ v (then-second (headOutcome t) _ v e))))
 
 pub request-accepted : (t : List ℕ) (q : Query) → requestOutcome t q ≡ accepted 0 → WellFormed t × Valid q
 unfolding requestOutcome

@@ -1,6 +1,7 @@
 // The table of credentials and the query, as document 01 lays them out, and the checks that stop a bad one: rows 1 to 8
 // of "Where each input is stopped". Every slice of every length gets "accepted" or exactly its refusal, and nothing is
-// written. What the checks mean is in specs/Checks.antt; what an accepted table gives its readers is in proofs/WellFormed.antt.
+// written. What the checks mean is in specs/Checks.antt; what an accepted table gives its readers, in
+// proofs/WellFormed.antt.
 pub mod layout; // layout.rt: the records of a table, by number
 mod ranges; // ranges.rt: what a single record or query must be
 mod rows; // rows.rt: the rows of checks over all records

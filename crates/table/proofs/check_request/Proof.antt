@@ -22,14 +22,14 @@ returns : tie.Need-returns
 unfolding requestOutcome
 returns c =
     let check-table = c .before .before .before .check-table in
-    c .check-query .ensures ∙ then-on (stage-passed _ _ (check-table .ensures) (c .before .enum-told .given .1))
+    c .check-query .ensures ∙ then-on (stage-passed (check-table .ensures) (c .before .enum-told .given .1))
 
 returns-2 : tie.Need-returns-2
 unfolding requestOutcome queryTold tableTold
 returns-2 c =
     let check-table = c .before .before .before .check-table in
-    sym (ap tableTold (c .before .why .given .1)) ∙ stage-stops _ _ (check-table .ensures)
-    (c .before .why .given .0 .0) _ (c .before .why .given .1)
+    let known = c .before .why .given .1 in
+    sym (ap tableTold known) ∙ stage-stops (check-table .ensures) _ known
 
 pub check-request-spec : {M : Type 1} → statement M
 check-request-spec =

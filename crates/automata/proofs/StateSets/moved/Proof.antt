@@ -4,9 +4,7 @@ use Prim.Native.Nat.{_-_, _≤_}
 use native.Mathlib.Omega.{arith}
 use borrow.Author.Needs.{needs}
 use Rattle.automata.proofs.Together.{Moving, edge-there, moving-all, moving-more, moving-none}
-use Rattle.table.proofs.Sizes.{counted}
 use Rattle.table.proofs.WellFormed.{wf-sized}
-use Rattle.table.specs.Layout.{edge, role}
 use Rattle.automata.proofs.StateSets.moved.Statement.{statement}
 use Rattle.automata.proofs.StateSets.moved.Tie as tie
 
@@ -17,9 +15,7 @@ abbrev μ-loop : tie.MeasureT-loop
 μ-loop self table role next₀ e k₀ next k = e - k
 
 shared-slice-read-wide : tie.Need-shared-slice-read-wide Inv-loop μ-loop
-shared-slice-read-wide c =
-    let pre = c .before .before .pre in
-    omega (arith, wf-sized _ pre .counted .head)
+shared-slice-read-wide c = omega (arith, wf-sized _ (c .before .before .pre) .counted .head)
 
 wide-requires : tie.Need-wide-requires Inv-loop μ-loop
 wide-requires c κs = search needs
@@ -31,14 +27,12 @@ add-k : tie.Need-add-k Inv-loop μ-loop
 add-k c = search needs
 
 edge-requires : tie.Need-edge-requires Inv-loop μ-loop
-edge-requires c κs =
-    let pre = c .before .before .before .before .before .pre in
-    (wf-sized _ pre, record { first = omega arith; last = omega arith })
+edge-requires c κs = (wf-sized _ (c .before .before .before .before .before .pre), omega arith)
 
 with-edge-requires : tie.Need-with-edge-requires Inv-loop μ-loop
 with-edge-requires c κs =
     let pre = c .before .before .before .before .before .before .pre in
-    edge-there _ pre _ (record { first = omega arith; last = omega arith }) _ (c .edge .ensures)
+    edge-there _ pre _ (omega arith) (c .edge .ensures)
 
 loop-less : tie.Need-loop-less Inv-loop μ-loop
 loop-less c = search needs
@@ -47,11 +41,8 @@ loop-again : tie.Need-loop-again Inv-loop μ-loop
 loop-again c =
     let loop = c .before .before .before .loop in
     let pre = c .before .before .before .before .before .before .before .pre in
-    rw (c .with-edge .ensures, c .before .edge .ensures) (
-      omega arith,
-      moving-more _ _ _ _ _ (loop .inv .1)
-          (edge-there _ pre _ (record { first = omega arith; last = omega arith }) _ refl .0),
-    )
+    rw (c .with-edge .ensures, c .before .edge .ensures)
+    (omega arith, moving-more _ _ _ _ _ (loop .inv .1) (edge-there _ pre _ (omega arith) refl .0))
 
 returns : tie.Need-returns Inv-loop μ-loop
 returns c = moving-all _ _ _ _ _ (omega arith) (c .before .loop .inv .1)

@@ -1,4 +1,5 @@
--- `automata::StateSets::with_edge` meets its contract: the edge leads on where its state is in the set and its label matches. Assumes nothing.
+-- `automata::StateSets::with_edge` meets its contract: the edge leads on where its state is in the set and its label
+-- matches. Assumes nothing.
 use borrow.Author.Needs.{needs}
 use Rattle.automata.proofs.Labels.{edge-elsewhere, edge-leads, edge-unmatched}
 use Rattle.table.proofs.Tests.{failed, passed}
@@ -23,7 +24,7 @@ shr-if1 c = search needs
 returns : tie.Need-returns
 returns c =
     let wide = c .before .before .before .wide in
-    edge-elsewhere _ _ _ _ _ (wide .ensures .0) (c .if1 .taken)
+    edge-elsewhere _ _ _ _ (wide .ensures .0) (c .if1 .taken)
 
 edge-matches-requires : tie.Need-edge-matches-requires
 edge-matches-requires c κs = search needs
@@ -32,8 +33,8 @@ returns-2 : tie.Need-returns-2
 returns-2 c =
     let wide = c .before .before .before .before .before .wide in
     let if1 = c .before .before .if1 in
-    edge-unmatched _ _ _ _ _ (wide .ensures .0) (if1 .left) (failed (c .before .edge-matches .ensures)
-    (c .if2 .taken))
+    let off = failed (c .before .edge-matches .ensures) (c .if2 .taken) in
+    edge-unmatched _ _ _ _ (wide .ensures .0) (if1 .left) off
 
 mul-sets : tie.Need-mul-sets
 mul-sets c = search needs
@@ -54,10 +55,9 @@ returns-3 : tie.Need-returns-3
 returns-3 c =
     let wide = c .before .before .before .before .before .before .before .wide in
     let if1 = c .before .before .before .before .if1 in
-    let edge-matches = c .before .before .before .edge-matches in
-    let if2 = c .before .before .if2 in
+    let on = passed (c .before .before .before .edge-matches .ensures) (c .before .before .if2 .left) in
     let pre = c .before .before .before .before .before .before .before .before .pre in
-    edge-leads _ _ _ _ _ (wide .ensures .0) (if1 .left) (passed (edge-matches .ensures) (if2 .left)) (pre .1 .1)
+    edge-leads _ _ _ _ (wide .ensures .0) (if1 .left) on (pre .1 .1)
 
 pub with-edge-spec : {M : Type 1} → statement M
 with-edge-spec =

@@ -1,12 +1,12 @@
--- `table::layout::chain` meets its contract: the roles of the first len cells are gathered, and j is the next cell. Assumes nothing.
+-- `table::layout::chain` meets its contract: the roles of the first len cells are gathered, and j is the next cell. The chain is
+-- ok, so wherever a cell is read there is room for its role. Assumes nothing.
 use mathlib.Core.Path.{refl}
-use Prim.Native.Nat.{_-_}
+use Prim.Native.Nat.{_-_, _<_}
 use native.Mathlib.Omega.{arith}
 use borrow.Author.Needs.{needs}
-use Rattle.table.proofs.Accepted.{next-inside}
 use Rattle.table.proofs.Parts.{Gathered, gather-ends, gather-goes-on, gather-room, gather-starts}
 use Rattle.table.proofs.WellFormed.{wf-cells, wf-sized}
-use Rattle.table.specs.Layout.{cell}
+use Rattle.table.specs.Limits.{mostParts}
 use Rattle.table.proofs.layout.chain.Statement.{statement}
 use Rattle.table.proofs.layout.chain.Tie as tie
 
@@ -26,54 +26,39 @@ cell-requires : tie.Need-cell-requires Inv-loop μ-loop
 cell-requires c κs =
     let pre = c .before .before .before .before .pre in
     let loop = c .before .before .loop in
-    (wf-sized _ (pre .0), (record { first = omega arith; last = omega (arith, loop .inv .walked .inside) }))
+    (wf-sized _ (pre .0), omega (arith, loop .inv .walked .inside))
+
+room : (c : tie.After-cell Inv-loop μ-loop) → c .before .before .before .loop .len < mostParts
+room c =
+    let loop = c .before .before .before .loop in
+    let pre = c .before .before .before .before .before .pre in
+    gather-room _ _ _ _ _ (loop .inv) (pre .1 .1) (c .before .before .loop-test .taken)
 
 mul-roles : tie.Need-mul-roles Inv-loop μ-loop
-mul-roles c =
-    let loop = c .before .before .before .before .loop in
-    let pre = c .before .before .before .before .before .before .pre in
-    let loop-test = c .before .before .before .loop-test in
-    omega (arith, gather-room _ _ _ _ _ (loop .inv) (pre .1 .1) (loop-test .taken))
+mul-roles c = omega (arith, room (c .before))
 
 array-set-from-roles : tie.Need-array-set-from-roles Inv-loop μ-loop
-array-set-from-roles c =
-    let loop = c .before .before .before .before .loop in
-    let pre = c .before .before .before .before .before .before .pre in
-    let loop-test = c .before .before .before .loop-test in
-    gather-room _ _ _ _ _ (loop .inv) (pre .1 .1) (loop-test .taken)
+array-set-from-roles c = room (c .before)
 
 add-len : tie.Need-add-len Inv-loop μ-loop
-add-len c =
-    let loop = c .before .before .before .before .loop in
-    let pre = c .before .before .before .before .before .before .pre in
-    let loop-test = c .before .before .before .loop-test in
-    omega (arith, gather-room _ _ _ _ _ (loop .inv) (pre .1 .1) (loop-test .taken))
+add-len c = omega (arith, room (c .before))
 
 loop-less : tie.Need-loop-less Inv-loop μ-loop
-loop-less c =
-    let loop = c .before .before .before .before .loop in
-    let pre = c .before .before .before .before .before .before .pre in
-    let loop-test = c .before .before .before .loop-test in
-    omega (arith, gather-room _ _ _ _ _ (loop .inv) (pre .1 .1) (loop-test .taken))
+loop-less c = omega (arith, room (c .before))
 
 loop-again : tie.Need-loop-again Inv-loop μ-loop
 loop-again c =
     let wide = c .before .before .wide in
     let loop = c .before .before .before .before .loop in
-    let loop-test = c .before .before .before .loop-test in
-    let pre = c .before .before .before .before .before .before .pre in
-    rw (c .before .cell .ensures, wide .ensures .0) (gather-goes-on _ _ _ _ _ (loop .inv) (loop-test .taken)
-    (gather-room _ _ _ _ _ (loop .inv) (pre .1 .1) (loop-test .taken)) (next-inside _ _ (wf-cells _ (pre .0) .1) _
-    (record { first = omega arith; last = omega (arith, loop .inv .walked .inside) })))
+    let good = wf-cells _ (c .before .before .before .before .before .before .pre .0) .1 in
+    rw (c .before .cell .ensures, wide .ensures .0)
+    (gather-goes-on _ _ _ _ _ (loop .inv) good (c .before .before .before .loop-test .taken) (room (c .before)))
 
 returns : tie.Need-returns Inv-loop μ-loop
 returns c =
-    record {
-      few = c .before .loop .inv .walked .few;
-      room = c .before .loop .inv .room;
-      roles = gather-ends _ _ _
-          _ _ (c .before .loop .inv) (c .loop-test .left);
-    }
+    let gathered = c .before .loop .inv in
+    let roles = gather-ends _ _ _ _ _ gathered (c .loop-test .left) in
+    record { few = gathered .walked .few; room = gathered .room; roles = roles }
 
 pub chain-spec : {M : Type 1} → statement M
 chain-spec =

@@ -1,6 +1,6 @@
 -- `table::ranges::is_name` meets its contract: by that of `within`. Assumes nothing.
 use borrow.Author.Needs.{needs}
-use Rattle.table.specs.Checks.{isName, within}
+use Rattle.table.specs.Checks.{isName}
 use Rattle.table.proofs.ranges.is_name.Statement.{statement}
 use Rattle.table.proofs.ranges.is_name.Tie as tie
 

@@ -1,6 +1,6 @@
 -- `table::ranges::is_principal` meets its contract: by that of `within`. Assumes nothing.
 use borrow.Author.Needs.{needs}
-use Rattle.table.specs.Checks.{isPrincipal, within}
+use Rattle.table.specs.Checks.{isPrincipal}
 use Rattle.table.proofs.ranges.is_principal.Statement.{statement}
 use Rattle.table.proofs.ranges.is_principal.Tie as tie
 

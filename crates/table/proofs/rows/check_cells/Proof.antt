@@ -1,13 +1,13 @@
--- `table::rows::check_cells` meets its contract: the loop has passed the records up to j, and stops at the first that fails. Assumes nothing.
-use mathlib.Core.Path.{_∙_, _≡_, ap, refl}
+-- `table::rows::check_cells` meets its contract: the loop has passed the records up to j, and stops at the first that
+-- fails. Assumes nothing.
+use mathlib.Core.Path.{_≡_, refl}
 use Prim.Native.Nat.{_-_, _≤_}
 use native.Mathlib.Omega.{arith}
 use borrow.Author.Needs.{needs}
-use denote.Ref.{now}
+use Rattle.table.proofs.Accepted.{cell-judged}
 use Rattle.table.proofs.Stages.{each-passes, each-stops, each-through}
 use Rattle.table.proofs.Tests.{failed, passed}
-use Rattle.table.specs.Checks.{cellOk, cellsOutcome, goodCell, tableTold, told}
-use Rattle.table.specs.Layout.{cell, cells}
+use Rattle.table.specs.Checks.{cellsOutcome, goodCell, tableTold, told}
 use Rattle.table.specs.Outcome.{demandEach}
 use Rattle.table.specs.Outcome.Outcome.{accepted}
 use Rattle.table.proofs.rows.check_cells.Statement.{statement}
@@ -42,34 +42,24 @@ cell-ok-requires : tie.Need-cell-ok-requires Inv-loop μ-loop
 cell-ok-requires c κs = search needs
 
 returns : tie.Need-returns Inv-loop μ-loop
-unfolding cellsOutcome goodCell tableTold told
+unfolding cellsOutcome tableTold told
 returns c =
-    let args = c .before .before .before .before .before .before .before .before .before .args in
     let loop = c .before .before .before .before .before .loop in
-    let cell = c .before .before .before .cell in
-    each-stops (goodCell (now (args .table))) 5 (loop .j) (cells (now (args .table))) (omega arith) (loop .inv .1)
-    (failed (c .before .cell-ok .ensures ∙ ap (cellOk _ _) (cell .ensures)) (c .if1 .taken))
+    let judged = cell-judged _ _ (c .before .cell-ok .ensures) (c .before .before .before .cell .ensures) in
+    each-stops _ 5 _ _ (omega arith) (loop .inv .1) (failed judged (c .if1 .taken))
 
 loop-less : tie.Need-loop-less Inv-loop μ-loop
 loop-less c = search needs
 
 loop-again : tie.Need-loop-again Inv-loop μ-loop
-unfolding cellsOutcome goodCell
 loop-again c =
-    let args = c .before .before .before .before .before .before .before .before .before .args in
     let loop = c .before .before .before .before .before .loop in
-    let cell = c .before .before .before .cell in (
-      omega arith,
-      each-passes (goodCell (now (args .table))) 5 _ (loop .inv .1) (passed
-          (c .before .cell-ok .ensures ∙ ap (cellOk _ _) (cell .ensures)) (c .if1 .left)),
-    )
+    let judged = cell-judged _ _ (c .before .cell-ok .ensures) (c .before .before .before .cell .ensures) in
+    (omega arith, each-passes _ 5 _ (loop .inv .1) (passed judged (c .if1 .left)))
 
 returns-2 : tie.Need-returns-2 Inv-loop μ-loop
-unfolding cellsOutcome goodCell tableTold
-returns-2 c =
-    let args = c .before .before .before .before .before .args in
-    each-through (goodCell (now (args .table))) 5 (c .before .loop .j) (cells (now (args .table))) (omega arith)
-    (c .before .loop .inv .1)
+unfolding cellsOutcome tableTold
+returns-2 c = each-through _ 5 _ _ (omega arith) (c .before .loop .inv .1)
 
 pub check-cells-spec : {M : Type 1} → statement M
 check-cells-spec =

@@ -1,13 +1,13 @@
--- `table::rows::check_credentials` meets its contract: the loop has passed the records up to i, and stops at the first that fails. Assumes nothing.
-use mathlib.Core.Path.{_∙_, _≡_, ap, refl}
+-- `table::rows::check_credentials` meets its contract: the loop has passed the records up to i, and stops at the first that
+-- fails. Assumes nothing.
+use mathlib.Core.Path.{_≡_, refl}
 use Prim.Native.Nat.{_-_, _≤_}
 use native.Mathlib.Omega.{arith}
 use borrow.Author.Needs.{needs}
-use denote.Ref.{now}
+use Rattle.table.proofs.Accepted.{credential-judged}
 use Rattle.table.proofs.Stages.{each-passes, each-stops, each-through}
 use Rattle.table.proofs.Tests.{failed, passed}
-use Rattle.table.specs.Checks.{credentialOk, credentialsOutcome, goodCredential, tableTold, told}
-use Rattle.table.specs.Layout.{credential, credentials}
+use Rattle.table.specs.Checks.{credentialsOutcome, goodCredential, tableTold, told}
 use Rattle.table.specs.Outcome.{demandEach}
 use Rattle.table.specs.Outcome.Outcome.{accepted}
 use Rattle.table.proofs.rows.check_credentials.Statement.{statement}
@@ -45,35 +45,24 @@ credential-ok-requires : tie.Need-credential-ok-requires Inv-loop μ-loop
 credential-ok-requires c κs = search needs
 
 returns : tie.Need-returns Inv-loop μ-loop
-unfolding credentialsOutcome goodCredential tableTold told
+unfolding credentialsOutcome tableTold told
 returns c =
-    let args = c .before .before .before .before .before .before .before .before .before .before .args in
     let loop = c .before .before .before .before .before .before .loop in
-    let credential = c .before .before .before .before .credential in
-    each-stops (goodCredential (now (args .table))) 4 (loop .i) (credentials (now (args .table))) (omega arith)
-    (loop .inv .1) (failed (c .before .credential-ok .ensures ∙ ap (credentialOk _ _) (credential .ensures))
-    (c .if1 .taken))
+    let judged = credential-judged _ _ (c .before .credential-ok .ensures) (c .before .before .before .before .credential .ensures) in
+    each-stops _ 4 _ _ (omega arith) (loop .inv .1) (failed judged (c .if1 .taken))
 
 loop-less : tie.Need-loop-less Inv-loop μ-loop
 loop-less c = search needs
 
 loop-again : tie.Need-loop-again Inv-loop μ-loop
-unfolding credentialsOutcome goodCredential
 loop-again c =
-    let args = c .before .before .before .before .before .before .before .before .before .before .args in
     let loop = c .before .before .before .before .before .before .loop in
-    let credential = c .before .before .before .before .credential in (
-      omega arith,
-      each-passes (goodCredential (now (args .table))) 4 _ (loop .inv .1) (passed
-          (c .before .credential-ok .ensures ∙ ap (credentialOk _ _) (credential .ensures)) (c .if1 .left)),
-    )
+    let judged = credential-judged _ _ (c .before .credential-ok .ensures) (c .before .before .before .before .credential .ensures) in
+    (omega arith, each-passes _ 4 _ (loop .inv .1) (passed judged (c .if1 .left)))
 
 returns-2 : tie.Need-returns-2 Inv-loop μ-loop
-unfolding credentialsOutcome goodCredential tableTold
-returns-2 c =
-    let args = c .before .before .before .before .before .args in
-    each-through (goodCredential (now (args .table))) 4 (c .before .loop .i) (credentials (now (args .table)))
-    (omega arith) (c .before .loop .inv .1)
+unfolding credentialsOutcome tableTold
+returns-2 c = each-through _ 4 _ _ (omega arith) (c .before .loop .inv .1)
 
 pub check-credentials-spec : {M : Type 1} → statement M
 check-credentials-spec =

@@ -1,13 +1,13 @@
--- `table::rows::check_edges` meets its contract: the loop has passed the records up to k, and stops at the first that fails. Assumes nothing.
-use mathlib.Core.Path.{_∙_, _≡_, ap, refl}
+-- `table::rows::check_edges` meets its contract: the loop has passed the records up to k, and stops at the first that
+-- fails. Assumes nothing.
+use mathlib.Core.Path.{_≡_, refl}
 use Prim.Native.Nat.{_-_, _≤_}
 use native.Mathlib.Omega.{arith}
 use borrow.Author.Needs.{needs}
-use denote.Ref.{now}
+use Rattle.table.proofs.Accepted.{edge-judged}
 use Rattle.table.proofs.Stages.{each-passes, each-stops, each-through}
 use Rattle.table.proofs.Tests.{failed, passed}
-use Rattle.table.specs.Checks.{edgeOk, edgesOutcome, goodEdge, tableTold, told}
-use Rattle.table.specs.Layout.{edge, edges}
+use Rattle.table.specs.Checks.{edgesOutcome, goodEdge, tableTold, told}
 use Rattle.table.specs.Outcome.{demandEach}
 use Rattle.table.specs.Outcome.Outcome.{accepted}
 use Rattle.table.proofs.rows.check_edges.Statement.{statement}
@@ -42,34 +42,24 @@ edge-ok-requires : tie.Need-edge-ok-requires Inv-loop μ-loop
 edge-ok-requires c κs = search needs
 
 returns : tie.Need-returns Inv-loop μ-loop
-unfolding edgesOutcome goodEdge tableTold told
+unfolding edgesOutcome tableTold told
 returns c =
-    let args = c .before .before .before .before .before .before .before .before .before .args in
     let loop = c .before .before .before .before .before .loop in
-    let edge = c .before .before .before .edge in
-    each-stops (goodEdge (now (args .table))) 7 (loop .k) (edges (now (args .table))) (omega arith) (loop .inv .1)
-    (failed (c .before .edge-ok .ensures ∙ ap (edgeOk _) (edge .ensures)) (c .if1 .taken))
+    let judged = edge-judged _ _ (c .before .edge-ok .ensures) (c .before .before .before .edge .ensures) in
+    each-stops _ 7 _ _ (omega arith) (loop .inv .1) (failed judged (c .if1 .taken))
 
 loop-less : tie.Need-loop-less Inv-loop μ-loop
 loop-less c = search needs
 
 loop-again : tie.Need-loop-again Inv-loop μ-loop
-unfolding edgesOutcome goodEdge
 loop-again c =
-    let args = c .before .before .before .before .before .before .before .before .before .args in
     let loop = c .before .before .before .before .before .loop in
-    let edge = c .before .before .before .edge in (
-      omega arith,
-      each-passes (goodEdge (now (args .table))) 7 _ (loop .inv .1) (passed
-          (c .before .edge-ok .ensures ∙ ap (edgeOk _) (edge .ensures)) (c .if1 .left)),
-    )
+    let judged = edge-judged _ _ (c .before .edge-ok .ensures) (c .before .before .before .edge .ensures) in
+    (omega arith, each-passes _ 7 _ (loop .inv .1) (passed judged (c .if1 .left)))
 
 returns-2 : tie.Need-returns-2 Inv-loop μ-loop
-unfolding edgesOutcome goodEdge tableTold
-returns-2 c =
-    let args = c .before .before .before .before .before .args in
-    each-through (goodEdge (now (args .table))) 7 (c .before .loop .k) (edges (now (args .table))) (omega arith)
-    (c .before .loop .inv .1)
+unfolding edgesOutcome tableTold
+returns-2 c = each-through _ 7 _ _ (omega arith) (c .before .loop .inv .1)
 
 pub check-edges-spec : {M : Type 1} → statement M
 check-edges-spec =
