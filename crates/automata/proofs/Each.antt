@@ -8,7 +8,7 @@ use native.Mathlib.Omega.{arith}
 use native.Mathlib.Nat.{eq-or-lt-of-le}
 use lib.ListN.{length, getD, length-append, List·getD-append}
 use lib.Seq.{getD-at, ext-getD}
-use Rattle.automata.specs.Automata.{each}
+use Rattle.automata.specs.Together.{each}
 
 module _ (f : ℕ → ℕ) where
   pub each-length : (n : ℕ) → length (each f n) ≡ n

@@ -12,7 +12,8 @@ use Rattle.table.specs.Layout.{sameRole}
 use Rattle.table.specs.declared.Role.{Role}
 use Rattle.table.specs.declared.Edge.{Edge}
 use Rattle.automata.specs.Sets.{inSet}
-use Rattle.automata.specs.Automata.{leads, matches, withEdge}
+use Rattle.automata.specs.Automata.{leads, matches}
+use Rattle.automata.specs.Together.{withEdge}
 use Rattle.automata.specs.declared.StateSets.{StateSets}
 use Rattle.automata.proofs.Members.{one-bit}
 

@@ -22,8 +22,10 @@ use Rattle.table.specs.declared.Role.{Role}
 use Rattle.table.specs.declared.Automaton.{Automaton}
 use Rattle.table.specs.declared.Edge.{Edge}
 use Rattle.automata.specs.Sets.{meets, setOf}
-use Rattle.automata.specs.Automata.{acceptingSet, acceptsFrom, leads, moved, movedBy, movedSets, withEdge}
-use Rattle.automata.specs.Automata.{starting, startingSets, together}
+use Rattle.automata.specs.Automata.{acceptsFrom, leads, moved, movedBy}
+use Rattle.automata.specs.Together.{acceptingSet, movedSets, withEdge}
+use Rattle.automata.specs.Automata.{starting}
+use Rattle.automata.specs.Together.{startingSets, together}
 use Rattle.automata.specs.declared.StateSets.{StateSets}
 use Rattle.automata.proofs.Each.{each-ext}
 use Rattle.automata.proofs.Members.{ltb-next, one-bit}

@@ -1,19 +1,16 @@
 -- Document 01, "Derivations and words": how an automaton reads a word. It starts in its starting set; on each role its set
 -- becomes all `to` states of matching edges of its own from states in it; it accepts if an accepting state is in the set at the end.
-use Prim.Native.Nat.{ℕ, zero, suc, _-_, _^_}
-use mathlib.Core.List.{List, [], _∷_, _++_}
+use Prim.Native.Nat.{ℕ, zero, suc, _^_}
+use mathlib.Core.List.{List, [], _∷_}
 use mathlib.Core.Bool.{Bool, true, false, not}
-use lib.ListN.{getD, set}
 use lib.Bits.{bitOr}
 use lib.Dec.{eqb}
 use Rattle.table.specs.Logic.{_and_, pick}
-use Rattle.table.specs.Limits.{mostAutomata}
 use Rattle.table.specs.Layout.{automata, automaton, edge, edges, sameRole}
 use Rattle.table.specs.Checks.{within}
 use Rattle.table.specs.declared.Role.{Role}
 use Rattle.table.specs.declared.Edge.{Edge}
-use Rattle.automata.specs.Sets.{inSet, meets, setOf}
-use Rattle.automata.specs.declared.StateSets.{StateSets}
+use Rattle.automata.specs.Sets.{inSet, meets}
 
 -- label 1 matches exactly that role, label 2 every role, label 3 every role but that one
 unfoldable pub matches : Edge → Role → Bool
@@ -35,14 +32,6 @@ movedBy t k r x (suc n) =
 unfoldable pub moved : List ℕ → ℕ → Role → ℕ → ℕ
 moved t k r x = movedBy t k r x (edges t)
 
--- the sets `next` with the edge's `to` state, where the edge leads its automaton on from the sets `from`
-unfoldable pub withEdge : StateSets → Role → Edge → StateSets → StateSets
-withEdge from r e next =
-    let at = e .automaton - 1 in
-    pick (leads (e .automaton) r (getD (from .sets) at 0) e)
-    (record { sets = set (next .sets) at (bitOr (getD (next .sets) at 0) (2 ^ (e .to))) })
-    next
-
 -- along a word, role by role
 unfoldable pub run : List ℕ → ℕ → ℕ → List Role → ℕ
 run t k x [] = x
@@ -57,26 +46,3 @@ acceptsFrom t k x = meets x (automaton t k .accepting)
 
 unfoldable pub accepts : List ℕ → ℕ → List Role → Bool
 accepts t k word = acceptsFrom t k (run t k (starting t k) word)
-
--- f 1, f 2, up to f n
-unfoldable pub each : (ℕ → ℕ) → ℕ → List ℕ
-each f zero = []
-each f (suc n) = each f n ++ (f (suc n) ∷ [])
-
--- the state sets of all eight automata travel down a branch together
-unfoldable pub together : (ℕ → ℕ) → StateSets
-together f = record { sets = each f mostAutomata }
-
--- automaton k's set among them
-abbrev pub setFor : StateSets → ℕ → ℕ
-setFor s k = getD (s .sets) (k - 1) 0
-
-unfoldable pub startingSets : List ℕ → StateSets
-startingSets t = together (starting t)
-
-unfoldable pub movedSets : List ℕ → Role → StateSets → StateSets
-movedSets t r s = together (λ k. moved t k r (setFor s k))
-
--- the automata that accept where their sets are: automaton k counts 2^(k-1)
-unfoldable pub acceptingSet : List ℕ → StateSets → ℕ
-acceptingSet t s = setOf (λ k. acceptsFrom t (suc k) (getD (s .sets) k 0)) (automata t)

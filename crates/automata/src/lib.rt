@@ -13,7 +13,7 @@ ghost use Rattle.table.specs.Limits.{lastState, mostAutomata};
 ghost use Rattle.table.specs.Layout.{Numbered};
 ghost use Rattle.table.specs.Checks.{WellFormed};
 ghost use Rattle.automata.specs.Automata;
-ghost use Rattle.automata.specs.Automata.{acceptingSet, movedSets, startingSets, withEdge};
+ghost use Rattle.automata.specs.Together.{acceptingSet, movedSets, startingSets, withEdge};
 
 // As many as a table can have automata.
 pub const AUTOMATA: usize = 8;

@@ -22,7 +22,7 @@ use Rattle.table.proofs.Stages.{demand-true, then-second}
 use Rattle.table.proofs.WellFormed.{wf-credential, wf-sized}
 use borrow.Author.Tests.{leb-true, ne-eqb}
 use Rattle.automata.specs.Sets.{inSet}
-use Rattle.automata.specs.Automata.{startingSets}
+use Rattle.automata.specs.Together.{startingSets}
 use Rattle.automata.specs.declared.StateSets.{StateSets}
 use Rattle.derivation.specs.Rules.{goalOf}
 use Rattle.derivation.specs.Forest.{Forest, countFrom, usedFrom, usedSet}

@@ -19,7 +19,8 @@ use Rattle.table.specs.declared.Role.{Role}
 use Rattle.table.proofs.WellFormed.{wf-sized}
 use Rattle.table.proofs.Tests.{and-true, and-assoc}
 use Rattle.automata.specs.Sets.{inSet, setOf}
-use Rattle.automata.specs.Automata.{accepts, acceptingSet, each, moved, movedSets, run, starting, startingSets, together}
+use Rattle.automata.specs.Automata.{accepts, moved, run, starting}
+use Rattle.automata.specs.Together.{acceptingSet, each, movedSets, startingSets, together}
 use Rattle.automata.specs.declared.StateSets.{StateSets}
 use Rattle.automata.proofs.Each.{each-length, each-at, each-ext}
 use Rattle.automata.proofs.Members.{inSet-and, setOf-members}

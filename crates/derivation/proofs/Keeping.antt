@@ -13,7 +13,7 @@ use Rattle.table.specs.Logic.{pick}
 use Rattle.table.specs.Layout.{credential}
 use Rattle.table.specs.declared.Goal.{Goal}
 use Rattle.table.proofs.Tests.{false-true}
-use Rattle.automata.specs.Automata.{acceptingSet, movedSets}
+use Rattle.automata.specs.Together.{acceptingSet, movedSets}
 use Rattle.automata.specs.declared.StateSets.{StateSets}
 use Rattle.derivation.specs.Rules.{fresh, premises}
 use Rattle.derivation.specs.Forest.{Forest, countFrom, usedFrom}

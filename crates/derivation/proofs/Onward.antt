@@ -12,7 +12,7 @@ use Rattle.table.specs.Layout.{Numbered}
 use Rattle.table.specs.Checks.{WellFormed}
 use Rattle.table.specs.declared.Goal.{Goal}
 use Rattle.table.proofs.WellFormed.{wf-sized}
-use Rattle.automata.specs.Automata.{movedSets}
+use Rattle.automata.specs.Together.{movedSets}
 use Rattle.automata.specs.declared.StateSets.{StateSets}
 use Rattle.derivation.specs.Reading.{entry}
 use Rattle.derivation.specs.Reading.Entry.{ask}

@@ -11,7 +11,7 @@ use Rattle.table.specs.Logic.{_and_, _or_, pick}
 use Rattle.table.specs.Layout.{credential, credentials}
 use Rattle.table.specs.declared.Goal.{Goal}
 use Rattle.automata.specs.Sets.{inSet}
-use Rattle.automata.specs.Automata.{acceptingSet, movedSets}
+use Rattle.automata.specs.Together.{acceptingSet, movedSets}
 use Rattle.automata.specs.declared.StateSets.{StateSets}
 use Rattle.derivation.specs.Forest.{Forest, countFrom, usedFrom}
 use Rattle.derivation.specs.Forest.Forest.{end, node}

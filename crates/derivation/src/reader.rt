@@ -15,7 +15,7 @@ ghost use Rattle.table.specs.Logic.{pick};
 ghost use Rattle.table.specs.Limits.{mostCredentials, mostDepth, mostParts};
 ghost use Rattle.table.specs.Layout.{Numbered};
 ghost use Rattle.table.specs.Checks.{WellFormed};
-ghost use Rattle.automata.specs.Automata.{acceptingSet};
+ghost use Rattle.automata.specs.Together.{acceptingSet};
 ghost use Rattle.derivation.specs.Reading.{entry};
 ghost use Rattle.derivation.specs.Held.{Halted, Room, above, may, stepped};
 ghost use Rattle.derivation.specs.Tally.{ReadOn};

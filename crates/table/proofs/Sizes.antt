@@ -7,7 +7,8 @@ use native.Mathlib.Omega.{arith}
 use lib.ListN.{length}
 use borrow.Author.Tests.{leb-true, eqb-true}
 use Rattle.table.specs.Outcome.Outcome.{accepted}
-use Rattle.table.specs.Layout.{Counted, Numbered, Sized, credentials, cells, automata, edges}
+use Rattle.table.specs.Layout.{Numbered, credentials, cells, automata, edges}
+use Rattle.table.specs.Holding.{Counted, Sized}
 use Rattle.table.specs.Layout.{cellsBase, automataBase, edgesBase}
 use Rattle.table.specs.Layout.{headSize, credentialSize, cellSize, automatonSize, edgeSize}
 use Rattle.table.specs.Checks.{countsOk, headOutcome}

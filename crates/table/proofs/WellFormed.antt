@@ -10,7 +10,8 @@ use lib.ListN.{length}
 use Rattle.table.specs.Outcome.{_andThen_}
 use Rattle.table.specs.Outcome.Outcome.{accepted}
 use Rattle.table.specs.Limits.{leastParts, mostParts}
-use Rattle.table.specs.Layout.{Numbered, Sized, automata, cell, cells, cellsFrom, chain, credential, credentials, edge, edges}
+use Rattle.table.specs.Layout.{Numbered, automata, cell, cells, cellsFrom, chain, credential, credentials, edge, edges}
+use Rattle.table.specs.Holding.{Sized}
 use Rattle.table.specs.Checks.{Valid, WellFormed, chainOk, goodChain, goodEdge, queryOutcome, requestOutcome, tableOutcome}
 use Rattle.table.specs.Checks.{headOutcome, credentialsOutcome, cellsOutcome, chainsOutcome, edgesOutcome}
 use Rattle.table.proofs.Stages.{then-first, then-second, each-ok, each-value}

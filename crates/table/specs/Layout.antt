@@ -1,19 +1,17 @@
 -- Document 01, "The table": the head's four counts, then the records of credentials, part cells, automata and edges, each
 -- numbered from 1. Sizes and bases stand here and nowhere else; all other definitions go by the records.
 use Prim.Native.Nat.{ℕ, zero, suc, _+_, _-_, _*_, _≤_}
-use mathlib.Core.Path.{_≡_}
 use mathlib.Core.List.{List, [], _∷_, map}
 use mathlib.Core.Bool.{Bool}
-use lib.ListN.{length, getD, take}
+use lib.ListN.{getD}
 use lib.Dec.{eqb}
 use Rattle.table.specs.Logic.{_and_, pick}
-use Rattle.table.specs.Limits.{mostCredentials, mostCells, mostAutomata, mostEdges, mostParts}
+use Rattle.table.specs.Limits.{mostParts}
 use Rattle.table.specs.declared.Principal.{Principal}
 use Rattle.table.specs.declared.Name.{Name}
 use Rattle.table.specs.declared.Role.{Role}
 use Rattle.table.specs.declared.Credential.{Credential}
 use Rattle.table.specs.declared.Cell.{Cell}
-use Rattle.table.specs.declared.Chain.{Chain}
 use Rattle.table.specs.declared.Automaton.{Automaton}
 use Rattle.table.specs.declared.Edge.{Edge}
 
@@ -132,25 +130,6 @@ chain t j = cellsFrom t (suc mostParts) j
 -- the roles of its parts, in chain order
 unfoldable pub parts : List ℕ → ℕ → List Role
 parts t j = map (λ (k : ℕ). cell t k .role) (chain t j)
-
--- a chain held in an array: the first `len` of its four roles are the parts
-pub record Holds (t : List ℕ) (first : ℕ) (held : Chain) : Type 0 where
-  pub few : held .len ≤ mostParts
-  pub room : length (held .roles) ≡ mostParts
-  pub roles : take (held .len) (held .roles) ≡ parts t first
-
--- the head is there, with each count inside its limit
-pub record Counted (t : List ℕ) : Type 0 where
-  pub head : headSize ≤ length t
-  pub fewCredentials : credentials t ≤ mostCredentials
-  pub fewCells : cells t ≤ mostCells
-  pub fewAutomata : automata t ≤ mostAutomata
-  pub fewEdges : edges t ≤ mostEdges
-
--- and the length is exactly what the head says, so that every record is there
-pub record Sized (t : List ℕ) : Type 0 where
-  pub counted : Counted t
-  pub exact : length t ≡ tableLength t
 
 -- i is the number of one of n records
 pub record Numbered (n i : ℕ) : Type 0 where

@@ -2,4 +2,5 @@ pub mod Logic
 pub mod Outcome
 pub mod Limits
 pub mod Layout
+pub mod Holding
 pub mod Checks

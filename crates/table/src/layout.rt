@@ -15,7 +15,8 @@ ghost use mathlib.Core.Bool.{true};
 ghost use lib.ListN.{length};
 ghost use Rattle.table.specs.Checks.{WellFormed, chainOk};
 ghost use Rattle.table.specs.Layout;
-ghost use Rattle.table.specs.Layout.{Counted, Holds, Numbered, Sized, automata, automatonSize, cellSize, cells, credentialSize, credentials, edgeSize, edges};
+ghost use Rattle.table.specs.Layout.{Numbered, automata, automatonSize, cellSize, cells, credentialSize, credentials, edgeSize, edges};
+ghost use Rattle.table.specs.Holding.{Counted, Holds, Sized};
 
 pub const MOST_CREDENTIALS: Number = 20;
 

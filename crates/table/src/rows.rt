@@ -16,7 +16,8 @@ use crate::ranges;
 ghost use mathlib.Core.Path.{_≡_};
 ghost use Prim.Native.Nat.{_≤_};
 ghost use lib.ListN.{length};
-ghost use Rattle.table.specs.Layout.{Sized, headSize};
+ghost use Rattle.table.specs.Layout.{headSize};
+ghost use Rattle.table.specs.Holding.{Sized};
 ghost use Rattle.table.specs.Checks.{countsOk, tableTold, headOutcome, credentialsOutcome, cellsOutcome, chainsOutcome, edgesOutcome};
 ghost use Rattle.table.specs.Outcome.{Outcome};
 

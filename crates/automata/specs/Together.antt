@@ -1,0 +1,45 @@
+-- Document 01, "Derivations and words": the state sets of all eight automata travel down a branch together. Each is moved as
+-- specs/Automata.antt says of one automaton.
+use Prim.Native.Nat.{ℕ, zero, suc, _-_, _^_}
+use mathlib.Core.List.{List, [], _∷_, _++_}
+use lib.ListN.{getD, set}
+use lib.Bits.{bitOr}
+use Rattle.table.specs.Logic.{pick}
+use Rattle.table.specs.Limits.{mostAutomata}
+use Rattle.table.specs.Layout.{automata}
+use Rattle.table.specs.declared.Role.{Role}
+use Rattle.table.specs.declared.Edge.{Edge}
+use Rattle.automata.specs.Sets.{setOf}
+use Rattle.automata.specs.Automata.{acceptsFrom, leads, moved, starting}
+use Rattle.automata.specs.declared.StateSets.{StateSets}
+
+-- f 1, f 2, up to f n
+unfoldable pub each : (ℕ → ℕ) → ℕ → List ℕ
+each f zero = []
+each f (suc n) = each f n ++ (f (suc n) ∷ [])
+
+-- the state sets of all eight automata travel down a branch together
+unfoldable pub together : (ℕ → ℕ) → StateSets
+together f = record { sets = each f mostAutomata }
+
+-- automaton k's set among them
+abbrev pub setFor : StateSets → ℕ → ℕ
+setFor s k = getD (s .sets) (k - 1) 0
+
+unfoldable pub startingSets : List ℕ → StateSets
+startingSets t = together (starting t)
+
+unfoldable pub movedSets : List ℕ → Role → StateSets → StateSets
+movedSets t r s = together (λ k. moved t k r (setFor s k))
+
+-- the automata that accept where their sets are: automaton k counts 2^(k-1)
+unfoldable pub acceptingSet : List ℕ → StateSets → ℕ
+acceptingSet t s = setOf (λ k. acceptsFrom t (suc k) (getD (s .sets) k 0)) (automata t)
+
+-- the sets `next` with the edge's `to` state, where the edge leads its automaton on from the sets `from`
+unfoldable pub withEdge : StateSets → Role → Edge → StateSets → StateSets
+withEdge from r e next =
+    let at = e .automaton - 1 in
+    pick (leads (e .automaton) r (getD (from .sets) at 0) e)
+    (record { sets = set (next .sets) at (bitOr (getD (next .sets) at 0) (2 ^ (e .to))) })
+    next

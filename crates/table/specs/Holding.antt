@@ -1,0 +1,27 @@
+-- What the accessors of a table ask and promise: that the head and every record are there, and how a chain is held in an array.
+use Prim.Native.Nat.{ℕ, _≤_}
+use mathlib.Core.Path.{_≡_}
+use mathlib.Core.List.{List}
+use lib.ListN.{length, take}
+use Rattle.table.specs.Limits.{mostCredentials, mostCells, mostAutomata, mostEdges, mostParts}
+use Rattle.table.specs.Layout.{automata, cells, credentials, edges, headSize, parts, tableLength}
+use Rattle.table.specs.declared.Chain.{Chain}
+
+-- a chain held in an array: the first `len` of its four roles are the parts
+pub record Holds (t : List ℕ) (first : ℕ) (held : Chain) : Type 0 where
+  pub few : held .len ≤ mostParts
+  pub room : length (held .roles) ≡ mostParts
+  pub roles : take (held .len) (held .roles) ≡ parts t first
+
+-- the head is there, with each count inside its limit
+pub record Counted (t : List ℕ) : Type 0 where
+  pub head : headSize ≤ length t
+  pub fewCredentials : credentials t ≤ mostCredentials
+  pub fewCells : cells t ≤ mostCells
+  pub fewAutomata : automata t ≤ mostAutomata
+  pub fewEdges : edges t ≤ mostEdges
+
+-- and the length is exactly what the head says, so that every record is there
+pub record Sized (t : List ℕ) : Type 0 where
+  pub counted : Counted t
+  pub exact : length t ≡ tableLength t
