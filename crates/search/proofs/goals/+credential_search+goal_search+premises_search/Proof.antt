@@ -16,7 +16,7 @@ use mathlib.Core.Bool.{false, true}
 use mathlib.Core.Path.{_∙_, _≡_, refl, sym}
 use native.Mathlib.Omega.{arith}
 use Prim.Native.Nat.{ℕ, _<_}
-use borrow.Fn.Kinds.{In}
+use borrow.Fn.Kinds.{In, Out}
 use borrow.Fn.PlainCycle.{Measures, is, falls, and}
 use Rattle.search.proofs.goals.credential_search.Reads as credential-search
 use Rattle.search.proofs.goals.credential_search.Kinds as credential-search-kinds
@@ -104,39 +104,28 @@ goal-search-claims t = (is-fresh-reads.Asked, is-fresh-reads.Learnt, moved-reads
 abbrev premises-search-claims : ℕ → premises-search-lts.Claims
 premises-search-claims t = (accepting-reads.Asked, accepting-reads.Learnt, is-asked-before-reads.Asked, is-asked-before-reads.Learnt, goal-search-below t, goal-search.Post)
 
-credential-search-next-middle-requires : (t : ℕ) → credential-search-lts.Need-next-middle-requires (credential-search-claims t) (credential-search-at t)
-    credential-search.Post
-    credential-search-Inv-loop
-    credential-search-μ-loop
+-- what `credential_search` needs, whatever its measure is
+abbrev credential-search-needs : (credential-search-lts.Claims → In 1 credential-search-kinds.ps → Out 1 credential-search-kinds.ps credential-search-kinds.r
+    → credential-search-lts.InvT-loop → credential-search-lts.MeasureT-loop → Type 0) → Type 0
+credential-search-needs need = (t : ℕ) → need (credential-search-claims t) (credential-search-at t) credential-search.Post credential-search-Inv-loop credential-search-μ-loop
+
+credential-search-next-middle-requires : credential-search-needs credential-search-lts.Need-next-middle-requires
 credential-search-next-middle-requires t c κs = ((c .before .pre .1 .0), (c .before .pre .1 .1 .1, omega arith))
 
-credential-search-loop-holds : (t : ℕ) → credential-search-lts.Need-loop-holds (credential-search-claims t) (credential-search-at t)
-    credential-search.Post
-    credential-search-Inv-loop
-    credential-search-μ-loop
+credential-search-loop-holds : credential-search-needs credential-search-lts.Need-loop-holds
 credential-search-loop-holds t c = middle-starts _ _ _ _ _ _ _ (c .next-middle .ensures)
 
-credential-search-premises-requires : (t : ℕ) → credential-search-lts.Need-premises-requires (credential-search-claims t) (credential-search-at t)
-    credential-search.Post
-    credential-search-Inv-loop
-    credential-search-μ-loop
+credential-search-premises-requires : credential-search-needs credential-search-lts.Need-premises-requires
 credential-search-premises-requires t c κs =
     let pre = c .before .before .before .before .pre in
     (pre .1 .0)
 
-credential-search-premises-search-requires :
-    (t : ℕ) → credential-search-lts.Need-premises-search-requires (credential-search-claims t) (credential-search-at t)
-    credential-search.Post
-    credential-search-Inv-loop
-    credential-search-μ-loop
+credential-search-premises-search-requires : credential-search-needs credential-search-lts.Need-premises-search-requires
 credential-search-premises-search-requires t c κs =
     let pre = c .before .before .before .before .before .before .pre in
     (omega (arith, pre .0), ((pre .1 .0), (pre .1 .1 .0, c .before .premises .ensures .0)))
 
-credential-search-returns : (t : ℕ) → credential-search-lts.Need-returns (credential-search-claims t) (credential-search-at t)
-    credential-search.Post
-    credential-search-Inv-loop
-    credential-search-μ-loop
+credential-search-returns : credential-search-needs credential-search-lts.Need-returns
 credential-search-returns t c =
     let loop = c .before .before .before .before .before .loop in
     let loop-test = c .before .before .before .before .loop-test in
@@ -145,34 +134,21 @@ credential-search-returns t c =
     middle-found _ _ _ _ _ _ _ (loop .inv) (loop-test .taken) (proved-given _ _ _ (asked .ensures .1) (if1 .taken)
     (sym (c .if2 .taken) ∙ c .before .premises-search .ensures))
 
-credential-search-add-next-middle : (t : ℕ) → credential-search-lts.Need-add-next-middle (credential-search-claims t) (credential-search-at t)
-    credential-search.Post
-    credential-search-Inv-loop
-    credential-search-μ-loop
+credential-search-add-next-middle : credential-search-needs credential-search-lts.Need-add-next-middle
 credential-search-add-next-middle t c = omega arith
 
-credential-search-next-middle-requires-2 :
-    (t : ℕ) → credential-search-lts.Need-next-middle-requires-2 (credential-search-claims t) (credential-search-at t)
-    credential-search.Post
-    credential-search-Inv-loop
-    credential-search-μ-loop
+credential-search-next-middle-requires-2 : credential-search-needs credential-search-lts.Need-next-middle-requires-2
 credential-search-next-middle-requires-2 t c κs =
     let pre = c .before .before .before .before .before .before .pre in
     let loop-test = c .before .before .loop-test in
     ((pre .1 .0), (pre .1 .1 .1, omega (arith, loop-test .taken)))
 
-credential-search-loop-less : (t : ℕ) → credential-search-lts.Need-loop-less (credential-search-claims t) (credential-search-at t)
-    credential-search.Post
-    credential-search-Inv-loop
-    credential-search-μ-loop
+credential-search-loop-less : credential-search-needs credential-search-lts.Need-loop-less
 credential-search-loop-less t c =
     let loop-test = c .before .before .before .loop-test in
     omega (arith, c .next-middle2 .ensures .later, loop-test .taken)
 
-credential-search-loop-again : (t : ℕ) → credential-search-lts.Need-loop-again (credential-search-claims t) (credential-search-at t)
-    credential-search.Post
-    credential-search-Inv-loop
-    credential-search-μ-loop
+credential-search-loop-again : credential-search-needs credential-search-lts.Need-loop-again
 credential-search-loop-again t c =
     let loop = c .before .before .before .before .loop in
     let asked = c .before .before .premises in
@@ -180,10 +156,7 @@ credential-search-loop-again t c =
     (sym (way .2 .left) ∙ way .1 .ensures)) (λ way. proved-none _ _ _ (asked .ensures .1) (way .left)) (c .before .if1 .came))
     (c .next-middle2 .ensures)
 
-credential-search-returns-2 : (t : ℕ) → credential-search-lts.Need-returns-2 (credential-search-claims t) (credential-search-at t)
-    credential-search.Post
-    credential-search-Inv-loop
-    credential-search-μ-loop
+credential-search-returns-2 : credential-search-needs credential-search-lts.Need-returns-2
 credential-search-returns-2 t c = middle-over _ _ _ _ _ _ _ (c .before .loop .inv) (c .loop-test .left)
 
 abbrev goal-search-Inv-loop : goal-search-lts.InvT-loop
@@ -194,61 +167,66 @@ goal-search-Inv-loop table terms goal levels below deeper n i₀ i =
 abbrev goal-search-μ-loop : goal-search-lts.MeasureT-loop
 goal-search-μ-loop table terms goal levels below deeper n i₀ i = n - i
 
-goal-search-returns : (t : ℕ) → goal-search-lts.Need-returns (goal-search-claims t) (goal-search-at t) goal-search.Post goal-search-Inv-loop goal-search-μ-loop
+-- what `goal_search` needs, whatever its measure is
+abbrev goal-search-needs : (goal-search-lts.Claims → In 1 goal-search-kinds.ps → Out 1 goal-search-kinds.ps goal-search-kinds.r
+    → goal-search-lts.InvT-loop → goal-search-lts.MeasureT-loop → Type 0) → Type 0
+goal-search-needs need = (t : ℕ) → need (goal-search-claims t) (goal-search-at t) goal-search.Post goal-search-Inv-loop goal-search-μ-loop
+
+goal-search-returns : goal-search-needs goal-search-lts.Need-returns
 goal-search-returns t c = level-none _ _ _ _ _ _ _ (c .if1 .taken)
 
-goal-search-is-fresh-requires : (t : ℕ) → goal-search-lts.Need-is-fresh-requires (goal-search-claims t) (goal-search-at t) goal-search.Post goal-search-Inv-loop goal-search-μ-loop
+goal-search-is-fresh-requires : goal-search-needs goal-search-lts.Need-is-fresh-requires
 goal-search-is-fresh-requires t c κs =
     let pre = c .before .before .pre in
     pre .1 .1 .0
 
-goal-search-returns-2 : (t : ℕ) → goal-search-lts.Need-returns-2 (goal-search-claims t) (goal-search-at t) goal-search.Post goal-search-Inv-loop goal-search-μ-loop
+goal-search-returns-2 : goal-search-needs goal-search-lts.Need-returns-2
 goal-search-returns-2 t c =
     let if1 = c .before .before .if1 in
     goal-again _ _ _ _ _ _ _ (if1 .left) (failed (c .before .is-fresh .ensures) (c .if2 .taken))
 
-goal-search-moved-requires : (t : ℕ) → goal-search-lts.Need-moved-requires (goal-search-claims t) (goal-search-at t) goal-search.Post goal-search-Inv-loop goal-search-μ-loop
+goal-search-moved-requires : goal-search-needs goal-search-lts.Need-moved-requires
 goal-search-moved-requires t c κs =
     let pre = c .before .before .before .before .pre in
     (pre .1 .0)
 
-goal-search-with-requires : (t : ℕ) → goal-search-lts.Need-with-requires (goal-search-claims t) (goal-search-at t) goal-search.Post goal-search-Inv-loop goal-search-μ-loop
+goal-search-with-requires : goal-search-needs goal-search-lts.Need-with-requires
 goal-search-with-requires t c κs =
     let pre = c .before .before .before .before .before .pre in
     let if1 = c .before .before .before .if1 in
     (pre .1 .1 .0, omega (arith, if1 .left, pre .1 .1 .1))
 
-goal-search-shared-slice-read-n : (t : ℕ) → goal-search-lts.Need-shared-slice-read-n (goal-search-claims t) (goal-search-at t) goal-search.Post goal-search-Inv-loop goal-search-μ-loop
+goal-search-shared-slice-read-n : goal-search-needs goal-search-lts.Need-shared-slice-read-n
 goal-search-shared-slice-read-n t c =
     let pre = c .before .before .before .before .before .before .before .pre in
     omega (arith, wf-sized _ (pre .1 .0) .counted .head)
 
-goal-search-loop-holds : (t : ℕ) → goal-search-lts.Need-loop-holds (goal-search-claims t) (goal-search-at t) goal-search.Post goal-search-Inv-loop goal-search-μ-loop
+goal-search-loop-holds : goal-search-needs goal-search-lts.Need-loop-holds
 unfolding anyBelow
 goal-search-loop-holds t c = (omega arith, refl)
 
-goal-search-add-may-use : (t : ℕ) → goal-search-lts.Need-add-may-use (goal-search-claims t) (goal-search-at t) goal-search.Post goal-search-Inv-loop goal-search-μ-loop
+goal-search-add-may-use : goal-search-needs goal-search-lts.Need-add-may-use
 goal-search-add-may-use t c =
     let pre = c .before .before .before .before .before .before .before .before .before .pre in
     omega (arith, wf-sized _ (pre .1 .0) .counted .fewCredentials, c .loop-test .taken)
 
-goal-search-may-use-requires : (t : ℕ) → goal-search-lts.Need-may-use-requires (goal-search-claims t) (goal-search-at t) goal-search.Post goal-search-Inv-loop goal-search-μ-loop
+goal-search-may-use-requires : goal-search-needs goal-search-lts.Need-may-use-requires
 goal-search-may-use-requires t c κs =
     let pre = c .before .before .before .before .before .before .before .before .before .pre in
     ((pre .1 .0), record { first = omega arith; last = omega (arith, c .loop-test .taken) })
 
-goal-search-add-credential-search : (t : ℕ) → goal-search-lts.Need-add-credential-search (goal-search-claims t) (goal-search-at t) goal-search.Post goal-search-Inv-loop goal-search-μ-loop
+goal-search-add-credential-search : goal-search-needs goal-search-lts.Need-add-credential-search
 goal-search-add-credential-search t c =
     let pre = c .before .before .before .before .before .before .before .before .before .before .before .pre in
     let loop-test = c .before .before .loop-test in
     omega (arith, wf-sized _ (pre .1 .0) .counted .fewCredentials, loop-test .taken)
 
-goal-search-sub-credential-search : (t : ℕ) → goal-search-lts.Need-sub-credential-search (goal-search-claims t) (goal-search-at t) goal-search.Post goal-search-Inv-loop goal-search-μ-loop
+goal-search-sub-credential-search : goal-search-needs goal-search-lts.Need-sub-credential-search
 goal-search-sub-credential-search t c =
     let if1 = c .before .before .before .before .before .before .before .before .before .if1 in
     omega (arith, if1 .left)
 
-goal-search-credential-search-requires : (t : ℕ) → goal-search-lts.Need-credential-search-requires (goal-search-claims t) (goal-search-at t) goal-search.Post goal-search-Inv-loop goal-search-μ-loop
+goal-search-credential-search-requires : goal-search-needs goal-search-lts.Need-credential-search-requires
 goal-search-credential-search-requires t c κs =
     let pre = c .before .before .before .before .before .before .before .before .before .before .before .pre in
     let if1 = c .before .before .before .before .before .before .before .before .before .if1 in
@@ -272,7 +250,7 @@ goal-search-credential-search-requires t c κs =
       ),
     )
 
-goal-search-returns-3 : (t : ℕ) → goal-search-lts.Need-returns-3 (goal-search-claims t) (goal-search-at t) goal-search.Post goal-search-Inv-loop goal-search-μ-loop
+goal-search-returns-3 : goal-search-needs goal-search-lts.Need-returns-3
 goal-search-returns-3 t c =
     let if1 = c .before .before .before .before .before .before .before .before .before .before .before .if1 in
     let is-fresh = c .before .before .before .before .before .before .before .before .before .before .is-fresh in
@@ -286,16 +264,16 @@ goal-search-returns-3 t c =
     (proves-here _ _ _ _ _ _ _ (loop-test .taken) (sym (may-use .ensures) ∙ if3 .taken) (sym (c .before .credential-search .ensures)
     ∙ c .if4 .taken))
 
-goal-search-add-i : (t : ℕ) → goal-search-lts.Need-add-i (goal-search-claims t) (goal-search-at t) goal-search.Post goal-search-Inv-loop goal-search-μ-loop
+goal-search-add-i : goal-search-needs goal-search-lts.Need-add-i
 goal-search-add-i t c =
     let pre = c .before .before .before .before .before .before .before .before .before .before .before .pre in
     let loop-test = c .before .before .loop-test in
     omega (arith, wf-sized _ (pre .1 .0) .counted .fewCredentials, loop-test .taken)
 
-goal-search-loop-less : (t : ℕ) → goal-search-lts.Need-loop-less (goal-search-claims t) (goal-search-at t) goal-search.Post goal-search-Inv-loop goal-search-μ-loop
+goal-search-loop-less : goal-search-needs goal-search-lts.Need-loop-less
 goal-search-loop-less t c = omega arith
 
-goal-search-loop-again : (t : ℕ) → goal-search-lts.Need-loop-again (goal-search-claims t) (goal-search-at t) goal-search.Post goal-search-Inv-loop goal-search-μ-loop
+goal-search-loop-again : goal-search-needs goal-search-lts.Need-loop-again
 goal-search-loop-again t c =
     let loop = c .before .before .before .loop in (
       omega arith,
@@ -304,7 +282,7 @@ goal-search-loop-again t c =
           ∙ way .left)) (c .if3 .came)),
     )
 
-goal-search-returns-4 : (t : ℕ) → goal-search-lts.Need-returns-4 (goal-search-claims t) (goal-search-at t) goal-search.Post goal-search-Inv-loop goal-search-μ-loop
+goal-search-returns-4 : goal-search-needs goal-search-lts.Need-returns-4
 goal-search-returns-4 t c =
     let if1 = c .before .before .before .before .before .before .before .if1 in
     let is-fresh = c .before .before .before .before .before .before .is-fresh in
@@ -322,43 +300,46 @@ premises-search-Inv-loop table terms levels states branch premises len i₀ i =
 abbrev premises-search-μ-loop : premises-search-lts.MeasureT-loop
 premises-search-μ-loop table terms levels states branch premises len i₀ i = len - i
 
-premises-search-accepting-requires : (t : ℕ) → premises-search-lts.Need-accepting-requires (premises-search-claims t) (premises-search-at t) premises-search.Post premises-search-Inv-loop premises-search-μ-loop
+-- what `premises_search` needs, whatever its measure is
+abbrev premises-search-needs : (premises-search-lts.Claims → In 1 premises-search-kinds.ps → Out 1 premises-search-kinds.ps premises-search-kinds.r
+    → premises-search-lts.InvT-loop → premises-search-lts.MeasureT-loop → Type 0) → Type 0
+premises-search-needs need = (t : ℕ) → need (premises-search-claims t) (premises-search-at t) premises-search.Post premises-search-Inv-loop premises-search-μ-loop
+
+premises-search-accepting-requires : premises-search-needs premises-search-lts.Need-accepting-requires
 premises-search-accepting-requires t c κs =
     let pre = c .before .before .pre in
     (pre .1 .0)
 
-premises-search-returns : (t : ℕ) → premises-search-lts.Need-returns (premises-search-claims t) (premises-search-at t) premises-search.Post premises-search-Inv-loop premises-search-μ-loop
+premises-search-returns : premises-search-needs premises-search-lts.Need-returns
 premises-search-returns t c = word-proved _ _ _ _ _ _ _ (c .accepting .ensures) (c .before .if1 .taken)
 
-premises-search-loop-holds : (t : ℕ) → premises-search-lts.Need-loop-holds (premises-search-claims t) (premises-search-at t) premises-search.Post premises-search-Inv-loop premises-search-μ-loop
+premises-search-loop-holds : premises-search-needs premises-search-lts.Need-loop-holds
 unfolding everyGoal
 premises-search-loop-holds t c = (omega arith, refl)
 
-premises-search-is-asked-before-requires :
-    (t : ℕ) → premises-search-lts.Need-is-asked-before-requires (premises-search-claims t) (premises-search-at t) premises-search.Post premises-search-Inv-loop premises-search-μ-loop
+premises-search-is-asked-before-requires : premises-search-needs premises-search-lts.Need-is-asked-before-requires
 premises-search-is-asked-before-requires t c κs =
     let pre = c .before .before .before .before .pre in
     (pre .1 .1 .1, c .loop-test .taken)
 
-premises-search-mul-goal-search : (t : ℕ) → premises-search-lts.Need-mul-goal-search (premises-search-claims t) (premises-search-at t) premises-search.Post premises-search-Inv-loop premises-search-μ-loop
+premises-search-mul-goal-search : premises-search-needs premises-search-lts.Need-mul-goal-search
 premises-search-mul-goal-search t c =
     let pre = c .before .before .before .before .before .before .pre in
     let loop-test = c .before .before .loop-test in
     omega (arith, pre .1 .1 .1 .fits, loop-test .taken)
 
-premises-search-element-copy-out-goal-search :
-    (t : ℕ) → premises-search-lts.Need-element-copy-out-goal-search (premises-search-claims t) (premises-search-at t) premises-search.Post premises-search-Inv-loop premises-search-μ-loop
+premises-search-element-copy-out-goal-search : premises-search-needs premises-search-lts.Need-element-copy-out-goal-search
 premises-search-element-copy-out-goal-search t c =
     let pre = c .before .before .before .before .before .before .pre in
     let loop-test = c .before .before .loop-test in
     omega (arith, pre .1 .1 .1 .fits, pre .1 .1 .1 .size, loop-test .taken)
 
-premises-search-goal-search-requires : (t : ℕ) → premises-search-lts.Need-goal-search-requires (premises-search-claims t) (premises-search-at t) premises-search.Post premises-search-Inv-loop premises-search-μ-loop
+premises-search-goal-search-requires : premises-search-needs premises-search-lts.Need-goal-search-requires
 premises-search-goal-search-requires t c κs =
     let pre = c .before .before .before .before .before .before .before .pre in
     (omega (arith, pre .0), ((pre .1 .0), pre .1 .1 .0))
 
-premises-search-returns-2 : (t : ℕ) → premises-search-lts.Need-returns-2 (premises-search-claims t) (premises-search-at t) premises-search.Post premises-search-Inv-loop premises-search-μ-loop
+premises-search-returns-2 : premises-search-needs premises-search-lts.Need-returns-2
 premises-search-returns-2 t c =
     let if1 = c .before .before .before .before .before .before .before .if1 in
     let pre = c .before .before .before .before .before .before .before .before .before .pre in
@@ -367,15 +348,15 @@ premises-search-returns-2 t c =
     (loop-test .taken) (omega (arith, pre .1 .1 .1 .fits, pre .1 .1 .1 .size)) (failed (c .before .goal-search .ensures)
     (c .if3 .taken)))
 
-premises-search-add-i : (t : ℕ) → premises-search-lts.Need-add-i (premises-search-claims t) (premises-search-at t) premises-search.Post premises-search-Inv-loop premises-search-μ-loop
+premises-search-add-i : premises-search-needs premises-search-lts.Need-add-i
 premises-search-add-i t c =
     let pre = c .before .before .before .before .before .before .pre in
     omega (arith, pre .1 .1 .1 .fits)
 
-premises-search-loop-less : (t : ℕ) → premises-search-lts.Need-loop-less (premises-search-claims t) (premises-search-at t) premises-search.Post premises-search-Inv-loop premises-search-μ-loop
+premises-search-loop-less : premises-search-needs premises-search-lts.Need-loop-less
 premises-search-loop-less t c = omega arith
 
-premises-search-loop-again : (t : ℕ) → premises-search-lts.Need-loop-again (premises-search-claims t) (premises-search-at t) premises-search.Post premises-search-Inv-loop premises-search-μ-loop
+premises-search-loop-again : premises-search-needs premises-search-lts.Need-loop-again
 premises-search-loop-again t c =
     let loop = c .before .before .before .loop in
     let args = c .before .before .before .before .before .before .args in
@@ -393,7 +374,7 @@ premises-search-loop-again t c =
           (loop .inv .1)) (c .if2 .came)),
     )
 
-premises-search-returns-3 : (t : ℕ) → premises-search-lts.Need-returns-3 (premises-search-claims t) (premises-search-at t) premises-search.Post premises-search-Inv-loop premises-search-μ-loop
+premises-search-returns-3 : premises-search-needs premises-search-lts.Need-returns-3
 premises-search-returns-3 t c =
     let if1 = c .before .before .if1 in
     let pre = c .before .before .before .before .pre in
