@@ -3,6 +3,7 @@ pub mod Within
 pub mod Ruling
 pub mod Naming
 pub mod Trying
+pub mod Middles
 pub mod Searching
 pub mod Admitting
 pub mod Bearing

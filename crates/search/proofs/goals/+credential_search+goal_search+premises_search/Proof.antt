@@ -3,16 +3,19 @@
 use Prim.Native.Nat.{_*_, _+_, _-_, _≤_}
 use Rattle.automata.specs.Automata.{acceptingSet}
 use Rattle.automata.specs.Sets.{part}
-use Rattle.search.proofs.Trying.{AtMiddle, any-all, asked-proved, every-more, every-not, goal-again, goal-decided, level-none, met-by, middle-found, middle-next, middle-over, middle-starts, proved-all, proved-given, proved-goals, proved-none, proves-here, proves-later, provesAt, word-proved}
+use Rattle.search.proofs.Middles.{AtMiddle, middle-found, middle-next, middle-over, middle-starts, proved-given, proved-none}
+use Rattle.search.proofs.Trying.{Entered, any-all, every-asked, every-more, goal-again, goal-decided, level-none, next-numbered, one-deeper, proved-all, proved-not, proves-here, provesAt, room-all, room-for, unproved-next, unused-next, word-proved}
 use Rattle.derivation.specs.Held.{above}
 use Rattle.derivation.specs.Rules.{goal, premises}
 use Rattle.search.specs.Search.{everyGoal, proves}
-use Rattle.table.proofs.Tests.{and-is, and-is-off, failed, passed}
+use Rattle.table.proofs.Tests.{failed, passed}
 use Rattle.table.proofs.WellFormed.{wf-sized}
 use Rattle.table.specs.Limits.{mostPrincipals}
 use Rattle.table.specs.Logic.{anyBelow}
 use lib.ListN.{length, take}
 use mathlib.Core.Bool.{false, true}
+use mathlib.Core.Logic.{⊎-elim}
+use denote.Ref.{now}
 use mathlib.Core.Path.{_∙_, _≡_, refl, sym}
 use native.Mathlib.Omega.{arith}
 use Prim.Native.Nat.{ℕ, _<_}
@@ -151,9 +154,10 @@ credential-search-loop-less t c =
 credential-search-loop-again : credential-search-needs credential-search-lts.Need-loop-again
 credential-search-loop-again t c =
     let loop = c .before .before .before .before .loop in
-    let asked = c .before .before .premises in
-    middle-next _ _ _ _ _ _ _ _ (loop .inv) (met-by (λ way. proved-given _ _ _ (asked .ensures .1) (way .0 .taken)
-    (sym (way .2 .left) ∙ way .1 .ensures)) (λ way. proved-none _ _ _ (asked .ensures .1) (way .left)) (c .before .if1 .came))
+    let asked = c .before .before .premises .ensures .1 in
+    middle-next _ _ _ _ _ _ _ (loop .inv) _
+    (⊎-elim (λ way. proved-given _ _ _ asked (way .0 .taken) (sym (way .2 .left) ∙ way .1 .ensures))
+    (λ way. proved-none _ _ _ asked (way .left)) (c .before .if1 .came))
     (c .next-middle2 .ensures)
 
 credential-search-returns-2 : credential-search-needs credential-search-lts.Need-returns-2
@@ -185,6 +189,16 @@ goal-search-returns-2 t c =
     let if1 = c .before .before .if1 in
     goal-again _ _ _ _ _ _ _ (if1 .left) (failed (c .before .is-fresh .ensures) (c .if2 .taken))
 
+-- behind the entry: a level is left, the goal is new, and branch and state sets are one step on
+goal-search-entered : (t : ℕ) (c : goal-search-lts.After-with (goal-search-claims t) (goal-search-at t) goal-search.Post goal-search-Inv-loop goal-search-μ-loop)
+    → let args = c .before .before .before .before .before .before .args in
+    Entered (now (args .table)) (args .levels) (above (args .branch)) (above (c .with .result)) (args .states) (c .before .moved .result) (args .goal)
+goal-search-entered t c =
+    let if1 = c .before .before .before .before .if1 in
+    let is-fresh = c .before .before .before .is-fresh in
+    let new = passed (is-fresh .ensures) (c .before .before .if2 .left) in
+    record { left = if1 .left; new = new; deeper = c .with .ensures .1 .1; moved = c .before .moved .ensures }
+
 goal-search-moved-requires : goal-search-needs goal-search-lts.Need-moved-requires
 goal-search-moved-requires t c κs =
     let pre = c .before .before .before .before .pre in
@@ -213,7 +227,7 @@ goal-search-add-may-use t c =
 goal-search-may-use-requires : goal-search-needs goal-search-lts.Need-may-use-requires
 goal-search-may-use-requires t c κs =
     let pre = c .before .before .before .before .before .before .before .before .before .pre in
-    ((pre .1 .0), record { first = omega arith; last = omega (arith, c .loop-test .taken) })
+    (pre .1 .0, next-numbered _ _ (c .loop-test .taken))
 
 goal-search-add-credential-search : goal-search-needs goal-search-lts.Need-add-credential-search
 goal-search-add-credential-search t c =
@@ -230,39 +244,18 @@ goal-search-credential-search-requires : goal-search-needs goal-search-lts.Need-
 goal-search-credential-search-requires t c κs =
     let pre = c .before .before .before .before .before .before .before .before .before .before .before .pre in
     let if1 = c .before .before .before .before .before .before .before .before .before .if1 in
-    let with = c .before .before .before .before .before .with in
-    let loop-test = c .before .before .loop-test in (
-      omega (arith, pre .0, if1 .left),
-      (
-        (pre .1 .0),
-        (
-          (
-            with .ensures .0,
-            omega (
-              arith,
-              with .ensures .1 .0,
-              if1 .left,
-              pre .1 .1 .1,
-            ),
-          ),
-          record { first = omega arith; last = omega (arith, loop-test .taken) },
-        ),
-      ),
-    )
+    let longer = c .before .before .before .before .before .with .ensures in
+    let fits = one-deeper _ _ _ (if1 .left) (longer .1 .0) (pre .1 .1 .1) in
+    let there = next-numbered _ _ (c .before .before .loop-test .taken) in
+    (omega (arith, pre .0, if1 .left), (pre .1 .0, ((longer .0, fits), there)))
 
 goal-search-returns-3 : goal-search-needs goal-search-lts.Need-returns-3
 goal-search-returns-3 t c =
-    let if1 = c .before .before .before .before .before .before .before .before .before .before .before .if1 in
-    let is-fresh = c .before .before .before .before .before .before .before .before .before .before .is-fresh in
-    let if2 = c .before .before .before .before .before .before .before .before .before .if2 in
-    let moved′ = c .before .before .before .before .before .before .before .before .moved in
-    let with = c .before .before .before .before .before .before .before .with in
     let loop-test = c .before .before .before .before .loop-test in
     let may-use = c .before .before .before .may-use in
     let if3 = c .before .before .if3 in
-    goal-decided _ _ _ _ _ _ _ _ _ (if1 .left) (passed (is-fresh .ensures) (if2 .left)) (moved′ .ensures) (with .ensures .1 .1)
-    (proves-here _ _ _ _ _ _ _ (loop-test .taken) (sym (may-use .ensures) ∙ if3 .taken) (sym (c .before .credential-search .ensures)
-    ∙ c .if4 .taken))
+    goal-decided _ _ _ _ _ _ _ _ _ (goal-search-entered t (c .before .before .before .before .before .before .before))
+    (proves-here _ _ _ _ _ _ (may-use .ensures) _ (loop-test .taken) (if3 .taken) (c .before .credential-search .ensures) (c .if4 .taken))
 
 goal-search-add-i : goal-search-needs goal-search-lts.Need-add-i
 goal-search-add-i t c =
@@ -275,22 +268,18 @@ goal-search-loop-less t c = omega arith
 
 goal-search-loop-again : goal-search-needs goal-search-lts.Need-loop-again
 goal-search-loop-again t c =
-    let loop = c .before .before .before .loop in (
+    let so-far = c .before .before .before .loop .inv .1 in
+    let may-use = c .before .may-use .ensures in (
       omega arith,
-      proves-later _ _ _ _ _ _ (loop .inv .1) (met-by (λ way. and-is (sym (c .before .may-use .ensures)
-          ∙ way .0 .taken) (sym (way .1 .ensures) ∙ way .2 .left)) (λ way. and-is-off _ (sym (c .before .may-use .ensures)
-          ∙ way .left)) (c .if3 .came)),
+      ⊎-elim (λ way. unproved-next _ _ _ _ _ _ may-use so-far (way .1 .ensures) (way .2 .left))
+          (λ way. unused-next _ _ _ _ _ _ may-use so-far (way .left)) (c .if3 .came),
     )
 
 goal-search-returns-4 : goal-search-needs goal-search-lts.Need-returns-4
 goal-search-returns-4 t c =
-    let if1 = c .before .before .before .before .before .before .before .if1 in
-    let is-fresh = c .before .before .before .before .before .before .is-fresh in
-    let if2 = c .before .before .before .before .before .if2 in
-    let moved′ = c .before .before .before .before .moved in
-    let with = c .before .before .before .with in
-    goal-decided _ _ _ _ _ _ _ _ _ (if1 .left) (passed (is-fresh .ensures) (if2 .left)) (moved′ .ensures) (with .ensures .1 .1)
-    (any-all _ _ _ (omega (arith, c .before .loop .inv .0, c .loop-test .left)) (c .before .loop .inv .1))
+    let loop = c .before .loop in
+    goal-decided _ _ _ _ _ _ _ _ _ (goal-search-entered t (c .before .before .before))
+    (any-all _ _ _ (omega (arith, loop .inv .0, c .loop-test .left)) (loop .inv .1))
 
 abbrev premises-search-Inv-loop : premises-search-lts.InvT-loop
 premises-search-Inv-loop table terms levels states branch premises len i₀ i =
@@ -344,9 +333,8 @@ premises-search-returns-2 t c =
     let if1 = c .before .before .before .before .before .before .before .if1 in
     let pre = c .before .before .before .before .before .before .before .before .before .pre in
     let loop-test = c .before .before .before .before .before .loop-test in
-    proved-goals _ _ _ _ (if1 .left) (omega (arith, pre .1 .1 .1 .fits, pre .1 .1 .1 .size)) (every-not _ _ _ _
-    (loop-test .taken) (omega (arith, pre .1 .1 .1 .fits, pre .1 .1 .1 .size)) (failed (c .before .goal-search .ensures)
-    (c .if3 .taken)))
+    let unproved = failed (c .before .goal-search .ensures) (c .if3 .taken) in
+    proved-not _ _ _ _ (if1 .left) (room-all (pre .1 .1 .1)) _ (loop-test .taken) unproved
 
 premises-search-add-i : premises-search-needs premises-search-lts.Need-add-i
 premises-search-add-i t c =
@@ -358,28 +346,21 @@ premises-search-loop-less t c = omega arith
 
 premises-search-loop-again : premises-search-needs premises-search-lts.Need-loop-again
 premises-search-loop-again t c =
-    let loop = c .before .before .before .loop in
-    let args = c .before .before .before .before .before .before .args in
+    let so-far = c .before .before .before .loop .inv .1 in
     let pre = c .before .before .before .before .before .before .pre in
-    let loop-test = c .before .before .loop-test in
-    let room : loop .i < length (args .t3 .goals) = omega (
-      arith,
-      pre .1 .1 .1 .fits,
-      pre .1 .1 .1 .size,
-      loop-test .taken,
-    ) in (
+    let there = room-for (pre .1 .1 .1) (c .before .before .loop-test .taken) in (
       omega arith,
-      every-more _ _ _ room (loop .inv .1) (met-by (λ way. passed (way .2 .ensures)
-          (way .3 .left)) (λ way. asked-proved _ _ _ room (passed (c .before .is-asked-before .ensures) (way .left))
-          (loop .inv .1)) (c .if2 .came)),
+      ⊎-elim (λ way. every-more _ _ _ there so-far (passed (way .2 .ensures) (way .3 .left)))
+          (λ way. every-asked _ _ _ there so-far (passed (c .before .is-asked-before .ensures) (way .left))) (c .if2 .came),
     )
 
 premises-search-returns-3 : premises-search-needs premises-search-lts.Need-returns-3
 premises-search-returns-3 t c =
     let if1 = c .before .before .if1 in
     let pre = c .before .before .before .before .pre in
-    proved-all _ _ _ _ (c .before .loop .i) (if1 .left) (omega (arith, pre .1 .1 .1 .fits, pre .1 .1 .1 .size))
-    (omega (arith, c .before .loop .inv .0, c .loop-test .left)) (c .before .loop .inv .1)
+    let loop = c .before .loop in
+    proved-all _ _ _ _ (if1 .left) (room-all (pre .1 .1 .1)) (loop .i)
+    (omega (arith, loop .inv .0, c .loop-test .left)) (loop .inv .1)
 
 pub +credential-search+goal-search+premises-search-spec : {M : Type 1} → statement M
 +credential-search+goal-search+premises-search-spec =

@@ -29,14 +29,8 @@ wide-requires c κs = search needs
 
 credential-requires : tie.Need-credential-requires
 credential-requires c κs =
-    let pre = c .before .before .before .pre in (
-      wf-sized _ (pre .0),
-      record {
-        first = omega (arith, c .wide .ensures .0, pre .1 .first);
-        last = omega
-            (arith, c .wide .ensures .0, pre .1 .last);
-      },
-    )
+    let pre = c .before .before .before .pre in
+    (wf-sized _ (pre .0), rw (c .wide .ensures .0) (pre .1))
 
 same-requires : tie.Need-same-requires
 same-requires c κs = search needs
