@@ -63,7 +63,8 @@ module _ (t : List ℕ) (c : Credential) where
 -- goals whose roles are those asked, each at its place
 data Means : List Role → List Goal → Type 0 where
   nothing : Means [] []
-  also : {r : Role} {g : Goal} {roles : List Role} {goals : List Goal} → meant r (g .role) ≡ true → Means roles goals → Means (r ∷ roles) (g ∷ goals)
+  also : {r : Role} {g : Goal} {roles : List Role} {goals : List Goal} → meant r (g .role) ≡ true → Means roles goals
+      → Means (r ∷ roles) (g ∷ goals)
 
 means-parts : (g : Goal) (roles : List Role) → Means roles (map (λ (r : Role). goal (g .principal) r) roles)
 means-parts g [] = nothing
@@ -98,7 +99,8 @@ definers-has t P c r there inside means =
 -- goals each of whose roles is defined by a credential of P
 data Rooted (t : List ℕ) (P : ℕ) : List Goal → Type 0 where
   bare : Rooted t P []
-  root : {g : Goal} {goals : List Goal} (c : ℕ) → Numbered (credentials t) c → inSet P (c - 1) ≡ true → credential t c .role ≡ g .role → Rooted t P goals → Rooted t P (g ∷ goals)
+  root : {g : Goal} {goals : List Goal} (c : ℕ) → Numbered (credentials t) c → inSet P (c - 1) ≡ true
+      → credential t c .role ≡ g .role → Rooted t P goals → Rooted t P (g ∷ goals)
 
 rooted-defined : (t : List ℕ) (P : ℕ) {roles : List Role} {goals : List Goal} → Means roles goals → Rooted t P goals
     → allDefined t P roles ≡ true
@@ -177,7 +179,8 @@ module _ (t : List ℕ) (P R : ℕ) (all : Reached t P R) where
       → Means roles gs → (x : ℕ) → part (withDefiners t P x roles) R ≡ true → UsesOnly f R
   unfolding withDefiners
   reached-covers done uses means x h = only-end R
-  reached-covers (step {c = c} {m = m} {goals = goals} {g = g} {children = ch} {siblings = si} applies new d e) uses (also {r = r} {roles = roles} means more) x h =
+  reached-covers (step {c = c} {m = m} {goals = goals} {g = g} {children = ch} {siblings = si} applies new d e) uses
+      (also {r = r} {roles = roles} means more) x h =
       let there = applies-numbered t g c m goals applies in
       let has = definers-has t P c r there (only-here P c m ch si uses) (rw (applies-role t g c m goals applies) means) in
       let own = part-member _ R (c - 1) h (with-has t P x (c - 1) r roles has) in

@@ -84,7 +84,8 @@ module _ (t : List ℕ) (P i found : ℕ) (r : Role) (so-far : found ≡ definer
   definers-outside out = definers-off (and-is-off _ (ne-eqb _ 1 out))
 
   -- which is in the set, and which the code has read as x and compared
-  module _ (inside : P / 2 ^ i % 2 ≡ 1) (x : Credential) (read : x ≡ credential t (i + 1)) {means : Bool} (told : means ≡ meant r (x .role)) where
+  module _ (inside : P / 2 ^ i % 2 ≡ 1) (x : Credential) (read : x ≡ credential t (i + 1)) {means : Bool}
+      (told : means ≡ meant r (x .role)) where
     pub definers-other : means ≡ false → found ≡ definersTo t P r (i + 1)
     unfolding inSet
     definers-other other = definers-off (and-is (eq-eqb _ 1 inside) (rw (read, add-one i) at (sym told ∙ other)))

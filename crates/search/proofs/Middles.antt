@@ -111,6 +111,10 @@ module _ (t : List ℕ) (S i from least : ℕ) (so-far : Nearest t S i from leas
         tried = λ few. or-first _ (so-far .tried few);
       }
 
+  names-first : (y : ℕ) → y < x .first → names (inSet S i) x y ≡ false
+  unfolding x
+  names-first y before = and-none (inSet S i) (and-none (eqb (x .kind) 1) (ne-eqb (x .first) y (λ e. omega arith)))
+
   nearest-near : isNear from least (inSet S i) x ≡ true → Nearest t S (suc i) from (x .first)
   unfolding isMember anyBelow _or_ x
   nearest-near near =
@@ -118,9 +122,7 @@ module _ (t : List ℕ) (S i from least : ℕ) (so-far : Nearest t S i from leas
       record {
         later = shown .1;
         few = omega (arith, so-far .few, shown .2);
-        first = λ y a b.
-            rw (so-far .first y a (omega (arith, shown .2)))
-            (and-none (inSet S i) (and-none (eqb (x .kind) 1) (ne-eqb (x .first) y (λ e. omega arith))));
+        first = λ y a b. rw (so-far .first y a (omega (arith, shown .2))) (names-first y b);
         tried = λ few. or-second (isMember t S i (x .first)) (shown .0);
       }
 
@@ -143,12 +145,7 @@ module _ (t : List ℕ) (S c from : ℕ) (x : Credential) (read : x ≡ credenti
   middle-linking m n three all h =
       let kind = eq-eqb (credential t c .kind) 3 (sym (ap (λ (y : Credential). y .kind) read) ∙ three) in
       let near = rw all at h in
-      record {
-        later = h .later;
-        few = h .few;
-        first = λ y a b. rw kind (near .first y a b);
-        tried = λ few. rw kind (near .tried few);
-      }
+      record { later = h .later; few = h .few; first = λ y a b. rw kind (near .first y a b); tried = λ few. rw kind (near .tried few) }
 
   module _ (other : x .kind ≡ 3 → ⊥) where
     tries-zero : (m : ℕ) → tries t S c m ≡ eqb m 0

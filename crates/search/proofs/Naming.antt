@@ -93,7 +93,8 @@ pub middle-tried : {t : List ℕ} → WellFormed t → (S : ℕ) {levels : ℕ} 
     (goals : List Goal) → premises t g c m ≡ some goals → Derives t levels branch goals f → UsesOnly f S
     → (tries t S c m ≡ true) × (m ≤ mostPrincipals)
 middle-tried {t} wf S g c m goals applies d only =
-    middle-named t wf S g c m goals (applies-numbered t g c m goals applies) (members-known wf S d only) (rule-applied t g c m goals applies)
+    let there = applies-numbered t g c m goals applies in
+    middle-named t wf S g c m goals there (members-known wf S d only) (rule-applied t g c m goals applies)
 
 -- whoever is derived to be in a role is a member that the set names
 pub member-known : {t : List ℕ} → WellFormed t → (S : ℕ) {levels : ℕ} {branch goals : List Goal} {g : Goal} {f : Forest}

@@ -33,7 +33,8 @@ pub data Rule (t : List ℕ) (g : Goal) (c : Credential) (m : ℕ) (goals : List
   membership : c .kind ≡ 1 → c .first ≡ g .principal .0 → m ≡ 0 → [] ≡ goals → Rule t g c m goals
   containment : c .kind ≡ 2 → m ≡ 0 → goal (g .principal) (role (c .first) (c .second)) ∷ [] ≡ goals → Rule t g c m goals
   linking : c .kind ≡ 3 → Numbered mostPrincipals m
-      → goal (principal m) (record { owner = c .role .owner; name = name (c .first) }) ∷ goal (g .principal) (role m (c .second)) ∷ [] ≡ goals
+      → goal (principal m) (record { owner = c .role .owner; name = name (c .first) })
+      ∷ goal (g .principal) (role m (c .second)) ∷ [] ≡ goals
       → Rule t g c m goals
   intersection : c .kind ≡ 4 → m ≡ 0 → map (λ (r : Role). goal (g .principal) r) (parts t (c .first)) ≡ goals → Rule t g c m goals
 

@@ -46,15 +46,15 @@ rejects-all t k word beyond =
     rw (le-leb 1 (suc k) (omega arith), lt-leb (suc k) (automata t) (omega arith), run-empty t (suc k) word)
 
 -- the automata that accept where a word has led them are those that accept the word
-accepting-exact : (t : List ℕ) → WellFormed t → (word : List Role) (k : ℕ) → inSet (acceptingSet t (setsAfter t word)) k ≡ accepts t (suc k) word
+accepting-exact : (t : List ℕ) → WellFormed t → (word : List Role) (k : ℕ)
+    → inSet (acceptingSet t (setsAfter t word)) k ≡ accepts t (suc k) word
 unfolding acceptingSet _and_
 accepting-exact t wf word k = go (decLt k (automata t))
   where
     go : Dec (k < automata t) → inSet (acceptingSet t (setsAfter t word)) k ≡ accepts t (suc k) word
     go (yes there) =
         let place : suc k - 1 ≡ k = omega arith in
-        let few = wf-sized t wf .counted .fewAutomata in
-        rw place at (accepting-member t (suc k) (record { first = omega arith; last = there }) few word)
+        rw place at (accepting-member t (suc k) (record { first = omega arith; last = there }) (wf-sized t wf .counted .fewAutomata) word)
     go (no beyond) =
         setOf-members _ (automata t) k ∙ rw (le-ltb k (automata t) (omega arith), rejects-all t k word (omega arith))
 
@@ -85,7 +85,8 @@ module _ (t : List ℕ) (A : ℕ) (ws more : List (List Role)) where
 unfoldable nodeWords : List ℕ → List Goal → List Role → Forest → List (List Role)
 nodeWords t goals word children = pick (eqb (length goals) 0) (word ∷ []) (words t word children)
 
-node-words : (t : List ℕ) → WellFormed t → (g : Goal) (c m : ℕ) (goals : List Goal) → premises t g c m ≡ some goals → (w : List Role) (children siblings : Forest)
+node-words : (t : List ℕ) → WellFormed t → (g : Goal) (c m : ℕ) (goals : List Goal) → premises t g c m ≡ some goals
+    → (w : List Role) (children siblings : Forest)
     → words t w (node c m children siblings) ≡ (nodeWords t goals (w ++ (g .role ∷ [])) children ++ words t w siblings)
 unfolding words nodeWords pick
 node-words t wf g c m [] applies w children siblings =
@@ -120,7 +121,8 @@ module _ (t : List ℕ) (wf : WellFormed t) (S A : ℕ) where
       record { forest = end; derives = done; usesOnly = λ c h. absurd (false-true h); accepted = λ k h. refl }
 
   -- a node over what it asks, beside what follows
-  shown-node : (levels : ℕ) (branch : List Goal) (w : List Role) (g : Goal) (c m : ℕ) (goals rest : List Goal) → premises t g c m ≡ some goals → fresh branch g ≡ true → inSet S (c - 1) ≡ true
+  shown-node : (levels : ℕ) (branch : List Goal) (w : List Role) (g : Goal) (c m : ℕ) (goals rest : List Goal)
+      → premises t g c m ≡ some goals → fresh branch g ≡ true → inSet S (c - 1) ≡ true
       → (f : Forest) → Derives t levels (g ∷ branch) goals f → UsesOnly f S
       → AllAccept t A (nodeWords t goals (w ++ (g .role ∷ [])) f)
       → Shown t S A (suc levels) branch w rest → Shown t S A (suc levels) branch w (g ∷ rest)
@@ -133,14 +135,16 @@ module _ (t : List ℕ) (wf : WellFormed t) (S A : ℕ) where
       }
 
   -- what is shown of one goal, beside what follows
-  shown-beside : {levels : ℕ} {branch rest : List Goal} {g : Goal} {f : Forest} (w : List Role) → Derives t levels branch (g ∷ []) f → UsesOnly f S → AllAccept t A (words t w f)
+  shown-beside : {levels : ℕ} {branch rest : List Goal} {g : Goal} {f : Forest} (w : List Role)
+      → Derives t levels branch (g ∷ []) f → UsesOnly f S → AllAccept t A (words t w f)
       → Shown t S A levels branch w rest → Shown t S A levels branch w (g ∷ rest)
-  shown-beside {branch = branch} {rest = rest} {g = g} w (step {levels = levels} {c = c} {m = m} {goals = goals} {children = ch} {siblings = si} applies new d later) only all after =
-      shown-node levels branch w g c m goals rest applies new (only-here S c m ch si only)
+  shown-beside {g = g} w (step {c = c} {m = m} {goals = goals} {children = ch} {siblings = si} applies new d later) only all after =
+      shown-node _ _ w g c m goals _ applies new (only-here S c m ch si only)
       ch d (only-below S c m ch si only) (words-split t wf A g c m goals applies w ch si all .0) after
 
   -- goal by goal
-  every-shown : (levels : ℕ) (branch : List Goal) (w : List Role) (one : Goal → Bool) → ((g : Goal) → one g ≡ true → Shown t S A levels branch w (g ∷ []))
+  every-shown : (levels : ℕ) (branch : List Goal) (w : List Role) (one : Goal → Bool)
+      → ((g : Goal) → one g ≡ true → Shown t S A levels branch w (g ∷ []))
       → (goals : List Goal) → everyGoal one goals ≡ true → Shown t S A levels branch w goals
   unfolding everyGoal
   every-shown levels branch w one each [] h = shown-none levels branch w
@@ -150,8 +154,11 @@ module _ (t : List ℕ) (wf : WellFormed t) (S A : ℕ) where
       (every-shown levels branch w one each goals (and-second _ _ h))
 
   -- through a credential of the set, where the goals that it asks are shown, and where it asks nothing the word is accepted
-  module _ (levels : ℕ) (branch : List Goal) (w : List Role) (g : Goal) (c : ℕ) (new : fresh branch g ≡ true) (own : inSet S (c - 1) ≡ true) where
-    module _ (one : Goal → Bool) (each : (h : Goal) → one h ≡ true → Shown t S A levels (g ∷ branch) (w ++ (g .role ∷ [])) (h ∷ [])) (word : Bool) (ended : word ≡ true → AllAccept t A ((w ++ (g .role ∷ [])) ∷ [])) where
+  module _ (levels : ℕ) (branch : List Goal) (w : List Role) (g : Goal) (c : ℕ) (new : fresh branch g ≡ true)
+      (own : inSet S (c - 1) ≡ true) where
+    module _ (one : Goal → Bool)
+        (each : (h : Goal) → one h ≡ true → Shown t S A levels (g ∷ branch) (w ++ (g .role ∷ [])) (h ∷ [])) (word : Bool)
+        (ended : word ≡ true → AllAccept t A ((w ++ (g .role ∷ [])) ∷ [])) where
       premises-shown : (m : ℕ) (found : Option (List Goal)) → premises t g c m ≡ found → provedPremises one word found ≡ true
           → Shown t S A (suc levels) branch w (g ∷ [])
       unfolding provedPremises nodeWords pick names
@@ -187,8 +194,12 @@ module _ (t : List ℕ) (wf : WellFormed t) (S A : ℕ) where
       (and-second _ _ (by .2))
 
   -- a goal is proved through a credential of the set that applies to it, once its premises are
-  proves-through : (levels : ℕ) (branch : List Goal) (s : StateSets) (g : Goal) (c m : ℕ) (goals : List Goal) → premises t g c m ≡ some goals → fresh branch g ≡ true → inSet S (c - 1) ≡ true → (tries t S c m ≡ true) × (m ≤ mostPrincipals)
-      → let below = movedSets t (g .role) s in pick (eqb (length goals) 0) (part A (acceptingSet t below)) (everyGoal (proves t S A levels (g ∷ branch) below) goals) ≡ true
+  proves-through : (levels : ℕ) (branch : List Goal) (s : StateSets) (g : Goal) (c m : ℕ) (goals : List Goal)
+      → premises t g c m ≡ some goals → fresh branch g ≡ true → inSet S (c - 1) ≡ true
+      → (tries t S c m ≡ true) × (m ≤ mostPrincipals)
+      → let below = movedSets t (g .role) s in
+      let each = everyGoal (proves t S A levels (g ∷ branch) below) goals in
+      pick (eqb (length goals) 0) (part A (acceptingSet t below)) each ≡ true
       → proves t S A (suc levels) branch s g ≡ true
   unfolding proves provesBy mayUse provedPremises premises
   proves-through levels branch s g c m goals applies new own (tried, few) below =
@@ -226,7 +237,8 @@ module _ (t : List ℕ) (wf : WellFormed t) (S A : ℕ) where
 
   -- what is derived is found
   derived-proves : {levels : ℕ} {branch goals : List Goal} {f : Forest} → Derives t levels branch goals f → UsesOnly f S
-      → (w : List Role) (s : StateSets) → s ≡ setsAfter t w → AllAccept t A (words t w f) → everyGoal (proves t S A levels branch s) goals ≡ true
+      → (w : List Role) (s : StateSets) → s ≡ setsAfter t w → AllAccept t A (words t w f)
+      → everyGoal (proves t S A levels branch s) goals ≡ true
   unfolding everyGoal
   derived-proves done only w s led all = refl
   derived-proves (step {c = c} {m = m} {goals = goals} {g = g} {children = ch} {siblings = si} applies new d later) only w s led all =
@@ -237,7 +249,8 @@ module _ (t : List ℕ) (wf : WellFormed t) (S A : ℕ) where
       (derived-proves later (only-later S c m ch si only) w s led (each .1))
 
   -- the search, at any level, below any branch and after any word
-  pub proves-exact : (levels : ℕ) (branch : List Goal) (w : List Role) (g : Goal) → (proves t S A levels branch (setsAfter t w) g ≡ true) ↔ Shown t S A levels branch w (g ∷ [])
+  pub proves-exact : (levels : ℕ) (branch : List Goal) (w : List Role) (g : Goal)
+      → (proves t S A levels branch (setsAfter t w) g ≡ true) ↔ Shown t S A levels branch w (g ∷ [])
   unfolding everyGoal
   proves-exact levels branch w g = (
     proves-shown levels branch w (setsAfter t w) refl g,
@@ -255,14 +268,14 @@ module _ (t : List ℕ) (wf : WellFormed t) (q : Query) where
         (λ h. exact .1 (record { forest = h .forest; derives = h .derives; usesOnly = h .usesOnly; accepted = h .accepted })),
       )
 
+  pub provable-by : (S A : ℕ) {f : Forest} → Derives t (q .depth) [] (goalOf q ∷ []) f → UsesOnly f S → AllAccept t A (words t [] f)
+      → provable t q S A ≡ true
+  provable-by S A {f} d only all =
+      provable-exact S A .1 (record { forest = f; derives = d; usesOnly = only; accepted = all })
+
   -- more credentials prove no less, and fewer automata forbid no more
   pub provable-mono : (S S′ A A′ : ℕ) → part S S′ ≡ true → part A′ A ≡ true → provable t q S A ≡ true → provable t q S′ A′ ≡ true
   provable-mono S S′ A A′ more fewer h =
       let shown = provable-exact S A .0 h in
-      provable-exact S′ A′ .1
-      (record {
-        forest = shown .forest;
-        derives = shown .derives;
-        usesOnly = λ c named. part-member S S′ (c - 1) more (shown .usesOnly c named);
-        accepted = λ k demanded. shown .accepted k (part-member A′ A k fewer demanded);
-      })
+      provable-by S′ A′ (shown .derives) (λ c named. part-member S S′ (c - 1) more (shown .usesOnly c named))
+      (λ k demanded. shown .accepted k (part-member A′ A k fewer demanded))

@@ -99,18 +99,45 @@ abbrev credential-search-μ-loop : credential-search-lts.MeasureT-loop
 credential-search-μ-loop table terms goal c levels states branch middle₀ middle = mostPrincipals + 1 - middle
 
 abbrev credential-search-claims : ℕ → credential-search-lts.Claims
-credential-search-claims t = (next-middle-reads.Asked, next-middle-reads.Learnt, premises-reads.Asked, premises-reads.Learnt, premises-search-below t, premises-search.Post)
+credential-search-claims t = (
+  next-middle-reads.Asked,
+  next-middle-reads.Learnt,
+  premises-reads.Asked,
+  premises-reads.Learnt,
+  premises-search-below t,
+  premises-search.Post,
+)
 
 abbrev goal-search-claims : ℕ → goal-search-lts.Claims
-goal-search-claims t = (is-fresh-reads.Asked, is-fresh-reads.Learnt, moved-reads.Asked, moved-reads.Learnt, with-reads.Asked, with-reads.Learnt, may-use-reads.Asked, may-use-reads.Learnt, credential-search-below t, credential-search.Post)
+goal-search-claims t = (
+  is-fresh-reads.Asked,
+  is-fresh-reads.Learnt,
+  moved-reads.Asked,
+  moved-reads.Learnt,
+  with-reads.Asked,
+  with-reads.Learnt,
+  may-use-reads.Asked,
+  may-use-reads.Learnt,
+  credential-search-below t,
+  credential-search.Post,
+)
 
 abbrev premises-search-claims : ℕ → premises-search-lts.Claims
-premises-search-claims t = (accepting-reads.Asked, accepting-reads.Learnt, is-asked-before-reads.Asked, is-asked-before-reads.Learnt, goal-search-below t, goal-search.Post)
+premises-search-claims t = (
+  accepting-reads.Asked,
+  accepting-reads.Learnt,
+  is-asked-before-reads.Asked,
+  is-asked-before-reads.Learnt,
+  goal-search-below t,
+  goal-search.Post,
+)
 
 -- what `credential_search` needs, whatever its measure is
-abbrev credential-search-needs : (credential-search-lts.Claims → In 1 credential-search-kinds.ps → Out 1 credential-search-kinds.ps credential-search-kinds.r
+abbrev credential-search-needs :
+    (credential-search-lts.Claims → In 1 credential-search-kinds.ps → Out 1 credential-search-kinds.ps credential-search-kinds.r
     → credential-search-lts.InvT-loop → credential-search-lts.MeasureT-loop → Type 0) → Type 0
-credential-search-needs need = (t : ℕ) → need (credential-search-claims t) (credential-search-at t) credential-search.Post credential-search-Inv-loop credential-search-μ-loop
+credential-search-needs need =
+    (t : ℕ) → need (credential-search-claims t) (credential-search-at t) credential-search.Post credential-search-Inv-loop credential-search-μ-loop
 
 credential-search-next-middle-requires : credential-search-needs credential-search-lts.Need-next-middle-requires
 credential-search-next-middle-requires t c κs = ((c .before .pre .1 .0), (c .before .pre .1 .1 .1, omega arith))
@@ -172,9 +199,11 @@ abbrev goal-search-μ-loop : goal-search-lts.MeasureT-loop
 goal-search-μ-loop table terms goal levels below deeper n i₀ i = n - i
 
 -- what `goal_search` needs, whatever its measure is
-abbrev goal-search-needs : (goal-search-lts.Claims → In 1 goal-search-kinds.ps → Out 1 goal-search-kinds.ps goal-search-kinds.r
+abbrev goal-search-needs :
+    (goal-search-lts.Claims → In 1 goal-search-kinds.ps → Out 1 goal-search-kinds.ps goal-search-kinds.r
     → goal-search-lts.InvT-loop → goal-search-lts.MeasureT-loop → Type 0) → Type 0
-goal-search-needs need = (t : ℕ) → need (goal-search-claims t) (goal-search-at t) goal-search.Post goal-search-Inv-loop goal-search-μ-loop
+goal-search-needs need =
+    (t : ℕ) → need (goal-search-claims t) (goal-search-at t) goal-search.Post goal-search-Inv-loop goal-search-μ-loop
 
 goal-search-returns : goal-search-needs goal-search-lts.Need-returns
 goal-search-returns t c = level-none _ _ _ _ _ _ _ (c .if1 .taken)
@@ -190,9 +219,11 @@ goal-search-returns-2 t c =
     goal-again _ _ _ _ _ _ _ (if1 .left) (failed (c .before .is-fresh .ensures) (c .if2 .taken))
 
 -- behind the entry: a level is left, the goal is new, and branch and state sets are one step on
-goal-search-entered : (t : ℕ) (c : goal-search-lts.After-with (goal-search-claims t) (goal-search-at t) goal-search.Post goal-search-Inv-loop goal-search-μ-loop)
+goal-search-entered : (t : ℕ)
+    (c : goal-search-lts.After-with (goal-search-claims t) (goal-search-at t) goal-search.Post goal-search-Inv-loop goal-search-μ-loop)
     → let args = c .before .before .before .before .before .before .args in
-    Entered (now (args .table)) (args .levels) (above (args .branch)) (above (c .with .result)) (args .states) (c .before .moved .result) (args .goal)
+    let moved-on = c .before .moved .result in
+    Entered (now (args .table)) (args .levels) (above (args .branch)) (above (c .with .result)) (args .states) moved-on (args .goal)
 goal-search-entered t c =
     let if1 = c .before .before .before .before .if1 in
     let is-fresh = c .before .before .before .is-fresh in
@@ -290,9 +321,11 @@ abbrev premises-search-μ-loop : premises-search-lts.MeasureT-loop
 premises-search-μ-loop table terms levels states branch premises len i₀ i = len - i
 
 -- what `premises_search` needs, whatever its measure is
-abbrev premises-search-needs : (premises-search-lts.Claims → In 1 premises-search-kinds.ps → Out 1 premises-search-kinds.ps premises-search-kinds.r
+abbrev premises-search-needs :
+    (premises-search-lts.Claims → In 1 premises-search-kinds.ps → Out 1 premises-search-kinds.ps premises-search-kinds.r
     → premises-search-lts.InvT-loop → premises-search-lts.MeasureT-loop → Type 0) → Type 0
-premises-search-needs need = (t : ℕ) → need (premises-search-claims t) (premises-search-at t) premises-search.Post premises-search-Inv-loop premises-search-μ-loop
+premises-search-needs need =
+    (t : ℕ) → need (premises-search-claims t) (premises-search-at t) premises-search.Post premises-search-Inv-loop premises-search-μ-loop
 
 premises-search-accepting-requires : premises-search-needs premises-search-lts.Need-accepting-requires
 premises-search-accepting-requires t c κs =
@@ -364,7 +397,8 @@ premises-search-returns-3 t c =
 
 pub +credential-search+goal-search+premises-search-spec : {M : Type 1} → statement M
 +credential-search+goal-search+premises-search-spec =
-    close μ-credential-search μ-goal-search μ-premises-search (λ t. credential-search-lts.spec (credential-search-claims t) (credential-search-at t)
+    close μ-credential-search μ-goal-search μ-premises-search
+    (λ t. credential-search-lts.spec (credential-search-claims t) (credential-search-at t)
     credential-search.Post
     credential-search-Inv-loop
     credential-search-μ-loop
