@@ -3,23 +3,23 @@
 -- that the credential above it asks.
 use mathlib.Core.Path.{_≡_, refl, sym, ap, _∙_}
 use mathlib.Core.List.{List, [], _∷_, map}
-use mathlib.Core.Bool.{Bool, true, not}
+use mathlib.Core.Bool.{true, not}
 use mathlib.Core.Option.{some}
-use Prim.Native.Nat.{ℕ, suc, _-_, _<_}
+use Prim.Native.Nat.{ℕ, suc, _-_}
 use native.Mathlib.Omega.{arith}
 use lib.Bits.{bitOr}
-use borrow.Author.Tests.{eq-eqb, eqb-true, lt-ltb, ne-eqb}
+use borrow.Author.Tests.{eq-eqb, lt-ltb, ne-eqb}
 use Rattle.table.specs.Logic.{_and_, pick}
 use Rattle.table.specs.Layout.{Numbered, credential, credentials, parts, role}
 use Rattle.table.specs.declared.Role.{Role}
 use Rattle.table.specs.declared.Goal.{Goal}
 use Rattle.table.specs.declared.Query.{Query}
 use Rattle.table.specs.declared.Credential.{Credential}
-use Rattle.table.proofs.Tests.{and-both, and-first, and-second, false-true, or-either, or-first, or-second}
+use Rattle.table.proofs.Tests.{and-both, and-first, and-second, false-true, or-first, or-second}
 use Rattle.automata.specs.Sets.{inSet, part}
 use Rattle.automata.proofs.Members.{inSet-zero, part-member, part-or, part-or-left, part-or-right, part-refl, part-shown, part-trans, part-zero, setOf-members}
-use Rattle.derivation.specs.Rules.{asks, goal, goalOf, premises, when}
-use Rattle.derivation.specs.Forest.{Derives, Forest, names}
+use Rattle.derivation.specs.Rules.{asks, goal, goalOf, premises}
+use Rattle.derivation.specs.Forest.{Derives, Forest}
 use Rattle.derivation.specs.Forest.Forest.{node}
 use Rattle.derivation.specs.Forest.Derives.{done, step}
 use Rattle.search.specs.Search.{UsesOnly}

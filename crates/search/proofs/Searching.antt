@@ -1,28 +1,25 @@
 -- The search decides `Provable`: it finds a derivation exactly where there is one that uses only credentials of the set and whose
 -- words every demanded automaton accepts. That it tries only members that the set names as middles loses nothing (Naming.antt).
 use mathlib.Core.Path.{_≡_, refl, sym, _∙_}
-use mathlib.Core.List.{List, [], _∷_, _++_, map}
+use mathlib.Core.List.{List, [], _∷_, _++_}
 use mathlib.Core.Bool.{Bool, true, false}
 use mathlib.Core.Option.{Option, none, some}
 use mathlib.Core.Logic.{_↔_}
 use Prim.Native.Nat.{ℕ, zero, suc, _-_, _≤_, _<_}
 use native.Mathlib.Omega.{arith}
-use native.Mathlib.Decide.{ℕ-discrete, decLt}
+use native.Mathlib.Decide.{decLt}
 use lib.ListN.{length}
 use lib.Dec.{eqb}
-use borrow.Author.Tests.{eqb-true, eq-eqb, ne-eqb, lt-leb, le-leb, le-ltb}
-use Rattle.table.specs.Logic.{_and_, _or_, pick}
+use borrow.Author.Tests.{ne-eqb, lt-leb, le-leb, le-ltb}
+use Rattle.table.specs.Logic.{_and_, pick}
 use Rattle.table.specs.Limits.{mostPrincipals}
-use Rattle.table.specs.Layout.{Numbered, automata, credential, credentials, name, parts, principal, role}
+use Rattle.table.specs.Layout.{automata, credential, credentials, role}
 use Rattle.table.specs.Checks.{WellFormed, within}
-use Rattle.table.specs.declared.Principal.{Principal}
 use Rattle.table.specs.declared.Role.{Role}
-use Rattle.table.specs.declared.Credential.{Credential}
 use Rattle.table.specs.declared.Goal.{Goal}
 use Rattle.table.specs.declared.Query.{Query}
-use Rattle.table.proofs.Tests.{and-both, and-first, and-second, and-true, any-reached, any-shows, false-true, or-either, or-first, or-second}
-use Rattle.table.proofs.Fields.{principal-range}
-use Rattle.table.proofs.WellFormed.{wf-chain, wf-sized}
+use Rattle.table.proofs.Tests.{and-both, and-first, and-second, and-true, any-reached, any-shows, false-true}
+use Rattle.table.proofs.WellFormed.{wf-sized}
 use Rattle.automata.specs.Sets.{inSet, meets, part}
 use Rattle.automata.specs.Automata.{accepts, acceptsFrom, acceptingSet, movedSets, starting}
 use Rattle.automata.specs.declared.StateSets.{StateSets}
@@ -33,11 +30,11 @@ use Rattle.derivation.specs.Forest.{Derives, Forest, names}
 use Rattle.derivation.specs.Forest.Forest.{end, node}
 use Rattle.derivation.specs.Forest.Derives.{done, step}
 use Rattle.derivation.specs.Words.{acceptsAll, words}
-use Rattle.search.specs.Search.{Provable, UsesOnly, everyGoal, isMember, mayUse, provable, provedPremises, proves, provesBy, tries}
+use Rattle.search.specs.Search.{Provable, UsesOnly, everyGoal, mayUse, provable, provedPremises, proves, provesBy, tries}
 use Rattle.derivation.proofs.Applying.{applies-numbered, applies-role, asks-more, asks-nothing, picked}
 use Rattle.derivation.proofs.Judging.{accepting-member, accepts-all-append, sets-after-next, sets-after-none, setsAfter}
 use Rattle.search.proofs.Naming.{middle-tried}
-use Rattle.search.proofs.Within.{only-below, only-end, only-here, only-later, only-node}
+use Rattle.search.proofs.Within.{only-below, only-here, only-later, only-node}
 
 -- an automaton that the table does not have starts in no state, so it accepts no word
 rejects-all : (t : List ℕ) (k : ℕ) (word : List Role) → automata t ≤ k → accepts t (suc k) word ≡ false

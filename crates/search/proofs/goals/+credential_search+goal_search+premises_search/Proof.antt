@@ -12,7 +12,7 @@ use Rattle.table.proofs.Tests.{failed, passed}
 use Rattle.table.proofs.WellFormed.{wf-sized}
 use Rattle.table.specs.Limits.{mostPrincipals}
 use Rattle.table.specs.Logic.{anyBelow}
-use lib.ListN.{length, take}
+use lib.ListN.{take}
 use mathlib.Core.Bool.{false, true}
 use mathlib.Core.Logic.{⊎-elim}
 use denote.Ref.{now}
