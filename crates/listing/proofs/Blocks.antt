@@ -131,7 +131,8 @@ module _ (chosen next : ℕ) (undecided : (i : ℕ) → i < next → inSet chose
       (part-or-right chosen (2 ^ (next - 1)))
       (own-bit (next - 1))
 
-  pub upper-own : (M : ℕ) → bitOr chosen (2 ^ (next - 1)) ≤ M → M < bitOr chosen (2 ^ (next - 1)) + 2 ^ (next - 1) → inSet M (next - 1) ≡ true
+  pub upper-own : (M : ℕ) → bitOr chosen (2 ^ (next - 1)) ≤ M → M < bitOr chosen (2 ^ (next - 1)) + 2 ^ (next - 1)
+      → inSet M (next - 1) ≡ true
   upper-own M from upto =
       part-member (bitOr chosen (2 ^ (next - 1))) M (next - 1)
       (block-part (bitOr chosen (2 ^ (next - 1))) (next - 1) upper-undecided M from upto) upper-has

@@ -62,7 +62,8 @@ module _ (cells count : ℕ) where
       from (listed l fits e) h = absurd (omega arith)
 
   -- otherwise their number
-  pub otherwise-counted : (counted cells count ≡ refused 9 0 → ⊥) → (counted cells count ≡ refused 10 0 → ⊥) → counted cells count ≡ accepted count
+  pub otherwise-counted : (counted cells count ≡ refused 9 0 → ⊥) → (counted cells count ≡ refused 10 0 → ⊥)
+      → counted cells count ≡ accepted count
   otherwise-counted some short = go (counts cells count)
     where
       go : Counts cells count → counted cells count ≡ accepted count

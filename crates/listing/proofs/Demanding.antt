@@ -121,7 +121,8 @@ module _ (t : List ℕ) (q : Query) (number position : ℕ) (e : requestOutcome 
   buffer-stopped buffer = rw e
 
 -- with 9 nothing is laid
-none-laid : (o : Outcome) (sets buffer : List ℕ) → (o andThen counted (length buffer) (length sets)) ≡ refused 9 0 → afterwards o sets buffer ≡ buffer
+none-laid : (o : Outcome) (sets buffer : List ℕ) → (o andThen counted (length buffer) (length sets)) ≡ refused 9 0
+    → afterwards o sets buffer ≡ buffer
 unfolding afterwards _andThen_
 none-laid (accepted v) sets buffer e = laid-none sets buffer (none-counted (length buffer) (length sets) .0 e)
 none-laid (refused number position) sets buffer e = refl
@@ -131,14 +132,16 @@ unfolding listing bufferAfter
 none-unchanged t q buffer e = none-laid (requestOutcome t q) (minimalSets t q) buffer e
 
 -- with 10 the buffer is filled with the first sets of the one list of minimal sets
-first-sets : (t : List ℕ) (q : Query) (buffer : List ℕ) → WellFormed t → Valid q → listing t q (length buffer) ≡ refused 10 0 → (sets : List ℕ) → MinimalSets t q sets → bufferAfter t q buffer ≡ take (length buffer) sets
+first-sets : (t : List ℕ) (q : Query) (buffer : List ℕ) → WellFormed t → Valid q → listing t q (length buffer) ≡ refused 10 0
+    → (sets : List ℕ) → MinimalSets t q sets → bufferAfter t q buffer ≡ take (length buffer) sets
 first-sets t q buffer wf valid e sets m =
     let more = more-counted (length buffer) _ .0 (sym (listing-counts t wf q valid (length buffer)) ∙ e) in
     let same = one-minimal-list t q (minimalSets t q) sets (minimal-sets t wf q valid) m in
     buffer-laid t wf q valid buffer ∙ laid-fills (minimalSets t q) buffer (omega arith) ∙ ap (take (length buffer)) same
 
 -- a verdict, with what refuses the record where it does
-judged-or-refused : (t : List ℕ) (q : Query) (rec : List ℕ) → WellFormed t → Valid q → (o : Outcome) → verdict t q rec ≡ o → OneOf ((S : ℕ) × (verdict t q rec ≡ accepted S)) ((number position : ℕ) × (verdict t q rec ≡ refused number position) × Refuses t q rec number position)
+judged-or-refused : (t : List ℕ) (q : Query) (rec : List ℕ) → WellFormed t → Valid q → (o : Outcome) → verdict t q rec ≡ o
+    → OneOf ((S : ℕ) × (verdict t q rec ≡ accepted S)) ((number position : ℕ) × (verdict t q rec ≡ refused number position) × Refuses t q rec number position)
 judged-or-refused t q rec wf valid (accepted S) e = first (S, e)
 judged-or-refused t q rec wf valid (refused number position) e =
     second (number, position, e, every-refusal t q rec number position wf valid .0 e)

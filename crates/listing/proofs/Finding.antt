@@ -28,13 +28,15 @@ module _ (t : List ℕ) (q : Query) where
   pub upto-length : (x : ℕ) (before after : List ℕ) (found : ℕ) → FoundUpTo t q x before after found → length after ≡ length before
   upto-length x before after found u = ap length (u .held) ∙ laid-length (those (isMinimal t q) x) before
 
-  relaid : (x y : ℕ) (before after : List ℕ) → x ≤ y → after ≡ laid (those (isMinimal t q) x) before → laid (those (isMinimal t q) y) after ≡ laid (those (isMinimal t q) y) before
+  relaid : (x y : ℕ) (before after : List ℕ) → x ≤ y → after ≡ laid (those (isMinimal t q) x) before
+      → laid (those (isMinimal t q) y) after ≡ laid (those (isMinimal t q) y) before
   relaid x y before after le held =
       let begun = those-begin (isMinimal t q) x y le in
       rw (held, begun .1) (laid-again (those (isMinimal t q) x) (begun .0) before)
 
   -- the buffer was long enough
-  pub upto-found : (x : ℕ) (before after : List ℕ) (found : ℕ) → FoundUpTo t q x before after found → found ≤ length before → Found t q x after found
+  pub upto-found : (x : ℕ) (before after : List ℕ) (found : ℕ) → FoundUpTo t q x before after found → found ≤ length before
+      → Found t q x after found
   upto-found x before after found u fits =
       record {
         count = u .count fits;
@@ -42,17 +44,20 @@ module _ (t : List ℕ) (q : Query) where
         held = relaid x x before after (omega arith) (u .held) ∙ sym (u .held);
       }
 
-  pub upto-same : (x : ℕ) (before after after′ : List ℕ) (found found′ : ℕ) → FoundUpTo t q x before after found → after′ ≡ after → found′ ≡ found → FoundUpTo t q x before after′ found′
+  pub upto-same : (x : ℕ) (before after after′ : List ℕ) (found found′ : ℕ) → FoundUpTo t q x before after found
+      → after′ ≡ after → found′ ≡ found → FoundUpTo t q x before after′ found′
   upto-same x before after after′ found found′ u e n = rw (e, n) u
 
   -- a stretch with nothing minimal
-  pub upto-bare : (x y : ℕ) (before after : List ℕ) (found : ℕ) → FoundUpTo t q x before after found → x ≤ y → Bare t q x y → FoundUpTo t q y before after found
+  pub upto-bare : (x y : ℕ) (before after : List ℕ) (found : ℕ) → FoundUpTo t q x before after found → x ≤ y → Bare t q x y
+      → FoundUpTo t q y before after found
   upto-bare x y before after found u le bare =
       let same = those-none (isMinimal t q) x y le bare in
       record { held = rw same (u .held); count = rw same (u .count); longer = rw same (u .longer) }
 
   -- a buffer that is too short stays as it is
-  pub upto-full : (x y : ℕ) (before after : List ℕ) (found : ℕ) → FoundUpTo t q x before after found → x ≤ y → length before < found → FoundUpTo t q y before after found
+  pub upto-full : (x y : ℕ) (before after : List ℕ) (found : ℕ) → FoundUpTo t q x before after found → x ≤ y
+      → length before < found → FoundUpTo t q y before after found
   upto-full x y before after found u le long =
       let begun = those-begin (isMinimal t q) x y le in
       let sum = length-append (those (isMinimal t q) x) (begun .0) in
@@ -65,7 +70,8 @@ module _ (t : List ℕ) (q : Query) where
       }
 
   -- one stretch after another
-  pub upto-then : (x y : ℕ) (before middle after : List ℕ) (found found′ : ℕ) → FoundUpTo t q x before middle found → x ≤ y → FoundUpTo t q y middle after found′ → FoundUpTo t q y before after found′
+  pub upto-then : (x y : ℕ) (before middle after : List ℕ) (found found′ : ℕ) → FoundUpTo t q x before middle found → x ≤ y
+      → FoundUpTo t q y middle after found′ → FoundUpTo t q y before after found′
   upto-then x y before middle after found found′ u le v =
       let same = upto-length x before middle found u in
       record {
@@ -75,7 +81,8 @@ module _ (t : List ℕ) (q : Query) where
       }
 
   -- one set more, which is the next number
-  pub upto-put : (x : ℕ) (before after : List ℕ) (found found′ : ℕ) → Found t q x before found → isMinimal t q x ≡ true → found′ ≡ found + 1 → after ≡ set before found x → FoundUpTo t q (suc x) before after found′
+  pub upto-put : (x : ℕ) (before after : List ℕ) (found found′ : ℕ) → Found t q x before found → isMinimal t q x ≡ true
+      → found′ ≡ found + 1 → after ≡ set before found x → FoundUpTo t q (suc x) before after found′
   upto-put x before after found found′ f m e s =
       let next = those-takes (isMinimal t q) x m in
       let sum = length-append (those (isMinimal t q) x) (x ∷ []) in
@@ -94,7 +101,8 @@ module _ (t : List ℕ) (q : Query) where
         ap (λ (b : List ℕ). getD b i 0) (sym (f .held))
         ∙ laid-at (those (isMinimal t q) x) buffer (omega (arith, f .count, f .fits)) i (omega (arith, f .count))
 
-    pub found-part : (S : ℕ) → anyBelow (λ i. part (getD buffer i 0) S) found ≡ true → (M : ℕ) × (M < x) × (isMinimal t q M ≡ true) × (part M S ≡ true)
+    pub found-part : (S : ℕ) → anyBelow (λ i. part (getD buffer i 0) S) found ≡ true
+        → (M : ℕ) × (M < x) × (isMinimal t q M ≡ true) × (part M S ≡ true)
     found-part S h =
         let some = any-shows (λ i. part (getD buffer i 0) S) found h in
         let there = those-numbers (isMinimal t q) x in
@@ -106,7 +114,8 @@ module _ (t : List ℕ) (q : Query) where
               (sym (found-at (some .0) (some .1))) ∙ some .2,
         )
 
-    pub found-apart : (S : ℕ) → anyBelow (λ i. part (getD buffer i 0) S) found ≡ false → (M : ℕ) → M < x → isMinimal t q M ≡ true → part M S ≡ false
+    pub found-apart : (S : ℕ) → anyBelow (λ i. part (getD buffer i 0) S) found ≡ false → (M : ℕ) → M < x
+        → isMinimal t q M ≡ true → part M S ≡ false
     found-apart S h M l m =
         let at = those-numbers (isMinimal t q) x .every M l m in
         let there : at .0 < found = omega (arith, f .count, at .1) in

@@ -37,7 +37,8 @@ pub those-begin : (p : ℕ → Bool) (x y : ℕ) → x ≤ y → (rest : List �
 those-begin p x zero le = let e : x ≡ 0 = omega arith in ([], rw e (sym (append-nil _)))
 those-begin p x (suc n) le = go (ℕ-discrete x (suc n)) (those-begin p x n) (p n) refl
   where
-    go : Dec (x ≡ suc n) → (x ≤ n → (rest : List ℕ) × (those p n ≡ those p x ++ rest)) → (b : Bool) → p n ≡ b → (rest : List ℕ) × (those p (suc n) ≡ those p x ++ rest)
+    go : Dec (x ≡ suc n) → (x ≤ n → (rest : List ℕ) × (those p n ≡ those p x ++ rest)) → (b : Bool) → p n ≡ b
+        → (rest : List ℕ) × (those p (suc n) ≡ those p x ++ rest)
     go (yes e) before b h = ([], ap (those p) (sym e) ∙ sym (append-nil (those p x)))
     go (no e) before true h =
         let begun = before (omega arith) in
@@ -70,14 +71,16 @@ laid-full sets rest buffer long =
     ∙ sym (laid-fills sets buffer long)
 
 -- laying a longer list over a list that begins it
-laid-alike : (sets before after : List ℕ) → length after ≡ length before → drop (length sets) after ≡ drop (length sets) before → laid sets after ≡ laid sets before
+laid-alike : (sets before after : List ℕ) → length after ≡ length before → drop (length sets) after ≡ drop (length sets) before
+    → laid sets after ≡ laid sets before
 unfolding laid
 laid-alike sets before after size beyond = rw (size, beyond)
 
 beyond-laid : (sets rest buffer : List ℕ) → drop (length (sets ++ rest)) (laid sets buffer) ≡ drop (length (sets ++ rest)) buffer
 beyond-laid sets rest buffer = go (ltb (length buffer) (length sets)) refl
   where
-    go : (b : Bool) → ltb (length buffer) (length sets) ≡ b → drop (length (sets ++ rest)) (laid sets buffer) ≡ drop (length (sets ++ rest)) buffer
+    go : (b : Bool) → ltb (length buffer) (length sets) ≡ b
+        → drop (length (sets ++ rest)) (laid sets buffer) ≡ drop (length (sets ++ rest)) buffer
     go true e =
         let l = ltb-true (length buffer) (length sets) e in
         let sum = length-append sets rest in

@@ -66,7 +66,9 @@ module _ (t : List ℕ) (q : Query) where
   within zero S l a = absurd (omega arith)
   within (suc n) S l a = go (anyBelow (λ T. part T S and admits t q T) S) refl (within n)
     where
-      go : (b : Bool) → anyBelow (λ T. part T S and admits t q T) S ≡ b → ((T : ℕ) → T < n → admits t q T ≡ true → (M : ℕ) × (isMinimal t q M ≡ true) × (part M T ≡ true)) → (M : ℕ) × (isMinimal t q M ≡ true) × (part M S ≡ true)
+      go : (b : Bool) → anyBelow (λ T. part T S and admits t q T) S ≡ b
+          → ((T : ℕ) → T < n → admits t q T ≡ true → (M : ℕ) × (isMinimal t q M ≡ true) × (part M T ≡ true))
+          → (M : ℕ) × (isMinimal t q M ≡ true) × (part M S ≡ true)
       go true e lesser =
           let some = any-shows (λ T. part T S and admits t q T) S e in
           let least = lesser (some .0) (omega (arith, some .1)) (and-second (part (some .0) S) _ (some .2)) in
@@ -95,7 +97,9 @@ module _ (t : List ℕ) (q : Query) (chosen next : ℕ) (undecided : (i : ℕ) �
       let same = minimal-least t q M m S among (minimal-admits t q S s) in omega arith)
 
   -- what is chosen is not usable, or its constraints cannot be met
-  pub bare-unpromising : WellFormed t → (usable : ℕ) → ((M : ℕ) → isMinimal t q M ≡ true → chosen ≤ M → M < chosen + 2 ^ next → part M usable ≡ true) → promising t q chosen usable ≡ false → Bare t q chosen (chosen + 2 ^ next)
+  pub bare-unpromising : WellFormed t → (usable : ℕ)
+      → ((M : ℕ) → isMinimal t q M ≡ true → chosen ≤ M → M < chosen + 2 ^ next → part M usable ≡ true)
+      → promising t q chosen usable ≡ false → Bare t q chosen (chosen + 2 ^ next)
   unfolding promising admits
   bare-unpromising wf usable every h M from upto =
       refuted (isMinimal t q M) (λ m.
@@ -135,7 +139,8 @@ module _ (t : List ℕ) (q : Query) (chosen usable next : ℕ) (d : Decided t q 
         go (yes e) = own e
         go (no e) = above (omega arith)
 
-    upper-every : (M : ℕ) → isMinimal t q M ≡ true → bitOr chosen (2 ^ (next - 1)) ≤ M → M < bitOr chosen (2 ^ (next - 1)) + 2 ^ (next - 1) → part M usable ≡ true
+    upper-every : (M : ℕ) → isMinimal t q M ≡ true → bitOr chosen (2 ^ (next - 1)) ≤ M
+        → M < bitOr chosen (2 ^ (next - 1)) + 2 ^ (next - 1) → part M usable ≡ true
     upper-every M m from upto =
         d .every M m (omega (arith, upper-joins chosen next (d .undecided) more))
         (omega (arith, upper-ends chosen next (d .undecided) more))
@@ -176,7 +181,8 @@ module _ (t : List ℕ) (q : Query) (chosen usable next : ℕ) (d : Decided t q 
         false-true (sym out ∙ part-member M usable (next - 1) among own))
 
     -- without credential `next`, of what is usable only what is relevant then
-    pub decided-out : WellFormed t → inSet usable (next - 1) ≡ true → (fewer : ℕ) → Relevant t q (bitXor usable (2 ^ (next - 1))) fewer → Decided t q chosen fewer (next - 1)
+    pub decided-out : WellFormed t → inSet usable (next - 1) ≡ true → (fewer : ℕ)
+        → Relevant t q (bitXor usable (2 ^ (next - 1))) fewer → Decided t q chosen fewer (next - 1)
     decided-out wf there fewer r =
         record {
           undecided = lower-undecided chosen next (d .undecided) more;

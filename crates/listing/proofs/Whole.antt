@@ -70,13 +70,15 @@ module _ (t : List ℕ) (q : Query) (wf : WellFormed t) (n : ℕ) (head : n ≡ 
     unfolding promising
     start-promising = and-is (part-zero usable) (ap (provable t q usable) (unconstrained t))
 
-    pub start-asked : Valid q → {flag : Bool} → flag ≡ provable t q usable 0 → flag ≡ true → (buffer : List ℕ) → Asked t q 0 usable n buffer 0
+    pub start-asked : Valid q → {flag : Bool} → flag ≡ provable t q usable 0 → flag ≡ true → (buffer : List ℕ)
+        → Asked t q 0 usable n buffer 0
     start-asked valid told h buffer =
         let promises = promising-shown t q 0 usable (start-promising ∙ sym told ∙ h)
         (λ M l m. absurd (omega arith)) in
         (wf, (valid, (start-decided, (promises, found-none t q buffer))))
 
-    pub start-none : {flag : Bool} → flag ≡ provable t q usable 0 → flag ≡ false → (buffer : List ℕ) → FoundUpTo t q (0 + 2 ^ n) buffer buffer 0
+    pub start-none : {flag : Bool} → flag ≡ provable t q usable 0 → flag ≡ false → (buffer : List ℕ)
+        → FoundUpTo t q (0 + 2 ^ n) buffer buffer 0
     start-none told h buffer =
         upto-bare t q 0 (0 + 2 ^ n) buffer buffer 0 (found-ends t q 0 buffer 0 (found-none t q buffer))
         (omega arith)
@@ -102,7 +104,8 @@ counted-listed cells count some fits =
 abbrev pub Tells : List ℕ → Query → List ℕ → List ℕ → Outcome → Type 0
 Tells t q before after o = (o ≡ counted (length before) (length (minimalSets t q))) × (after ≡ laid (minimalSets t q) before)
 
-module _ (t : List ℕ) (q : Query) (n : ℕ) (head : n ≡ credentials t) (before after : List ℕ) (found : ℕ) (upto : FoundUpTo t q (0 + 2 ^ n) before after found) where
+module _ (t : List ℕ) (q : Query) (n : ℕ) (head : n ≡ credentials t) (before after : List ℕ) (found : ℕ)
+    (upto : FoundUpTo t q (0 + 2 ^ n) before after found) where
   whole : FoundUpTo t q (2 ^ credentials t) before after found
   whole = let e : 0 + 2 ^ n ≡ 2 ^ credentials t = omega (arith, ap (λ (n : ℕ). 2 ^ n) head) in rw e at upto
 
