@@ -125,7 +125,7 @@ module _ {t : List ℕ} {q : Query} {chosen usable next : ℕ} {before : List �
     out-decided : Decided t q chosen fewer (next - 1)
     out-decided =
         let own = bit-in usable (next - 1) usable-there in
-        decided-out t q chosen usable next (decided (split .asked)) some (wf (split .asked)) own fewer (rw one at relevant)
+        decided-out t q chosen usable next (decided (split .asked)) some own fewer (rw one at relevant) (wf (split .asked))
 
     pub out-asked : flag ≡ true → Asked t q chosen fewer (next - 1) before found
     out-asked h =
