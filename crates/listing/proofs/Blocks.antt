@@ -1,7 +1,7 @@
 -- A block: the sets that agree with `chosen` from `next` on, where `chosen` has nothing below `next`. They are the numbers from
 -- `chosen` up to, but not including, `chosen` + 2^next. Credential `next` splits a block in halves: without it, then with it.
 use mathlib.Core.Path.{_≡_, refl, sym, ap, _∙_}
-use mathlib.Core.Bool.{Bool, true, false, not}
+use mathlib.Core.Bool.{true, false, not}
 use Prim.Native.Nat.{ℕ, zero, suc, _+_, _-_, _*_, _/_, _%_, _^_, _<_, _≤_}
 use native.Mathlib.Omega.{arith}
 use native.Mathlib.Nat.{mod-eq-of-lt, pow-suc}
@@ -9,7 +9,7 @@ use lib.Bits.{bitAnd, bitOr, bitXor, and-mask, or-shifted, xor-shr, xor-mod}
 use lib.Pow.{ones-lt, pow-lt, split}
 use lib.Dec.{eqb}
 use borrow.Author.Tests.{eq-eqb, eqb-true, ne-eqb}
-use Rattle.table.specs.Logic.{_and_, _or_, pick}
+use Rattle.table.specs.Logic.{_or_, pick}
 use Rattle.table.proofs.Tests.{and-first, and-is, and-second, false-true, or-either}
 use Rattle.search.proofs.Trying.{refuted}
 use Rattle.automata.specs.Sets.{inSet, meets, part}

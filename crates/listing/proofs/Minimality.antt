@@ -6,9 +6,8 @@ use Prim.Native.Nat.{ℕ, zero, suc, _+_, _-_, _^_, _<_, _≤_}
 use native.Mathlib.Omega.{arith}
 use native.Mathlib.Decide.{ℕ-discrete}
 use lib.Bits.{bitOr, bitXor}
-use lib.Dec.{ltb}
 use lib.Pow.{pow-lt}
-use borrow.Author.Tests.{ltb-true, ltb-false, not-true}
+use borrow.Author.Tests.{not-true}
 use Rattle.table.specs.Logic.{_and_, anyBelow}
 use Rattle.table.specs.Layout.{credentials}
 use Rattle.table.specs.Checks.{WellFormed}
