@@ -48,7 +48,9 @@ xor-digit (suc (suc a)) b h l = absurd (omega arith)
 
 inSet-xor : (x y s : ℕ) → inSet (bitXor x y) s ≡ pick (inSet y s) (not (inSet x s)) (inSet x s)
 unfolding inSet
-inSet-xor x y s = rw (xor-shr x y s, xor-mod (x / 2 ^ s) (y / 2 ^ s) 1) (xor-digit (x / 2 ^ s % 2) (y / 2 ^ s % 2) (omega arith) (omega arith))
+inSet-xor x y s =
+    rw (xor-shr x y s, xor-mod (x / 2 ^ s) (y / 2 ^ s) 1)
+    (xor-digit (x / 2 ^ s % 2) (y / 2 ^ s % 2) (omega arith) (omega arith))
 
 -- a set from which one of its members is taken
 pub without-other : (x k s : ℕ) → (k ≡ s → ⊥) → inSet (bitXor x (2 ^ k)) s ≡ inSet x s

@@ -99,7 +99,8 @@ pub record Split (t : List ℕ) (q : Query) (chosen usable next : ℕ) (before :
   pub there : bitAnd usable (bitOf next) ≡ 0 → ⊥
 
 -- the first half is searched, and the buffer is long enough so far
-pub record Halfway (t : List ℕ) (q : Query) (chosen usable next : ℕ) (before : List ℕ) (found : ℕ) (middle : List ℕ) (found′ : ℕ) : Type 0 where
+pub record Halfway (t : List ℕ) (q : Query) (chosen usable next : ℕ) (before : List ℕ) (found : ℕ) (middle : List ℕ)
+    (found′ : ℕ) : Type 0 where
   pub split : Split t q chosen usable next before found
   pub upto : FoundUpTo t q (chosen + 2 ^ (next - 1)) before middle found′
   pub fits : found′ ≤ length middle
@@ -121,7 +122,8 @@ module _ {t : List ℕ} {q : Query} {chosen usable next : ℕ} {before : List �
   halfway-met middle middle′ found′ found″ u fits e n = rw (e, n) (record { split = split; upto = u; fits = fits })
 
   -- the half without it
-  module _ (fewer : ℕ) (relevant : Relevant t q (bitXor usable (bitOf next)) fewer) {flag : Bool} (told : flag ≡ promising t q chosen fewer) where
+  module _ (fewer : ℕ) (relevant : Relevant t q (bitXor usable (bitOf next)) fewer) {flag : Bool}
+      (told : flag ≡ promising t q chosen fewer) where
     out-decided : Decided t q chosen fewer (next - 1)
     out-decided =
         let own = bit-in usable (next - 1) usable-there in

@@ -132,8 +132,9 @@ below-below-requires-2 : below-needs below-lts.Need-below-requires-2
 below-below-requires-2 t c κs =
     let relevant = c .before .before .before .before .relevant in
     let is-promising = c .before .before .before .is-promising in
+    let halved = split t (c .before .before .before .before .before) in
     half-asked t (c .before .before .before .before .before .before)
-    (out-asked (split t (c .before .before .before .before .before)) _ (relevant .ensures) (is-promising .ensures) (c .before .before .if3 .taken))
+    (out-asked halved _ (relevant .ensures) (is-promising .ensures) (c .before .before .if3 .taken))
 
 below-returns-3 : below-needs below-lts.Need-returns-3
 below-returns-3 t c =
@@ -148,7 +149,8 @@ below-same-length-3 t c = upto-length _ _ _ _ _ _ (below-returns-3 t c)
 -- where the two ways to the middle meet
 halfway : (t : ℕ) (c : below-lts.Joined3 (below-claims t) (below-at t) below.Post)
     → let args = c .before .before .before .before .before .before .before .before .args in
-    Halfway (now (args .table)) (args .query) (args .chosen) (args .usable) (args .next) (now (args .sets)) (now (args .found)) (c .if3 .sets) (c .if3 .found)
+    Halfway (now (args .table)) (args .query) (args .chosen) (args .usable) (args .next) (now (args .sets)) (now (args .found))
+    (c .if3 .sets) (c .if3 .found)
 halfway t c =
     let halved = split t (c .before .before .before) in
     let asked = c .before .before .before .before .before .before .before .before .pre .1 .1 in
@@ -175,8 +177,9 @@ below-below-requires-3 t c κs =
     let is-any-part = c .before .before .before .before .before .is-any-part in
     let none = failed (is-any-part .ensures) (c .before .before .before .before .if5 .taken) in
     let is-met = c .before .before .before .is-met in
+    let half = halfway t (c .before .before .before .before .before .before .before .before) in
     half-asked t (c .before .before .before .before .before .before .before .before .before .before .before .before)
-    (in-asked (halfway t (c .before .before .before .before .before .before .before .before)) (is-met .ensures) (c .before .before .if6 .taken) none)
+    (in-asked half (is-met .ensures) (c .before .before .if6 .taken) none)
 
 below-returns-4 : below-needs below-lts.Need-returns-4
 below-returns-4 t c =
