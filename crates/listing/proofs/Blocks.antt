@@ -11,12 +11,10 @@ use lib.Dec.{eqb}
 use borrow.Author.Tests.{eq-eqb, eqb-true, ne-eqb}
 use Rattle.table.specs.Logic.{_or_, pick}
 use Rattle.table.proofs.Tests.{and-first, and-is, and-second, false-true, or-either}
+use Rattle.search.proofs.Gathering.{one-among, own-bit}
 use Rattle.search.proofs.Trying.{refuted}
 use Rattle.automata.specs.Sets.{inSet, meets, part}
 use Rattle.automata.proofs.Members.{below-members, inSet-and, inSet-or, inSet-pow, inSet-zero, meets-common, part-member, part-or-left, part-or-right, part-shown, same-members}
-
-own-bit : (k : ℕ) → inSet (2 ^ k) k ≡ true
-own-bit k = inSet-pow k k ∙ eq-eqb k k refl
 
 -- `usable & bit == 0`
 pub bit-out : (x k : ℕ) → bitAnd x (2 ^ k) ≡ 0 → inSet x k ≡ false
@@ -32,8 +30,7 @@ bit-in x k h =
     ap (inSet x) e ∙ common .1
 
 pub bit-part : (x k : ℕ) → (bitAnd x (2 ^ k) ≡ 0 → ⊥) → part (2 ^ k) x ≡ true
-bit-part x k h =
-    part-shown (2 ^ k) x (λ s m. ap (inSet x) (sym (eqb-true k s (sym (inSet-pow k s) ∙ m))) ∙ bit-in x k h)
+bit-part x k h = one-among k x (bit-in x k h)
 
 -- digit by digit, as for the other laws of membership
 xor-digit : (a b : ℕ) → a < 2 → b < 2 → eqb (bitXor a b) 1 ≡ pick (eqb b 1) (not (eqb a 1)) (eqb a 1)

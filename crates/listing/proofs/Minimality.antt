@@ -1,7 +1,7 @@
 -- What minimal sets are, by the promises of derivations, and where a block has none of them.
-use mathlib.Core.Path.{_≡_, refl, sym, ap, _∙_}
+use mathlib.Core.Path.{_≡_, sym, ap, _∙_}
 use mathlib.Core.List.{List}
-use mathlib.Core.Bool.{Bool, true, false, not}
+use mathlib.Core.Bool.{true, false, not}
 use Prim.Native.Nat.{ℕ, zero, suc, _+_, _-_, _^_, _<_, _≤_}
 use native.Mathlib.Omega.{arith}
 use native.Mathlib.Decide.{ℕ-discrete}
@@ -12,7 +12,7 @@ use Rattle.table.specs.Logic.{_and_, anyBelow}
 use Rattle.table.specs.Layout.{credentials}
 use Rattle.table.specs.Checks.{WellFormed}
 use Rattle.table.specs.declared.Query.{Query}
-use Rattle.table.proofs.Tests.{and-both, and-first, and-second, any-none, any-not, any-shows, false-true}
+use Rattle.table.proofs.Tests.{and-both, and-first, and-second, any-none, any-not, false-true}
 use Rattle.automata.specs.Sets.{inSet, part}
 use Rattle.automata.proofs.Members.{part-antisym, part-le, part-member, part-or-left, part-refl, part-shown, part-trans}
 use Rattle.derivation.specs.Tally.{automataOf}
@@ -21,7 +21,7 @@ use Rattle.derivation.specs.Verdict.{Accepted}
 use Rattle.listing.specs.Minimal.{admits, isMinimal}
 use Rattle.listing.specs.Below.{Decided, Promising, promising}
 use Rattle.search.proofs.Searching.{provable-mono}
-use Rattle.search.proofs.Trying.{refuted}
+use Rattle.search.proofs.Trying.{any-or-none, refuted}
 use Rattle.listing.proofs.Lists.{less-or-not}
 use Rattle.search.proofs.Admitting.{accepted-provable, automata-mono, provable-accepted, relevant-used}
 use Rattle.listing.proofs.Blocks.{block-part, halves, lower-undecided, lower-without, part-without, upper-ends, upper-has, upper-own, upper-joins, upper-undecided, without-other, without-own}
@@ -58,24 +58,16 @@ module _ (t : List ℕ) (q : Query) where
       (λ T l. refuted _ (λ h. least T l (and-first _ _ h) (and-second (part T M) _ h))))
 
   -- a set that admits a record includes a minimal one: itself, or one that a lesser part includes
-  Includes : ℕ → Type 0
-  Includes S = (M : ℕ) × (isMinimal t q M ≡ true) × (part M S ≡ true)
-
-  within : (n S : ℕ) → S < n → admits t q S ≡ true → Includes S
-  unfolding Includes
+  within : (n S : ℕ) → S < n → admits t q S ≡ true → (M : ℕ) × (isMinimal t q M ≡ true) × (part M S ≡ true)
   within zero S l a = absurd (omega arith)
-  within (suc n) S l a = go (anyBelow (λ T. part T S and admits t q T) S) refl (within n)
-    where
-      go : (b : Bool) → anyBelow (λ T. part T S and admits t q T) S ≡ b → ((T : ℕ) → T < n → admits t q T ≡ true → Includes T)
-          → Includes S
-      go true e lesser =
-          let (T, less, there) = any-shows (λ T. part T S and admits t q T) S e in
-          let (M, minimal, inside) = lesser T (omega arith) (and-second (part T S) _ there) in
-          (M, minimal, part-trans M T S inside (and-first _ _ there))
-      go false e lesser = (S, minimal-none S a e, part-refl S)
+  within (suc n) S l a =
+      any-or-none (λ T. part T S and admits t q T) S
+      (λ T less there.
+      let (M, minimal, inside) = within n T (omega arith) (and-second (part T S) _ there) in
+      (M, minimal, part-trans M T S inside (and-first _ _ there)))
+      (λ none. (S, minimal-none S a none, part-refl S))
 
   pub minimal-within : (S : ℕ) → admits t q S ≡ true → (M : ℕ) × (isMinimal t q M ≡ true) × (part M S ≡ true)
-  unfolding Includes
   minimal-within S a = within (suc S) S (omega arith) a
 
 module _ (t : List ℕ) (wf : WellFormed t) (q : Query) where

@@ -133,13 +133,15 @@ round-kept : (At : ℕ → Type 0) (most x y z i : ℕ) → Round most x y ((c :
 round-kept At most x y z i round same here =
     rw same (round-next At most x y y i round (part-refl y) (λ h. h) (λ e back. here back))
 
--- a set with a member more
-module _ (x i : ℕ) where
-  one-among : (most : ℕ) → inSet most i ≡ true → part (2 ^ i) most ≡ true
-  one-among most h = part-shown (2 ^ i) most (λ s one. rw (← eqb-true i s (sym (inSet-pow i s) ∙ one)) h)
+-- the set of one member, and a set with a member more
+pub own-bit : (i : ℕ) → inSet (2 ^ i) i ≡ true
+own-bit i = inSet-pow i i ∙ eq-eqb i i refl
 
-  has-one : inSet (bitOr x (2 ^ i)) i ≡ true
-  has-one = inSet-or x (2 ^ i) i ∙ or-second _ (inSet-pow i i ∙ eq-eqb i i refl)
+pub one-among : (i most : ℕ) → inSet most i ≡ true → part (2 ^ i) most ≡ true
+one-among i most h = part-shown (2 ^ i) most (λ s one. rw (← eqb-true i s (sym (inSet-pow i s) ∙ one)) h)
+
+has-one : (x i : ℕ) → inSet (bitOr x (2 ^ i)) i ≡ true
+has-one x i = inSet-or x (2 ^ i) i ∙ or-second _ (own-bit i)
 
 -- P has every productive credential of S among the first n
 abbrev pub ProductiveAt : List ℕ → ℕ → ℕ → ℕ → Type 0
@@ -172,7 +174,7 @@ module _ (t : List ℕ) (S P more next i : ℕ) (round : Round S P more (Product
     pub productive-more : new ≡ true → i < mostCredentials → next ≡ bitOr more ((1 * 2 ^ i) % 2 ^ 32)
         → Round S P next (ProductiveTo t S P (i + 1))
     productive-more on few set =
-        let own = one-among more i S (and-first _ _ (sym told ∙ on)) in
+        let own = one-among i S (and-first _ _ (sym told ∙ on)) in
         rw (set, one-bit 32 i (omega arith))
         (round-next (ProductiveAt t S P) S P more (bitOr more (2 ^ i)) i round (part-or-left more (2 ^ i))
         (λ h. part-or more (2 ^ i) S h own) (λ e back. absurd (came-in on e back)))

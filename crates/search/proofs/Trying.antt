@@ -36,6 +36,14 @@ and-none a e = ap (λ b. a and b) e ∙ and-false a
 pub any-all : (p : ℕ → Bool) (i n : ℕ) → i ≡ n → anyBelow p i ≡ false → anyBelow p n ≡ false
 any-all p i n e h = sym (ap (anyBelow p) e) ∙ h
 
+-- some number below n passes, or none does
+pub any-or-none : {A : Type 0} (p : ℕ → Bool) (n : ℕ) → ((k : ℕ) → k < n → p k ≡ true → A) → (anyBelow p n ≡ false → A) → A
+any-or-none {A} p n one none = go (anyBelow p n) refl
+  where
+    go : (b : Bool) → anyBelow p n ≡ b → A
+    go true e = let (k, l, passes) = any-shows p n e in one k l passes
+    go false e = none e
+
 pub next-numbered : (n i : ℕ) → i < n → Numbered n (i + 1)
 next-numbered n i l = record { first = omega arith; last = omega arith }
 
