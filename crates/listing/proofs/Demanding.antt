@@ -117,7 +117,8 @@ demand-three t q buffer wf valid =
 
 -- where rows 1 to 8 refuse, every call tells that, and the buffer is unchanged
 all-stopped : (t : List ℕ) (q : Query) (rec buffer : List ℕ) (number position : ℕ) → requestOutcome t q ≡ refused number position
-    → (verdict t q rec ≡ refused number position) × (listing t q (length buffer) ≡ refused number position) × (bufferAfter t q buffer ≡ buffer)
+    → (verdict t q rec ≡ refused number position) × (listing t q (length buffer) ≡ refused number position)
+    × (bufferAfter t q buffer ≡ buffer)
 unfolding verdict listing _andThen_
 all-stopped t q rec buffer number position e = (rw e, rw e, buffer-refused t q buffer e)
 

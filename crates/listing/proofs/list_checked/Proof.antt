@@ -75,14 +75,18 @@ claims = (
 starts : (c : lts.After-relevant claims reads.Pre reads.Post)
     → let args = c .before .before .before .before .before .before .before .args in
     Starts (now (args .table)) (args .query) (c .before .before .before .wide .result) (c .relevant .result)
-starts c = record { wf = c .before .before .before .before .before .before .before .pre .0; head = c .before .before .before .wide .ensures .0; relevant = c .relevant .ensures }
+starts c =
+    let pre = c .before .before .before .before .before .before .before .pre in
+    let wide = c .before .before .before .wide in
+    record { wf = pre .0; head = wide .ensures .0; relevant = c .relevant .ensures }
 
 below-requires : tie.Need-below-requires
 below-requires c κs =
     let pre = c .before .before .before .before .before .before .before .before .before .before .before .before .pre in
     let index = c .before .before .before .before .before .before .before .index in
     let provable = c .before .before .before .before .provable in
-    (index .ensures, start-asked (starts (c .before .before .before .before .before)) (provable .ensures) (c .before .before .before .if1 .taken) (pre .1) _)
+    let start = starts (c .before .before .before .before .before) in
+    (index .ensures, start-asked start (provable .ensures) (c .before .before .before .if1 .taken) (pre .1) _)
 
 -- where the ways meet: the search, or none
 through : (c : lts.Joined1 claims reads.Pre reads.Post)

@@ -137,7 +137,8 @@ abbrev credential-search-needs :
     (credential-search-lts.Claims → In 1 credential-search-kinds.ps → Out 1 credential-search-kinds.ps credential-search-kinds.r
     → credential-search-lts.InvT-loop → credential-search-lts.MeasureT-loop → Type 0) → Type 0
 credential-search-needs need =
-    (t : ℕ) → need (credential-search-claims t) (credential-search-at t) credential-search.Post credential-search-Inv-loop credential-search-μ-loop
+    (t : ℕ)
+    → need (credential-search-claims t) (credential-search-at t) credential-search.Post credential-search-Inv-loop credential-search-μ-loop
 
 credential-search-next-middle-requires : credential-search-needs credential-search-lts.Need-next-middle-requires
 credential-search-next-middle-requires t c κs = ((c .before .pre .1 .0), (c .before .pre .1 .1 .1, omega arith))

@@ -1,4 +1,4 @@
--- `is_asked_before`: none of the goals before j is goal i. Assumes that i is the number of a goal.
+-- `search::goals::is_asked_before`: none of the goals before j is goal i. Assumes that i is the number of a goal.
 use Prim.Native.Nat.{_-_, _≤_}
 use Rattle.search.proofs.Trying.{asked-here, asked-nowhere, isNamed}
 use Rattle.table.specs.Logic.{anyBelow}

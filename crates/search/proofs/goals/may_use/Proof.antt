@@ -1,4 +1,4 @@
--- `may_use`: the credential is in the set, and its role is the goal's. Assumes an accepted table and a credential of it.
+-- `search::goals::may_use`: the credential is in the set, and its role is the goal's. Assumes an accepted table and a credential of it.
 use Rattle.automata.specs.Sets.{inSet}
 use Rattle.search.proofs.Trying.{uses-role}
 use Rattle.search.specs.Search.{mayUse}

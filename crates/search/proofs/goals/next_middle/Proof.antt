@@ -1,4 +1,4 @@
--- `next_middle`: `least` is the nearest of the members that the first i credentials name. Assumes an accepted table and a
+-- `search::goals::next_middle`: `least` is the nearest of the members that the first i credentials name. Assumes an accepted table and a
 -- credential of it.
 use Prim.Native.Nat.{_-_, _≤_}
 use Rattle.search.proofs.Middles.{Nearest, middle-first, middle-linking, middle-none, nearest-next, nearest-none}

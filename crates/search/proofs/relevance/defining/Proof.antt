@@ -1,4 +1,4 @@
--- `relevance::defining` meets its contract: of the first i credentials, those of the set that define the role
+-- `search::relevance::defining` meets its contract: of the first i credentials, those of the set that define the role
 -- are found. Assumes nothing.
 use mathlib.Core.Path.{_∙_, _≡_, refl}
 use Prim.Native.Nat.{_-_, _≤_}
@@ -73,7 +73,8 @@ loop-again c =
     let few = credential-few _ (c .before .before .before .before .before .before .pre) in
     let so-far = c .before .before .loop .inv .1 in (
       omega arith,
-      three-ways (λ w. w .4 ∙ definers-more _ _ _ _ _ so-far (w .0 .taken) _ (w .1 .ensures) (w .2 .ensures) (w .3 .taken) (few (omega arith)))
+      three-ways
+          (λ w. w .4 ∙ definers-more _ _ _ _ _ so-far (w .0 .taken) _ (w .1 .ensures) (w .2 .ensures) (w .3 .taken) (few (omega arith)))
           (λ w. w .4 ∙ definers-other _ _ _ _ _ so-far (w .0 .taken) _ (w .1 .ensures) (w .2 .ensures) (w .3 .left))
           (λ w. w .1 ∙ definers-outside _ _ _ _ _ so-far (w .0 .left)) (c .if1 .came),
     )

@@ -1,4 +1,4 @@
--- `relevance::index` meets its contract: the first i cells are made. Assumes nothing.
+-- `search::relevance::index` meets its contract: the first i cells are made. Assumes nothing.
 use mathlib.Core.Path.{_≡_, refl, _∙_}
 use Prim.Native.Nat.{_-_, _*_, _≤_, _<_}
 use native.Mathlib.Omega.{arith}

@@ -1,4 +1,4 @@
--- `relevance::is_productive` meets its contract: the first k of the roles asked are defined. Assumes nothing.
+-- `search::relevance::is_productive` meets its contract: the first k of the roles asked are defined. Assumes nothing.
 use mathlib.Core.Path.{_≡_, refl, sym, ap}
 use mathlib.Core.Bool.{false, not}
 use Prim.Native.Nat.{_-_, _*_, _≤_}

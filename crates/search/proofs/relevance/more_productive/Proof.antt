@@ -1,5 +1,5 @@
--- `relevance::more_productive` meets its contract: one round, in which the first i credentials
--- have been looked at; where nothing came in, those of them that are productive were there. Assumes nothing.
+-- `search::relevance::more_productive` meets its contract: one round, in which the first i credentials have been looked at;
+-- where nothing came in, those of them that are productive were there. Assumes nothing.
 use mathlib.Core.Path.{_∙_, _≡_}
 use Prim.Native.Nat.{_-_, _≤_}
 use native.Mathlib.Omega.{arith}

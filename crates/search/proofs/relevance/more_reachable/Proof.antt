@@ -1,4 +1,4 @@
--- `relevance::more_reachable` meets its contract: one round, in which the first i credentials
+-- `search::relevance::more_reachable` meets its contract: one round, in which the first i credentials
 -- have been looked at; where nothing came in, all that those of them in the set ask was there. Assumes nothing.
 use mathlib.Core.Path.{_∙_, _≡_}
 use mathlib.Core.Logic.{⊎-elim}
