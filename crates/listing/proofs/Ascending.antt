@@ -38,6 +38,22 @@ module _ (xs : List ℕ) (x : ℕ) where
   place : (i : ℕ) → i < length (xs ++ (x ∷ [])) → (length xs ≡ i) ⊎ (i < length xs)
   place i h = ⊎-elim (λ e. inl (sym e)) inr (eq-or-lt-of-le (omega (arith, longer-by-one)))
 
+  at-each : (A : ℕ → Type 0) → ((i : ℕ) → i < length xs → A (getD xs i 0)) → A x
+      → (i : ℕ) → i < length (xs ++ (x ∷ [])) → A (getD (xs ++ (x ∷ [])) i 0)
+  at-each A before here i l =
+      ⊎-elim (λ e. rw (last i e) here) (λ less. rw (earlier i less) (before i less)) (place i l)
+
+  stands-last : Stands x (xs ++ (x ∷ []))
+  stands-last = (length xs, omega (arith, longer-by-one), last (length xs) refl)
+
+  stands-on : (k : ℕ) → Stands k xs → Stands k (xs ++ (x ∷ []))
+  stands-on k (i, there, e) = (i, omega (arith, longer-by-one), earlier i there ∙ e)
+
+  still-ascending : Ascending xs → ((i : ℕ) → i < length xs → getD xs i 0 < x) → Ascending (xs ++ (x ∷ []))
+  still-ascending up below i j less l =
+      ⊎-elim (λ e. rw (last j e, earlier i (omega arith)) (below i (omega arith)))
+      (λ there. rw (earlier j there, earlier i (omega arith)) (up i j less there)) (place j l)
+
 pub record Those (p : ℕ → Bool) (n : ℕ) (xs : List ℕ) : Type 0 where
   pub below : (i : ℕ) → i < length xs → getD xs i 0 < n
   pub only : (i : ℕ) → i < length xs → p (getD xs i 0) ≡ true
@@ -45,22 +61,17 @@ pub record Those (p : ℕ → Bool) (n : ℕ) (xs : List ℕ) : Type 0 where
   pub ascending : Ascending xs
 
 module _ (p : ℕ → Bool) (n : ℕ) {xs : List ℕ} (h : Those p n xs) where
+  last-or-less : {A : Type 0} (k : ℕ) → k < suc n → (k ≡ n → A) → (k < n → A) → A
+  last-or-less k l same less = ⊎-elim same less (eq-or-lt-of-le (omega arith))
+
   -- n passes: it is the last
   one-more : p n ≡ true → Those p (suc n) (xs ++ (n ∷ []))
   one-more passes =
       record {
-        below = λ i l. ⊎-elim (λ e. rw (last xs n i e) (omega arith))
-            (λ less. rw (earlier xs n i less) (omega (arith, h .below i less))) (place xs n i l);
-        only = λ i l. ⊎-elim (λ e. rw (last xs n i e) passes)
-            (λ less. rw (earlier xs n i less) (h .only i less)) (place xs n i l);
-        every = λ k l pk. ⊎-elim
-            (λ e. (length xs, omega (arith, longer-by-one xs n), last xs n (length xs) refl ∙ sym e))
-            (λ less. let (i, there, e) = h .every k less pk in
-            (i, omega (arith, longer-by-one xs n), earlier xs n i there ∙ e))
-            (eq-or-lt-of-le (omega arith));
-        ascending = λ i j less l. ⊎-elim
-            (λ e. rw (last xs n j e, earlier xs n i (omega arith)) (h .below i (omega arith)))
-            (λ there. rw (earlier xs n j there, earlier xs n i (omega arith)) (h .ascending i j less there)) (place xs n j l);
+        below = at-each xs n (λ k. k < suc n) (λ i l. omega (arith, h .below i l)) (omega arith);
+        only = at-each xs n (λ k. p k ≡ true) (h .only) passes;
+        every = λ k l pk. last-or-less k l (λ e. rw e (stands-last xs n)) (λ less. stands-on xs n k (h .every k less pk));
+        ascending = still-ascending xs n (h .ascending) (h .below);
       }
 
   -- n does not pass
@@ -69,8 +80,7 @@ module _ (p : ℕ → Bool) (n : ℕ) {xs : List ℕ} (h : Those p n xs) where
       record {
         below = λ i l. omega (arith, h .below i l);
         only = h .only;
-        every = λ k l pk. ⊎-elim (λ e. absurd (false-true (sym fails ∙ ap p (sym e) ∙ pk)))
-            (λ less. h .every k less pk) (eq-or-lt-of-le (omega arith));
+        every = λ k l pk. last-or-less k l (λ e. absurd (false-true (sym fails ∙ ap p (sym e) ∙ pk))) (λ less. h .every k less pk);
         ascending = h .ascending;
       }
 

@@ -1,7 +1,7 @@
 -- A block: the sets that agree with `chosen` from `next` on, where `chosen` has nothing below `next`. They are the numbers from
 -- `chosen` up to, but not including, `chosen` + 2^next. Credential `next` splits a block in halves: without it, then with it.
 use mathlib.Core.Path.{_≡_, refl, sym, ap, _∙_}
-use mathlib.Core.Bool.{Bool, true, false, not}
+use mathlib.Core.Bool.{true, false, not}
 use Prim.Native.Nat.{ℕ, zero, suc, _+_, _-_, _*_, _/_, _%_, _^_, _<_, _≤_}
 use native.Mathlib.Omega.{arith}
 use native.Mathlib.Nat.{mod-eq-of-lt, pow-suc}
@@ -9,22 +9,18 @@ use lib.Bits.{bitAnd, bitOr, bitXor, and-mask, or-shifted, xor-shr, xor-mod}
 use lib.Pow.{ones-lt, pow-lt, split}
 use lib.Dec.{eqb}
 use borrow.Author.Tests.{eq-eqb, eqb-true, ne-eqb}
-use Rattle.table.specs.Logic.{_and_, _or_, pick}
-use Rattle.table.proofs.Tests.{and-false, and-is, and-is-off, false-true, or-either}
+use Rattle.table.specs.Logic.{_or_, pick}
+use Rattle.table.proofs.Tests.{and-first, and-is, and-second, false-true, or-either}
+use Rattle.search.proofs.Gathering.{one-among, own-bit}
+use Rattle.search.proofs.Trying.{refuted}
 use Rattle.automata.specs.Sets.{inSet, meets, part}
 use Rattle.automata.proofs.Members.{below-members, inSet-and, inSet-or, inSet-pow, inSet-zero, meets-common, part-member, part-or-left, part-or-right, part-shown, same-members}
 
-own-bit : (k : ℕ) → inSet (2 ^ k) k ≡ true
-own-bit k = inSet-pow k k ∙ eq-eqb k k refl
-
 -- `usable & bit == 0`
 pub bit-out : (x k : ℕ) → bitAnd x (2 ^ k) ≡ 0 → inSet x k ≡ false
-bit-out x k h = go (inSet x k) refl
-  where
-    go : (b : Bool) → inSet x k ≡ b → inSet x k ≡ false
-    go true e = absurd (false-true
-        (sym (inSet-zero k) ∙ ap (λ (z : ℕ). inSet z k) (sym h) ∙ inSet-and x (2 ^ k) k ∙ and-is e (own-bit k)))
-    go false e = e
+bit-out x k h =
+    refuted (inSet x k) (λ e.
+    false-true (sym (inSet-zero k) ∙ ap (λ (z : ℕ). inSet z k) (sym h) ∙ inSet-and x (2 ^ k) k ∙ and-is e (own-bit k)))
 
 pub bit-in : (x k : ℕ) → (bitAnd x (2 ^ k) ≡ 0 → ⊥) → inSet x k ≡ true
 unfolding meets
@@ -34,8 +30,7 @@ bit-in x k h =
     ap (inSet x) e ∙ common .1
 
 pub bit-part : (x k : ℕ) → (bitAnd x (2 ^ k) ≡ 0 → ⊥) → part (2 ^ k) x ≡ true
-bit-part x k h =
-    part-shown (2 ^ k) x (λ s m. ap (inSet x) (sym (eqb-true k s (sym (inSet-pow k s) ∙ m))) ∙ bit-in x k h)
+bit-part x k h = one-among k x (bit-in x k h)
 
 -- digit by digit, as for the other laws of membership
 xor-digit : (a b : ℕ) → a < 2 → b < 2 → eqb (bitXor a b) 1 ≡ pick (eqb b 1) (not (eqb a 1)) (eqb a 1)
@@ -50,7 +45,9 @@ xor-digit (suc (suc a)) b h l = absurd (omega arith)
 
 inSet-xor : (x y s : ℕ) → inSet (bitXor x y) s ≡ pick (inSet y s) (not (inSet x s)) (inSet x s)
 unfolding inSet
-inSet-xor x y s = rw (xor-shr x y s, xor-mod (x / 2 ^ s) (y / 2 ^ s) 1) (xor-digit (x / 2 ^ s % 2) (y / 2 ^ s % 2) (omega arith) (omega arith))
+inSet-xor x y s =
+    rw (xor-shr x y s, xor-mod (x / 2 ^ s) (y / 2 ^ s) 1)
+    (xor-digit (x / 2 ^ s % 2) (y / 2 ^ s % 2) (omega arith) (omega arith))
 
 -- a set from which one of its members is taken
 pub without-other : (x k s : ℕ) → (k ≡ s → ⊥) → inSet (bitXor x (2 ^ k)) s ≡ inSet x s
@@ -75,15 +72,16 @@ pub all-below : (n s : ℕ) → inSet (2 ^ n - 1) s ≡ true → s < n
 all-below n s h = below-members (2 ^ n - 1) n s (ones-lt n) h
 
 module _ (chosen next : ℕ) (undecided : (i : ℕ) → i < next → inSet chosen i ≡ false) where
+  none-below : (s : ℕ) → inSet (bitAnd chosen (2 ^ next - 1)) s ≡ false
+  none-below s =
+      refuted _ (λ h.
+      let both = sym (inSet-and chosen (2 ^ next - 1) s) ∙ h in
+      let own = undecided s (all-below next s (and-second (inSet chosen s) _ both)) in
+      false-true (sym own ∙ and-first _ _ both))
+
   no-rest : chosen % 2 ^ next ≡ 0
-  no-rest = sym (and-mask chosen next) ∙ same-members (bitAnd chosen (2 ^ next - 1)) 0
-      (λ s. go s (inSet (2 ^ next - 1) s) refl)
-    where
-      go : (s : ℕ) (b : Bool) → inSet (2 ^ next - 1) s ≡ b → inSet (bitAnd chosen (2 ^ next - 1)) s ≡ inSet 0 s
-      go s true e = inSet-and chosen (2 ^ next - 1) s ∙ and-is-off _ (undecided s (all-below next s e)) ∙ sym
-          (inSet-zero s)
-      go s false e = inSet-and chosen (2 ^ next - 1) s ∙ ap (_and_ (inSet chosen s)) e ∙ and-false
-          (inSet chosen s) ∙ sym (inSet-zero s)
+  no-rest =
+      sym (and-mask chosen next) ∙ same-members (bitAnd chosen (2 ^ next - 1)) 0 (λ s. none-below s ∙ sym (inSet-zero s))
 
   -- a set of credentials below `next` joins by its number
   pub joins : (r : ℕ) → r < 2 ^ next → bitOr chosen r ≡ chosen + r
@@ -131,16 +129,14 @@ module _ (chosen next : ℕ) (undecided : (i : ℕ) → i < next → inSet chose
       (part-or-right chosen (2 ^ (next - 1)))
       (own-bit (next - 1))
 
-  pub upper-own : (M : ℕ) → bitOr chosen (2 ^ (next - 1)) ≤ M → M < bitOr chosen (2 ^ (next - 1)) + 2 ^ (next - 1) → inSet M (next - 1) ≡ true
+  pub upper-own : (M : ℕ) → bitOr chosen (2 ^ (next - 1)) ≤ M → M < bitOr chosen (2 ^ (next - 1)) + 2 ^ (next - 1)
+      → inSet M (next - 1) ≡ true
   upper-own M from upto =
       part-member (bitOr chosen (2 ^ (next - 1))) M (next - 1)
       (block-part (bitOr chosen (2 ^ (next - 1))) (next - 1) upper-undecided M from upto) upper-has
 
   pub lower-without : (M : ℕ) → chosen ≤ M → M < chosen + 2 ^ (next - 1) → inSet M (next - 1) ≡ false
-  lower-without M from upto = go (inSet M (next - 1)) refl
-    where
-      go : (b : Bool) → inSet M (next - 1) ≡ b → inSet M (next - 1) ≡ false
-      go true e =
-          let there = block-decided chosen (next - 1) lower-undecided M from upto (next - 1) (omega arith) e in
-          absurd (false-true (sym (undecided (next - 1) (omega arith)) ∙ there))
-      go false e = e
+  lower-without M from upto =
+      refuted (inSet M (next - 1)) (λ e.
+      let there = block-decided chosen (next - 1) lower-undecided M from upto (next - 1) (omega arith) e in
+      false-true (sym (undecided (next - 1) (omega arith)) ∙ there))

@@ -62,7 +62,16 @@ module _ (cells count : ℕ) where
       from (listed l fits e) h = absurd (omega arith)
 
   -- otherwise their number
-  pub otherwise-counted : (counted cells count ≡ refused 9 0 → ⊥) → (counted cells count ≡ refused 10 0 → ⊥) → counted cells count ≡ accepted count
+  pub listed-counted : 0 < count → count ≤ cells → counted cells count ≡ accepted count
+  listed-counted some fits = go (counts cells count)
+    where
+      go : Counts cells count → counted cells count ≡ accepted count
+      go (none z e) = absurd (omega arith)
+      go (longer l e) = absurd (omega arith)
+      go (listed l fits e) = e
+
+  pub otherwise-counted : (counted cells count ≡ refused 9 0 → ⊥) → (counted cells count ≡ refused 10 0 → ⊥)
+      → counted cells count ≡ accepted count
   otherwise-counted some short = go (counts cells count)
     where
       go : Counts cells count → counted cells count ≡ accepted count

@@ -24,17 +24,21 @@ use Rattle.listing.proofs.Ascending.{one-place}
 use Rattle.listing.proofs.Minimals.{admitted-includes, minimal-sets, one-minimal-list}
 use Rattle.listing.proofs.Lists.{laid-at, laid-beyond, laid-fills, laid-length, laid-none}
 use Rattle.listing.proofs.Counting.{accepted-counted, more-counted, none-counted, otherwise-counted}
+use Rattle.listing.proofs.Whole.{buffer-accepted, buffer-refused}
 use Rattle.listing.proofs.Stopping.{passes-or-stops, request-stage, table-stage}
 
 module _ (t : List ℕ) (wf : WellFormed t) (q : Query) (valid : Valid q) where
   -- rows 1 to 8 find nothing: the count of minimal sets is told, and they are laid into the buffer
+  passes : requestOutcome t q ≡ accepted 0
+  unfolding requestOutcome _andThen_
+  passes = rw (wf, valid)
+
   listing-counts : (cells : ℕ) → listing t q cells ≡ counted cells (length (minimalSets t q))
-  unfolding listing requestOutcome _andThen_
-  listing-counts cells = rw (wf, valid)
+  unfolding listing _andThen_
+  listing-counts cells = rw passes
 
   buffer-laid : (buffer : List ℕ) → bufferAfter t q buffer ≡ laid (minimalSets t q) buffer
-  unfolding bufferAfter afterwards requestOutcome _andThen_
-  buffer-laid buffer = rw (wf, valid)
+  buffer-laid buffer = buffer-accepted t q buffer passes
 
   module _ (sets : List ℕ) (m : MinimalSets t q sets) where
     -- there is no minimal set exactly where no record is accepted
@@ -57,8 +61,7 @@ module _ (t : List ℕ) (wf : WellFormed t) (q : Query) (valid : Valid q) where
         record {
           full = λ S small. ((λ (i, l, within). (getD (laid sets buffer) i 0, used-cell i l, within)), includes S);
           used = used-cell;
-          apart = λ i j l l′ within. one-place sets (m .ascending) i j l l′
-              (m .only j l′ .least _ (m .only i l .used) (rw (cell i l, cell j l′) at within));
+          apart = apart;
           ascending = λ i j less l. rw (cell i (omega arith), cell j l) (m .ascending i j less l);
           fits = omega (arith, laid-length sets buffer);
           size = laid-length sets buffer;
@@ -76,6 +79,12 @@ module _ (t : List ℕ) (wf : WellFormed t) (q : Query) (valid : Valid q) where
             let (M, minimal, within) = admitted-includes t wf q valid S admitted in
             let (i, l, e) = m .every M minimal in
             (i, l, rw (cell i l, e) within)
+
+        apart : (i j : ℕ) → i < length sets → j < length sets
+            → part (getD (laid sets buffer) i 0) (getD (laid sets buffer) j 0) ≡ true → i ≡ j
+        apart i j l l′ within =
+            let same = m .only j l′ .least _ (m .only i l .used) (rw (cell i l, cell j l′) at within) in
+            one-place sets (m .ascending) i j l l′ same
 
 demand-three : (t : List ℕ) (q : Query) (buffer : List ℕ) → WellFormed t → Valid q → DemandThree t q buffer
 demand-three t q buffer wf valid =
@@ -107,21 +116,15 @@ demand-three t q buffer wf valid =
     whole v (same, room) = (same, rw same (laid-listed t wf q valid sets m buffer room))
 
 -- where rows 1 to 8 refuse, every call tells that, and the buffer is unchanged
-module _ (t : List ℕ) (q : Query) (number position : ℕ) (e : requestOutcome t q ≡ refused number position) where
-  verdict-stopped : (rec : List ℕ) → verdict t q rec ≡ refused number position
-  unfolding verdict _andThen_
-  verdict-stopped rec = rw e
-
-  listing-stopped : (cells : ℕ) → listing t q cells ≡ refused number position
-  unfolding listing _andThen_
-  listing-stopped cells = rw e
-
-  buffer-stopped : (buffer : List ℕ) → bufferAfter t q buffer ≡ buffer
-  unfolding bufferAfter afterwards
-  buffer-stopped buffer = rw e
+all-stopped : (t : List ℕ) (q : Query) (rec buffer : List ℕ) (number position : ℕ) → requestOutcome t q ≡ refused number position
+    → (verdict t q rec ≡ refused number position) × (listing t q (length buffer) ≡ refused number position)
+    × (bufferAfter t q buffer ≡ buffer)
+unfolding verdict listing _andThen_
+all-stopped t q rec buffer number position e = (rw e, rw e, buffer-refused t q buffer e)
 
 -- with 9 nothing is laid
-none-laid : (o : Outcome) (sets buffer : List ℕ) → (o andThen counted (length buffer) (length sets)) ≡ refused 9 0 → afterwards o sets buffer ≡ buffer
+none-laid : (o : Outcome) (sets buffer : List ℕ) → (o andThen counted (length buffer) (length sets)) ≡ refused 9 0
+    → afterwards o sets buffer ≡ buffer
 unfolding afterwards _andThen_
 none-laid (accepted v) sets buffer e = laid-none sets buffer (none-counted (length buffer) (length sets) .0 e)
 none-laid (refused number position) sets buffer e = refl
@@ -131,14 +134,17 @@ unfolding listing bufferAfter
 none-unchanged t q buffer e = none-laid (requestOutcome t q) (minimalSets t q) buffer e
 
 -- with 10 the buffer is filled with the first sets of the one list of minimal sets
-first-sets : (t : List ℕ) (q : Query) (buffer : List ℕ) → WellFormed t → Valid q → listing t q (length buffer) ≡ refused 10 0 → (sets : List ℕ) → MinimalSets t q sets → bufferAfter t q buffer ≡ take (length buffer) sets
+first-sets : (t : List ℕ) (q : Query) (buffer : List ℕ) → WellFormed t → Valid q → listing t q (length buffer) ≡ refused 10 0
+    → (sets : List ℕ) → MinimalSets t q sets → bufferAfter t q buffer ≡ take (length buffer) sets
 first-sets t q buffer wf valid e sets m =
     let more = more-counted (length buffer) _ .0 (sym (listing-counts t wf q valid (length buffer)) ∙ e) in
     let same = one-minimal-list t q (minimalSets t q) sets (minimal-sets t wf q valid) m in
     buffer-laid t wf q valid buffer ∙ laid-fills (minimalSets t q) buffer (omega arith) ∙ ap (take (length buffer)) same
 
 -- a verdict, with what refuses the record where it does
-judged-or-refused : (t : List ℕ) (q : Query) (rec : List ℕ) → WellFormed t → Valid q → (o : Outcome) → verdict t q rec ≡ o → OneOf ((S : ℕ) × (verdict t q rec ≡ accepted S)) ((number position : ℕ) × (verdict t q rec ≡ refused number position) × Refuses t q rec number position)
+judged-or-refused : (t : List ℕ) (q : Query) (rec : List ℕ) → WellFormed t → Valid q → (o : Outcome) → verdict t q rec ≡ o
+    → OneOf ((S : ℕ) × (verdict t q rec ≡ accepted S))
+    ((number position : ℕ) × (verdict t q rec ≡ refused number position) × Refuses t q rec number position)
 judged-or-refused t q rec wf valid (accepted S) e = first (S, e)
 judged-or-refused t q rec wf valid (refused number position) e =
     second (number, position, e, every-refusal t q rec number position wf valid .0 e)
@@ -148,11 +154,7 @@ demand-one t q rec buffer =
     record {
       table = passes-or-stops 7 (tableOutcome t) (table-stage 7 t (omega arith)) (λ e. e);
       request = passes-or-stops 8 (requestOutcome t q) (request-stage 8 t q (omega arith)) (request-accepted t q);
-      stopped = λ number position e. (
-        verdict-stopped t q number position e rec,
-        listing-stopped t q number position e (length buffer),
-        buffer-stopped t q number position e buffer,
-      );
+      stopped = all-stopped t q rec buffer;
       verdicts = λ wf valid. judged-or-refused t q rec wf valid (verdict t q rec) refl;
       unchanged = none-unchanged t q buffer;
       filled = first-sets t q buffer;

@@ -15,6 +15,10 @@ use Rattle.listing.proofs.Lists.{laid-again, laid-at, laid-full, laid-l
 use Rattle.listing.proofs.Ascending.{those-numbers}
 use Rattle.listing.proofs.Minimality.{Bare}
 
+-- the minimal sets below x
+abbrev minimals : List ℕ → Query → ℕ → List ℕ
+minimals t q x = those (isMinimal t q) x
+
 module _ (t : List ℕ) (q : Query) where
   -- nothing is found below 0
   pub found-none : (buffer : List ℕ) → Found t q 0 buffer 0
@@ -26,15 +30,17 @@ module _ (t : List ℕ) (q : Query) where
       record { held = sym (f .held); count = λ fits. f .count; longer = λ long. absurd (omega (arith, f .fits)) }
 
   pub upto-length : (x : ℕ) (before after : List ℕ) (found : ℕ) → FoundUpTo t q x before after found → length after ≡ length before
-  upto-length x before after found u = ap length (u .held) ∙ laid-length (those (isMinimal t q) x) before
+  upto-length x before after found u = ap length (u .held) ∙ laid-length (minimals t q x) before
 
-  relaid : (x y : ℕ) (before after : List ℕ) → x ≤ y → after ≡ laid (those (isMinimal t q) x) before → laid (those (isMinimal t q) y) after ≡ laid (those (isMinimal t q) y) before
+  relaid : (x y : ℕ) (before after : List ℕ) → x ≤ y → after ≡ laid (minimals t q x) before
+      → laid (minimals t q y) after ≡ laid (minimals t q y) before
   relaid x y before after le held =
       let begun = those-begin (isMinimal t q) x y le in
-      rw (held, begun .1) (laid-again (those (isMinimal t q) x) (begun .0) before)
+      rw (held, begun .1) (laid-again (minimals t q x) (begun .0) before)
 
   -- the buffer was long enough
-  pub upto-found : (x : ℕ) (before after : List ℕ) (found : ℕ) → FoundUpTo t q x before after found → found ≤ length before → Found t q x after found
+  pub upto-found : (x : ℕ) (before after : List ℕ) (found : ℕ) → FoundUpTo t q x before after found → found ≤ length before
+      → Found t q x after found
   upto-found x before after found u fits =
       record {
         count = u .count fits;
@@ -42,30 +48,30 @@ module _ (t : List ℕ) (q : Query) where
         held = relaid x x before after (omega arith) (u .held) ∙ sym (u .held);
       }
 
-  pub upto-same : (x : ℕ) (before after after′ : List ℕ) (found found′ : ℕ) → FoundUpTo t q x before after found → after′ ≡ after → found′ ≡ found → FoundUpTo t q x before after′ found′
+  pub upto-same : (x : ℕ) (before after after′ : List ℕ) (found found′ : ℕ) → FoundUpTo t q x before after found
+      → after′ ≡ after → found′ ≡ found → FoundUpTo t q x before after′ found′
   upto-same x before after after′ found found′ u e n = rw (e, n) u
 
   -- a stretch with nothing minimal
-  pub upto-bare : (x y : ℕ) (before after : List ℕ) (found : ℕ) → FoundUpTo t q x before after found → x ≤ y → Bare t q x y → FoundUpTo t q y before after found
+  pub upto-bare : (x y : ℕ) (before after : List ℕ) (found : ℕ) → FoundUpTo t q x before after found → x ≤ y → Bare t q x y
+      → FoundUpTo t q y before after found
   upto-bare x y before after found u le bare =
       let same = those-none (isMinimal t q) x y le bare in
       record { held = rw same (u .held); count = rw same (u .count); longer = rw same (u .longer) }
 
   -- a buffer that is too short stays as it is
-  pub upto-full : (x y : ℕ) (before after : List ℕ) (found : ℕ) → FoundUpTo t q x before after found → x ≤ y → length before < found → FoundUpTo t q y before after found
+  pub upto-full : (x y : ℕ) (before after : List ℕ) (found : ℕ) → FoundUpTo t q x before after found → x ≤ y
+      → length before < found → FoundUpTo t q y before after found
   upto-full x y before after found u le long =
-      let begun = those-begin (isMinimal t q) x y le in
-      let sum = length-append (those (isMinimal t q) x) (begun .0) in
       let short = u .longer long in
-      record {
-        held = u .held ∙ sym (ap (λ (l : List ℕ). laid l before) (begun .1) ∙ laid-full (those (isMinimal t q) x)
-            (begun .0) before (omega arith));
-        count = λ fits. absurd (omega arith);
-        longer = λ l. omega (arith, ap length (begun .1));
-      }
+      let (rest, begun) = those-begin (isMinimal t q) x y le in
+      let same = ap (λ (l : List ℕ). laid l before) begun ∙ laid-full (minimals t q x) rest before (omega arith) in
+      let more = ap length begun ∙ length-append (minimals t q x) rest in
+      record { held = u .held ∙ sym same; count = λ fits. absurd (omega arith); longer = λ l. omega arith }
 
   -- one stretch after another
-  pub upto-then : (x y : ℕ) (before middle after : List ℕ) (found found′ : ℕ) → FoundUpTo t q x before middle found → x ≤ y → FoundUpTo t q y middle after found′ → FoundUpTo t q y before after found′
+  pub upto-then : (x y : ℕ) (before middle after : List ℕ) (found found′ : ℕ) → FoundUpTo t q x before middle found → x ≤ y
+      → FoundUpTo t q y middle after found′ → FoundUpTo t q y before after found′
   upto-then x y before middle after found found′ u le v =
       let same = upto-length x before middle found u in
       record {
@@ -75,38 +81,33 @@ module _ (t : List ℕ) (q : Query) where
       }
 
   -- one set more, which is the next number
-  pub upto-put : (x : ℕ) (before after : List ℕ) (found found′ : ℕ) → Found t q x before found → isMinimal t q x ≡ true → found′ ≡ found + 1 → after ≡ set before found x → FoundUpTo t q (suc x) before after found′
+  pub upto-put : (x : ℕ) (before after : List ℕ) (found found′ : ℕ) → Found t q x before found → isMinimal t q x ≡ true
+      → found′ ≡ found + 1 → after ≡ set before found x → FoundUpTo t q (suc x) before after found′
   upto-put x before after found found′ f m e s =
       let next = those-takes (isMinimal t q) x m in
-      let sum = length-append (those (isMinimal t q) x) (x ∷ []) in
-      let count : found′ ≡ length (those (isMinimal t q) (suc x)) = omega (arith, ap length next, f .count) in
-      record {
-        held = s ∙ ap (λ (n : ℕ). set before n x) (f .count) ∙ sym
-            (ap (λ (l : List ℕ). laid l before) next ∙ laid-next (those (isMinimal t q) x) before x (f .held));
-        count = λ fits. count;
-        longer = λ long. omega arith;
-      }
+      let more = ap length next ∙ length-append (minimals t q x) (x ∷ []) in
+      let put = ap (λ (n : ℕ). set before n x) (f .count) in
+      let laid-on = ap (λ (l : List ℕ). laid l before) next ∙ laid-next (minimals t q x) before x (f .held) in
+      record { held = s ∙ put ∙ sym laid-on; count = λ fits. omega (arith, f .count); longer = λ long. omega (arith, f .count) }
 
   -- the buffer's cells hold minimal sets below x, and every one of these
   module _ (x : ℕ) (buffer : List ℕ) (found : ℕ) (f : Found t q x buffer found) where
-    found-at : (i : ℕ) → i < found → getD buffer i 0 ≡ getD (those (isMinimal t q) x) i 0
+    found-at : (i : ℕ) → i < found → getD buffer i 0 ≡ getD (minimals t q x) i 0
     found-at i l =
         ap (λ (b : List ℕ). getD b i 0) (sym (f .held))
-        ∙ laid-at (those (isMinimal t q) x) buffer (omega (arith, f .count, f .fits)) i (omega (arith, f .count))
+        ∙ laid-at (minimals t q x) buffer (omega (arith, f .count, f .fits)) i (omega (arith, f .count))
 
-    pub found-part : (S : ℕ) → anyBelow (λ i. part (getD buffer i 0) S) found ≡ true → (M : ℕ) × (M < x) × (isMinimal t q M ≡ true) × (part M S ≡ true)
+    pub found-part : (S : ℕ) → anyBelow (λ i. part (getD buffer i 0) S) found ≡ true
+        → (M : ℕ) × (M < x) × (isMinimal t q M ≡ true) × (part M S ≡ true)
     found-part S h =
-        let some = any-shows (λ i. part (getD buffer i 0) S) found h in
-        let there = those-numbers (isMinimal t q) x in
-        let l : some .0 < length (those (isMinimal t q) x) = omega (arith, f .count, some .1) in (
-          getD (those (isMinimal t q) x) (some .0) 0,
-          there .below (some .0) l,
-          there .only (some .0) l,
-          ap (λ (M : ℕ). part M S)
-              (sym (found-at (some .0) (some .1))) ∙ some .2,
-        )
+        let (i, l, within) = any-shows (λ i. part (getD buffer i 0) S) found h in
+        let same = ap (λ (M : ℕ). part M S) (sym (found-at i l)) in
+        let all = those-numbers (isMinimal t q) x in
+        let there : i < length (minimals t q x) = omega (arith, f .count) in
+        (getD (minimals t q x) i 0, all .below i there, all .only i there, same ∙ within)
 
-    pub found-apart : (S : ℕ) → anyBelow (λ i. part (getD buffer i 0) S) found ≡ false → (M : ℕ) → M < x → isMinimal t q M ≡ true → part M S ≡ false
+    pub found-apart : (S : ℕ) → anyBelow (λ i. part (getD buffer i 0) S) found ≡ false → (M : ℕ) → M < x
+        → isMinimal t q M ≡ true → part M S ≡ false
     found-apart S h M l m =
         let at = those-numbers (isMinimal t q) x .every M l m in
         let there : at .0 < found = omega (arith, f .count, at .1) in

@@ -24,7 +24,8 @@ use Rattle.listing.specs.declared.Listing.{Listing}
 use Rattle.listing.specs.declared.Listing.the-variants as listing′
 
 -- two bytes are left, or fewer
-numbers-two : (s : List ℕ) (k : ℕ) → suc k < length s → numbersOf (drop k s) ≡ numberOf (getD s k 0) (getD s (suc k) 0) ∷ numbersOf (drop (suc (suc k)) s)
+numbers-two : (s : List ℕ) (k : ℕ) → suc k < length s
+    → numbersOf (drop k s) ≡ numberOf (getD s k 0) (getD s (suc k) 0) ∷ numbersOf (drop (suc (suc k)) s)
 unfolding numbersOf
 numbers-two s k h = rw (drop-cons s k 0 (omega arith), drop-cons s (suc k) 0 h)
 
@@ -42,14 +43,17 @@ pub decoded-none : (bytes places : List ℕ) → decodedUpTo bytes places 0 ≡ 
 unfolding decodedUpTo
 decoded-none bytes places = refl
 
-pub decoded-next : (bytes places : List ℕ) (i : ℕ) (x : ℕ) → i < length bytes / 2 → i < length places → x ≡ numberOf (getD bytes (2 * i) 0) (getD bytes (2 * i + 1) 0) → decodedUpTo bytes (set places i x) (i + 1) ≡ decodedUpTo bytes places i
+pub decoded-next : (bytes places : List ℕ) (i : ℕ) (x : ℕ) → i < length bytes / 2 → i < length places
+    → x ≡ numberOf (getD bytes (2 * i) 0) (getD bytes (2 * i + 1) 0)
+    → decodedUpTo bytes (set places i x) (i + 1) ≡ decodedUpTo bytes places i
 unfolding decodedUpTo
 decoded-next bytes places i x h room e =
     let twice : 2 * (i + 1) ≡ suc (suc (2 * i)) = omega arith in
     let after : 2 * i + 1 ≡ suc (2 * i) = omega arith in
     rw (twice, add-one i, take-suc-set places i x room, append-assoc, e, after, numbers-two bytes (2 * i) (omega arith))
 
-pub decoded-all : (bytes places : List ℕ) (i : ℕ) → i ≤ length bytes / 2 → length bytes / 2 ≤ i → decodedUpTo bytes places i ≡ numbersOf bytes → take (length bytes / 2) places ≡ numbersOf bytes
+pub decoded-all : (bytes places : List ℕ) (i : ℕ) → i ≤ length bytes / 2 → length bytes / 2 ≤ i
+    → decodedUpTo bytes places i ≡ numbersOf bytes → take (length bytes / 2) places ≡ numbersOf bytes
 unfolding decodedUpTo
 decoded-all bytes places i h through e =
     let same : length bytes / 2 ≡ i = omega arith in
@@ -77,7 +81,8 @@ abbrev pub Answers : List ℕ → List ℕ → List ℕ → Listing → Type 0
 Answers bytes before after r = (listingTold r ≡ inputOutcome bytes (length before)) × (after ≡ inputBuffer bytes before)
 
 -- the part of the numbers after the query is the table
-pub lists-rest : (s before after : List ℕ) (q : Query) (r : Listing) → Lists (take (length s - querySize) (drop querySize s)) q before after r → Lists (tableOf s) q before after r
+pub lists-rest : (s before after : List ℕ) (q : Query) (r : Listing)
+    → Lists (take (length s - querySize) (drop querySize s)) q before after r → Lists (tableOf s) q before after r
 lists-rest s before after q r h =
     let rest = take-all (length s - querySize) (drop querySize s) (simp length-drop (omega arith)) in
     rw rest at h
@@ -96,12 +101,14 @@ module _ (bytes read : List ℕ) (counts : read ≡ countedBytes bytes) where
   answers-unwhole before h = rw (← counts, h) (refl, refl)
 
   -- and of an input, by its numbers
-  pub answers-whole : (before numbers after : List ℕ) (r : Listing) → isWhole read ≡ true → numbers ≡ numbersOf read → Lists (tableOf numbers) (queryOf numbers) before after r → Answers bytes before after r
+  pub answers-whole : (before numbers after : List ℕ) (r : Listing) → isWhole read ≡ true → numbers ≡ numbersOf read
+      → Lists (tableOf numbers) (queryOf numbers) before after r → Answers bytes before after r
   unfolding inputOutcome inputBuffer pick demand _andThen_
   answers-whole before numbers after r h e lists = rw (← counts, ← e, h) lists
 
 -- a list that is told fits into the buffer
-pub listed-fits : (bytes before after : List ℕ) (r : Listing) (count : ℕ) → r ≡ listing′.Listed count → listingTold r ≡ inputOutcome bytes (length before) → length after ≡ length before → count ≤ length after
+pub listed-fits : (bytes before after : List ℕ) (r : Listing) (count : ℕ) → r ≡ listing′.Listed count
+    → listingTold r ≡ inputOutcome bytes (length before) → length after ≡ length before → count ≤ length after
 unfolding inputOutcome listing listingTold
 listed-fits bytes before after r count is told same =
     let counts = then-second (demand (isWhole _) 1 0) _ count (sym told ∙ ap listingTold is) in

@@ -4,13 +4,20 @@ use mathlib.Core.List.{List, [], _∷_, _++_, append-nil, append-assoc}
 use mathlib.Core.Bool.{Bool, true, false}
 use Prim.Native.Nat.{ℕ, zero, suc, _+_, _-_, _<_, _≤_}
 use native.Mathlib.Omega.{arith}
-use native.Mathlib.Decide.{ℕ-discrete}
-use lib.Dec.{ltb}
+use native.Mathlib.Decide.{ℕ-discrete, decLt}
+use native.Mathlib.Numerals.{add-one}
 use lib.ListN.{drop, getD, length, set, take, drop-of-length-le, length-append, length-drop, length-take, List·getD-append}
 use lib.Seq.{getD-append-add, getD-drop, drop-append-add, drop-drop, set-out, set-split, take-all, take-append-le, take-at, take-nil}
-use borrow.Author.Tests.{ltb-true, ltb-false}
 use Rattle.table.specs.Logic.{pick}
 use Rattle.listing.specs.Minimal.{laid, those}
+
+-- one number is less than another, or it is not
+pub less-or-not : {A : Type 0} (m n : ℕ) → (m < n → A) → (n ≤ m → A) → A
+less-or-not {A} m n less not-less = go (decLt m n)
+  where
+    go : Dec (m < n) → A
+    go (yes h) = less h
+    go (no h) = not-less (omega arith)
 
 module _ (p : ℕ → Bool) where
   those-skips : (n : ℕ) → p n ≡ false → those p (suc n) ≡ those p n
@@ -33,16 +40,21 @@ those-none p x (suc n) le none = go (ℕ-discrete x (suc n)) (those-none p x n)
         ∙ before (omega arith) (λ k h l. none k h (omega arith))
 
 -- the list up to x begins the list up to y
+abbrev Begins : (ℕ → Bool) → ℕ → ℕ → Type 0
+Begins p x y = (rest : List ℕ) × (those p y ≡ those p x ++ rest)
+
+begin-more : (p : ℕ → Bool) (x n : ℕ) → Begins p x n → (b : Bool) → p n ≡ b → Begins p x (suc n)
+begin-more p x n (rest, e) true h =
+    (rest ++ (n ∷ []), those-takes p n h ∙ rw e (append-assoc (those p x) rest (n ∷ [])))
+begin-more p x n (rest, e) false h = (rest, those-skips p n h ∙ e)
+
 pub those-begin : (p : ℕ → Bool) (x y : ℕ) → x ≤ y → (rest : List ℕ) × (those p y ≡ those p x ++ rest)
 those-begin p x zero le = let e : x ≡ 0 = omega arith in ([], rw e (sym (append-nil _)))
-those-begin p x (suc n) le = go (ℕ-discrete x (suc n)) (those-begin p x n) (p n) refl
+those-begin p x (suc n) le = go (ℕ-discrete x (suc n)) (those-begin p x n)
   where
-    go : Dec (x ≡ suc n) → (x ≤ n → (rest : List ℕ) × (those p n ≡ those p x ++ rest)) → (b : Bool) → p n ≡ b → (rest : List ℕ) × (those p (suc n) ≡ those p x ++ rest)
-    go (yes e) before b h = ([], ap (those p) (sym e) ∙ sym (append-nil (those p x)))
-    go (no e) before true h =
-        let begun = before (omega arith) in
-        (begun .0 ++ (n ∷ []), those-takes p n h ∙ rw (begun .1) (append-assoc (those p x) (begun .0) (n ∷ [])))
-    go (no e) before false h = let begun = before (omega arith) in (begun .0, those-skips p n h ∙ begun .1)
+    go : Dec (x ≡ suc n) → (x ≤ n → Begins p x n) → Begins p x (suc n)
+    go (yes e) before = ([], ap (those p) (sym e) ∙ sym (append-nil (those p x)))
+    go (no e) before = begin-more p x n (before (omega arith)) (p n) refl
 
 -- a buffer's length stays
 pub laid-length : (sets buffer : List ℕ) → length (laid sets buffer) ≡ length buffer
@@ -70,47 +82,48 @@ laid-full sets rest buffer long =
     ∙ sym (laid-fills sets buffer long)
 
 -- laying a longer list over a list that begins it
-laid-alike : (sets before after : List ℕ) → length after ≡ length before → drop (length sets) after ≡ drop (length sets) before → laid sets after ≡ laid sets before
+laid-alike : (sets before after : List ℕ) → length after ≡ length before → drop (length sets) after ≡ drop (length sets) before
+    → laid sets after ≡ laid sets before
 unfolding laid
 laid-alike sets before after size beyond = rw (size, beyond)
 
-beyond-laid : (sets rest buffer : List ℕ) → drop (length (sets ++ rest)) (laid sets buffer) ≡ drop (length (sets ++ rest)) buffer
-beyond-laid sets rest buffer = go (ltb (length buffer) (length sets)) refl
-  where
-    go : (b : Bool) → ltb (length buffer) (length sets) ≡ b → drop (length (sets ++ rest)) (laid sets buffer) ≡ drop (length (sets ++ rest)) buffer
-    go true e =
-        let l = ltb-true (length buffer) (length sets) e in
-        let sum = length-append sets rest in
-        drop-of-length-le (laid sets buffer) {i = length (sets ++ rest)} (omega (arith, laid-length sets buffer))
-        ∙ sym (drop-of-length-le buffer {i = length (sets ++ rest)} (omega arith))
-    go false e =
-        rw (length-append sets rest, laid-whole sets buffer (ltb-false (length buffer) (length sets) e))
-        (drop-append-add sets (drop (length sets) buffer) (length rest) ∙ drop-drop (length rest) (length sets)
-        buffer)
+module _ (sets rest buffer : List ℕ) where
+  beyond-whole : length sets ≤ length buffer → drop (length (sets ++ rest)) (laid sets buffer) ≡ drop (length (sets ++ rest)) buffer
+  beyond-whole fits =
+      rw (length-append sets rest, laid-whole sets buffer fits)
+      (drop-append-add sets (drop (length sets) buffer) (length rest) ∙ drop-drop (length rest) (length sets) buffer)
+
+  beyond-full : length buffer < length sets → drop (length (sets ++ rest)) (laid sets buffer) ≡ drop (length (sets ++ rest)) buffer
+  beyond-full full =
+      let sum = length-append sets rest in
+      drop-of-length-le (laid sets buffer) {i = length (sets ++ rest)} (omega (arith, laid-length sets buffer))
+      ∙ sym (drop-of-length-le buffer {i = length (sets ++ rest)} (omega arith))
+
+  beyond-laid : drop (length (sets ++ rest)) (laid sets buffer) ≡ drop (length (sets ++ rest)) buffer
+  beyond-laid = less-or-not (length buffer) (length sets) beyond-full beyond-whole
 
 pub laid-again : (sets rest buffer : List ℕ) → laid (sets ++ rest) (laid sets buffer) ≡ laid (sets ++ rest) buffer
 laid-again sets rest buffer =
     laid-alike (sets ++ rest) buffer (laid sets buffer) (laid-length sets buffer) (beyond-laid sets rest buffer)
 
 -- the next set goes into the next cell, where there is one
-pub laid-next : (sets buffer : List ℕ) (x : ℕ) → laid sets buffer ≡ buffer → laid (sets ++ (x ∷ [])) buffer ≡ set buffer (length sets) x
-laid-next sets buffer x held = go (ltb (length sets) (length buffer)) refl
-  where
-    go : (b : Bool) → ltb (length sets) (length buffer) ≡ b → laid (sets ++ (x ∷ [])) buffer ≡ set buffer (length sets) x
-    go true e =
-        let l = ltb-true (length sets) (length buffer) e in
-        let sum = length-append sets (x ∷ []) in
-        let more : length (sets ++ (x ∷ [])) ≡ suc (length sets) = omega arith in
-        let first : take (length sets) buffer ≡ sets =
-        ap (take (length sets)) (sym held ∙ laid-whole sets buffer (omega arith)) ∙ take-at sets
-        (drop (length sets) buffer) (length sets) refl in
-        laid-whole (sets ++ (x ∷ [])) buffer (omega arith)
-        ∙ rw (more) (append-assoc sets (x ∷ []) (drop (suc (length sets)) buffer))
-        ∙ sym (set-split buffer (length sets) x l ∙ ap (λ (l : List ℕ). l ++ x ∷ drop (suc (length sets)) buffer)
-        first)
-    go false e =
-        let l = ltb-false (length sets) (length buffer) e in
-        laid-full sets (x ∷ []) buffer l ∙ held ∙ sym (set-out buffer (length sets) x l)
+module _ (sets buffer : List ℕ) (x : ℕ) (held : laid sets buffer ≡ buffer) where
+  first-cells : length sets ≤ length buffer → take (length sets) buffer ≡ sets
+  first-cells fits =
+      ap (take (length sets)) (sym held ∙ laid-whole sets buffer fits) ∙ take-at sets (drop (length sets) buffer) (length sets) refl
+
+  laid-into : length sets < length buffer → laid (sets ++ (x ∷ [])) buffer ≡ set buffer (length sets) x
+  laid-into room =
+      let more : length (sets ++ (x ∷ [])) ≡ suc (length sets) = length-append sets (x ∷ []) ∙ add-one (length sets) in
+      let rest = drop (suc (length sets)) buffer in
+      laid-whole (sets ++ (x ∷ [])) buffer (omega arith)
+      ∙ rw more (append-assoc sets (x ∷ []) rest)
+      ∙ sym (set-split buffer (length sets) x room ∙ ap (λ (l : List ℕ). l ++ x ∷ rest) (first-cells (omega arith)))
+
+  pub laid-next : laid (sets ++ (x ∷ [])) buffer ≡ set buffer (length sets) x
+  laid-next =
+      less-or-not (length sets) (length buffer) laid-into
+      (λ full. laid-full sets (x ∷ []) buffer full ∙ held ∙ sym (set-out buffer (length sets) x full))
 
 -- the cells of a list that fits, and those beyond it
 module _ (sets buffer : List ℕ) (fits : length sets ≤ length buffer) where

@@ -1,19 +1,18 @@
 -- What minimal sets are, by the promises of derivations, and where a block has none of them.
-use mathlib.Core.Path.{_≡_, refl, sym, ap, _∙_}
+use mathlib.Core.Path.{_≡_, sym, ap, _∙_}
 use mathlib.Core.List.{List}
-use mathlib.Core.Bool.{Bool, true, false, not}
+use mathlib.Core.Bool.{true, false, not}
 use Prim.Native.Nat.{ℕ, zero, suc, _+_, _-_, _^_, _<_, _≤_}
 use native.Mathlib.Omega.{arith}
 use native.Mathlib.Decide.{ℕ-discrete}
 use lib.Bits.{bitOr, bitXor}
-use lib.Dec.{ltb}
 use lib.Pow.{pow-lt}
-use borrow.Author.Tests.{ltb-true, ltb-false, not-true}
+use borrow.Author.Tests.{not-true}
 use Rattle.table.specs.Logic.{_and_, anyBelow}
 use Rattle.table.specs.Layout.{credentials}
 use Rattle.table.specs.Checks.{WellFormed}
 use Rattle.table.specs.declared.Query.{Query}
-use Rattle.table.proofs.Tests.{and-both, and-first, and-second, any-none, any-not, any-shows, false-true}
+use Rattle.table.proofs.Tests.{and-both, and-first, and-second, any-none, any-not, false-true}
 use Rattle.automata.specs.Sets.{inSet, part}
 use Rattle.automata.proofs.Members.{part-antisym, part-le, part-member, part-or-left, part-refl, part-shown, part-trans}
 use Rattle.derivation.specs.Tally.{automataOf}
@@ -22,17 +21,14 @@ use Rattle.derivation.specs.Verdict.{Accepted}
 use Rattle.listing.specs.Minimal.{admits, isMinimal}
 use Rattle.listing.specs.Below.{Decided, Promising, promising}
 use Rattle.search.proofs.Searching.{provable-mono}
+use Rattle.search.proofs.Trying.{any-or-none, refuted}
+use Rattle.listing.proofs.Lists.{less-or-not}
 use Rattle.search.proofs.Admitting.{accepted-provable, automata-mono, provable-accepted, relevant-used}
 use Rattle.listing.proofs.Blocks.{block-part, halves, lower-undecided, lower-without, part-without, upper-ends, upper-has, upper-own, upper-joins, upper-undecided, without-other, without-own}
 
 -- no minimal set stands from x up to y
 abbrev pub Bare : List ℕ → Query → ℕ → ℕ → Type 0
 Bare t q x y = (k : ℕ) → x ≤ k → k < y → isMinimal t q k ≡ false
-
--- a test that no case passes
-refuted : (b : Bool) → (b ≡ true → ⊥) → b ≡ false
-refuted true h = absurd (h refl)
-refuted false h = refl
 
 module _ (t : List ℕ) (q : Query) where
   pub minimal-admits : (M : ℕ) → isMinimal t q M ≡ true → admits t q M ≡ true
@@ -64,14 +60,12 @@ module _ (t : List ℕ) (q : Query) where
   -- a set that admits a record includes a minimal one: itself, or one that a lesser part includes
   within : (n S : ℕ) → S < n → admits t q S ≡ true → (M : ℕ) × (isMinimal t q M ≡ true) × (part M S ≡ true)
   within zero S l a = absurd (omega arith)
-  within (suc n) S l a = go (anyBelow (λ T. part T S and admits t q T) S) refl (within n)
-    where
-      go : (b : Bool) → anyBelow (λ T. part T S and admits t q T) S ≡ b → ((T : ℕ) → T < n → admits t q T ≡ true → (M : ℕ) × (isMinimal t q M ≡ true) × (part M T ≡ true)) → (M : ℕ) × (isMinimal t q M ≡ true) × (part M S ≡ true)
-      go true e lesser =
-          let some = any-shows (λ T. part T S and admits t q T) S e in
-          let least = lesser (some .0) (omega (arith, some .1)) (and-second (part (some .0) S) _ (some .2)) in
-          (least .0, least .1, part-trans (least .0) (some .0) S (least .2) (and-first _ _ (some .2)))
-      go false e lesser = (S, minimal-none S a e, part-refl S)
+  within (suc n) S l a =
+      any-or-none (λ T. part T S and admits t q T) S
+      (λ T less there.
+      let (M, minimal, inside) = within n T (omega arith) (and-second (part T S) _ there) in
+      (M, minimal, part-trans M T S inside (and-first _ _ there)))
+      (λ none. (S, minimal-none S a none, part-refl S))
 
   pub minimal-within : (S : ℕ) → admits t q S ≡ true → (M : ℕ) × (isMinimal t q M ≡ true) × (part M S ≡ true)
   minimal-within S a = within (suc S) S (omega arith) a
@@ -95,7 +89,9 @@ module _ (t : List ℕ) (q : Query) (chosen next : ℕ) (undecided : (i : ℕ) �
       let same = minimal-least t q M m S among (minimal-admits t q S s) in omega arith)
 
   -- what is chosen is not usable, or its constraints cannot be met
-  pub bare-unpromising : WellFormed t → (usable : ℕ) → ((M : ℕ) → isMinimal t q M ≡ true → chosen ≤ M → M < chosen + 2 ^ next → part M usable ≡ true) → promising t q chosen usable ≡ false → Bare t q chosen (chosen + 2 ^ next)
+  pub bare-unpromising : WellFormed t → (usable : ℕ)
+      → ((M : ℕ) → isMinimal t q M ≡ true → chosen ≤ M → M < chosen + 2 ^ next → part M usable ≡ true)
+      → promising t q chosen usable ≡ false → Bare t q chosen (chosen + 2 ^ next)
   unfolding promising admits
   bare-unpromising wf usable every h M from upto =
       refuted (isMinimal t q M) (λ m.
@@ -109,12 +105,9 @@ module _ (t : List ℕ) (q : Query) (chosen next : ℕ) (undecided : (i : ℕ) �
 module _ (t : List ℕ) (q : Query) (chosen usable next : ℕ) (d : Decided t q chosen usable next) where
   -- no more credentials are undecided than there are
   pub decided-few : next ≤ credentials t
-  decided-few = go (ltb (credentials t) next) refl
-    where
-      go : (b : Bool) → ltb (credentials t) next ≡ b → next ≤ credentials t
-      go true e = absurd (omega
-          (arith, pow-lt {i = credentials t} {j = next} (ltb-true (credentials t) next e), d .fits))
-      go false e = ltb-false (credentials t) next e
+  decided-few =
+      less-or-not (credentials t) next
+      (λ over. absurd (omega (arith, pow-lt {i = credentials t} {j = next} over, d .fits))) (λ few. few)
 
   pub decided-minimal : Promising t q chosen usable → next ≡ 0 → isMinimal t q chosen ≡ true
   unfolding admits
@@ -135,61 +128,71 @@ module _ (t : List ℕ) (q : Query) (chosen usable next : ℕ) (d : Decided t q 
         go (yes e) = own e
         go (no e) = above (omega arith)
 
-    upper-every : (M : ℕ) → isMinimal t q M ≡ true → bitOr chosen (2 ^ (next - 1)) ≤ M → M < bitOr chosen (2 ^ (next - 1)) + 2 ^ (next - 1) → part M usable ≡ true
+    upper-every : (M : ℕ) → isMinimal t q M ≡ true → bitOr chosen (2 ^ (next - 1)) ≤ M
+        → M < bitOr chosen (2 ^ (next - 1)) + 2 ^ (next - 1) → part M usable ≡ true
     upper-every M m from upto =
         d .every M m (omega (arith, upper-joins chosen next (d .undecided) more))
         (omega (arith, upper-ends chosen next (d .undecided) more))
+
+    upper-decided : (i : ℕ) → next - 1 ≤ i → inSet usable i ≡ true → inSet (bitOr chosen (2 ^ (next - 1))) i ≡ true
+    upper-decided i h u =
+        next-or-above i h (λ e. ap (inSet (bitOr chosen (2 ^ (next - 1)))) (sym e) ∙ upper-has chosen next (d .undecided) more)
+        (λ a. part-member chosen _ i (part-or-left chosen (2 ^ (next - 1))) (d .decided i a u))
 
     pub decided-in : Decided t q (bitOr chosen (2 ^ (next - 1))) usable (next - 1)
     decided-in =
         record {
           undecided = upper-undecided chosen next (d .undecided) more;
-          decided = λ i h u. next-or-above i h
-              (λ e. ap (inSet (bitOr chosen (2 ^ (next - 1)))) (sym e) ∙ upper-has chosen next (d .undecided) more)
-              (λ a. part-member chosen (bitOr chosen (2 ^ (next - 1))) i (part-or-left chosen (2 ^ (next - 1)))
-              (d .decided i a u));
+          decided = upper-decided;
           fits = omega (arith, upper-ends chosen next (d .undecided) more, d .fits);
           every = upper-every;
+        }
+
+    -- the half without credential `next`, where `fewer` has all that minimal sets there may use
+    lower-decided : (fewer : ℕ) → ((i : ℕ) → next - 1 ≤ i → inSet fewer i ≡ true → inSet chosen i ≡ true)
+        → ((M : ℕ) → isMinimal t q M ≡ true → chosen ≤ M → M < chosen + 2 ^ (next - 1) → part M fewer ≡ true)
+        → Decided t q chosen fewer (next - 1)
+    lower-decided fewer decided every =
+        record {
+          undecided = lower-undecided chosen next (d .undecided) more;
+          decided = decided;
+          fits = omega (arith, halves chosen next (d .undecided) more, d .fits);
+          every = every;
         }
 
     lower-every : (M : ℕ) → isMinimal t q M ≡ true → chosen ≤ M → M < chosen + 2 ^ (next - 1) → part M usable ≡ true
     lower-every M m from upto = d .every M m from (omega (arith, halves chosen next (d .undecided) more))
 
     -- credential `next` is not usable
-    pub decided-unusable : inSet usable (next - 1) ≡ false → Decided t q chosen usable (next - 1)
-    decided-unusable out =
-        record {
-          undecided = lower-undecided chosen next (d .undecided) more;
-          decided = λ i h u. next-or-above i h (λ e. absurd (false-true (sym out ∙ ap (inSet usable) e ∙ u)))
-              (λ a. d .decided i a u);
-          fits = omega (arith, halves chosen next (d .undecided) more, d .fits);
-          every = lower-every;
-        }
+    module _ (out : inSet usable (next - 1) ≡ false) where
+      pub decided-unusable : Decided t q chosen usable (next - 1)
+      decided-unusable =
+          lower-decided usable (λ i h u.
+          next-or-above i h (λ e. absurd (false-true (sym out ∙ ap (inSet usable) e ∙ u))) (λ a. d .decided i a u)) lower-every
 
-    pub bare-unusable : inSet usable (next - 1) ≡ false → Bare t q (chosen + 2 ^ (next - 1)) (chosen + 2 ^ next)
-    bare-unusable out M from upto =
-        refuted (isMinimal t q M) (λ m.
-        let begins = upper-joins chosen next (d .undecided) more in
-        let ends = upper-ends chosen next (d .undecided) more in
-        let own = upper-own chosen next (d .undecided) more M (omega arith) (omega arith) in
-        let among = d .every M m (omega arith) upto in
-        false-true (sym out ∙ part-member M usable (next - 1) among own))
+      pub bare-unusable : Bare t q (chosen + 2 ^ (next - 1)) (chosen + 2 ^ next)
+      bare-unusable M from upto =
+          refuted (isMinimal t q M) (λ m.
+          let begins = upper-joins chosen next (d .undecided) more in
+          let ends = upper-ends chosen next (d .undecided) more in
+          let own = upper-own chosen next (d .undecided) more M (omega arith) (omega arith) in
+          false-true (sym out ∙ part-member M usable (next - 1) (d .every M m (omega arith) upto) own))
 
-    -- without credential `next`, of what is usable only what is relevant then
-    pub decided-out : WellFormed t → inSet usable (next - 1) ≡ true → (fewer : ℕ) → Relevant t q (bitXor usable (2 ^ (next - 1))) fewer → Decided t q chosen fewer (next - 1)
-    decided-out wf there fewer r =
-        record {
-          undecided = lower-undecided chosen next (d .undecided) more;
-          decided = λ i h u.
-              let without = bitXor usable (2 ^ (next - 1)) in
-              let left = part-member fewer without i (r .among) u in
-              next-or-above i h
-              (λ e. absurd (false-true (sym (without-own usable (next - 1) there) ∙ ap (inSet without) e ∙ left)))
-              (λ a. d .decided i a (sym (without-other usable (next - 1) i (λ e. omega arith)) ∙ left));
-          fits = omega (arith, halves chosen next (d .undecided) more, d .fits);
-          every = λ M m from upto.
-              let rec = minimal-accepted t wf q M m in
-              relevant-used t q (rec .0) M (bitXor usable (2 ^ (next - 1))) fewer r (rec .1)
-              (part-without M usable (next - 1) (lower-every M m from upto)
-              (lower-without chosen next (d .undecided) more M from upto));
-        }
+    -- without it, of what is usable only what is relevant then
+    module _ (there : inSet usable (next - 1) ≡ true) (fewer : ℕ) (relevant : Relevant t q (bitXor usable (2 ^ (next - 1))) fewer) where
+      left-chosen : (i : ℕ) → next - 1 ≤ i → inSet fewer i ≡ true → inSet chosen i ≡ true
+      left-chosen i h u =
+          let without = bitXor usable (2 ^ (next - 1)) in
+          let left = part-member fewer without i (relevant .among) u in
+          next-or-above i h (λ e. absurd (false-true (sym (without-own usable (next - 1) there) ∙ ap (inSet without) e ∙ left)))
+          (λ a. d .decided i a (sym (without-other usable (next - 1) i (λ e. omega arith)) ∙ left))
+
+      left-every : WellFormed t → (M : ℕ) → isMinimal t q M ≡ true → chosen ≤ M → M < chosen + 2 ^ (next - 1) → part M fewer ≡ true
+      left-every wf M m from upto =
+          let (rec, accepted) = minimal-accepted t wf q M m in
+          let absent = lower-without chosen next (d .undecided) more M from upto in
+          relevant-used t q rec M (bitXor usable (2 ^ (next - 1))) fewer relevant accepted
+          (part-without M usable (next - 1) (lower-every M m from upto) absent)
+
+      pub decided-out : WellFormed t → Decided t q chosen fewer (next - 1)
+      decided-out wf = lower-decided fewer left-chosen (left-every wf)

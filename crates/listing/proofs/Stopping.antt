@@ -78,7 +78,8 @@ module _ (last : ℕ) where
   request-stage t q h = stage-then (table-stage t (omega arith)) (query-stage q h)
 
 -- a stage passes or stops
-pub passes-or-stops : (last : ℕ) {A : Type 0} (o : Outcome) → Stage last o → (o ≡ accepted 0 → A) → OneOf A ((number position : ℕ) × (o ≡ refused number position) × (1 ≤ number) × (number ≤ last))
+pub passes-or-stops : (last : ℕ) {A : Type 0} (o : Outcome) → Stage last o → (o ≡ accepted 0 → A)
+    → OneOf A ((number position : ℕ) × (o ≡ refused number position) × (1 ≤ number) × (number ≤ last))
 passes-or-stops last (accepted v) s f = first (f (ap accepted (s .value v refl)))
 passes-or-stops last (refused number position) s f =
     second (number, position, refl, s .least number position refl, s .most number position refl)

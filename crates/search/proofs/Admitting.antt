@@ -1,7 +1,7 @@
 -- Imposing all constraints of the allowed set is exact: where a record is accepted its used set can prove the membership under
 -- all its automata, and where a set can, some accepted record's used set is a part of it, since its automata are fewer.
 use mathlib.Core.Path.{_≡_, refl, sym, _∙_}
-use mathlib.Core.List.{List, [], _∷_}
+use mathlib.Core.List.{List, []}
 use mathlib.Core.Bool.{true}
 use Prim.Native.Nat.{ℕ, suc, _-_, _^_, _<_}
 use native.Mathlib.Omega.{arith}
@@ -12,7 +12,6 @@ use Rattle.table.specs.declared.Goal.{Goal}
 use Rattle.table.specs.declared.Query.{Query}
 use Rattle.automata.specs.Sets.{inSet, part}
 use Rattle.automata.proofs.Members.{members-below, part-member, part-refl, part-shown}
-use Rattle.derivation.specs.Rules.{goalOf}
 use Rattle.derivation.specs.Forest.{Derives, Forest, names, usedSet, written}
 use Rattle.derivation.specs.Words.{Complies, words}
 use Rattle.derivation.specs.Tally.{automataOf}
@@ -20,7 +19,7 @@ use Rattle.derivation.specs.Verdict.{Accepted}
 use Rattle.search.specs.Search.{UsesOnly, provable}
 use Rattle.search.specs.Relevance.{Relevant}
 use Rattle.derivation.proofs.Using.{automaton-reached, automaton-shows, named-numbered, used-named}
-use Rattle.search.proofs.Searching.{AllAccept, provable-exact}
+use Rattle.search.proofs.Searching.{AllAccept, provable-by, provable-exact}
 
 -- more credentials have no fewer automata
 pub automata-mono : (t : List ℕ) (S S′ : ℕ) → part S S′ ≡ true → part (automataOf t S) (automataOf t S′) ≡ true
@@ -32,7 +31,7 @@ automata-mono t S S′ more =
     let own = part-member S S′ (by .0 - 1) more (by .2) in
     rw place at (automaton-reached t S′ (suc k) (omega arith) (by .0) (by .1) own (by .3)))
 
-module _ (t : List ℕ) (l : ℕ) (b gs : List Goal) (f : Forest) (d : Derives t l b gs f) where
+module _ (t : List ℕ) {l : ℕ} {b gs : List Goal} {f : Forest} (d : Derives t l b gs f) where
   -- a credential of the used set is named
   used-shows : (i : ℕ) → inSet (usedSet f) i ≡ true → names f (suc i) ≡ true
   used-shows i h =
@@ -64,28 +63,23 @@ module _ (t : List ℕ) (l : ℕ) (b gs : List Goal) (f : Forest) (d : Derives t
       rw next at (all (k - 1) (automaton-reached t S k (omega arith) c (named-numbered d c named) (only c named) refl))
 
 -- the used set of an accepted record proves under all its automata, and a set that does has such a record's used set as a part
-pub accepted-provable : (t : List ℕ) → WellFormed t → (q : Query) (rec : List ℕ) (S : ℕ) → Accepted t q rec S → provable t q S (automataOf t S) ≡ true
+pub accepted-provable : (t : List ℕ) → WellFormed t → (q : Query) (rec : List ℕ) (S : ℕ) → Accepted t q rec S
+    → provable t q S (automataOf t S) ≡ true
 accepted-provable t wf q rec S a =
-    let goals = goalOf q ∷ [] in
     let used = usedSet (a .forest) in
+    let d = a .derives in
     rw (← a .uses)
-    (provable-exact t wf q used (automataOf t used) .1
-    (record {
-      forest = a .forest;
-      derives = a .derives;
-      usesOnly = part-used t (q .depth) [] goals (a .forest) (a .derives) used (part-refl used);
-      accepted = complies-accepts t (q .depth) [] goals (a .forest) (a .derives) (a .complies);
-    }))
+    (provable-by t wf q used (automataOf t used) d (part-used t d used (part-refl used)) (complies-accepts t d (a .complies)))
 
-pub provable-accepted : (t : List ℕ) → WellFormed t → (q : Query) (S : ℕ) → provable t q S (automataOf t S) ≡ true → (rec : List ℕ) × (T : ℕ) × Accepted t q rec T × (part T S ≡ true)
+pub provable-accepted : (t : List ℕ) → WellFormed t → (q : Query) (S : ℕ) → provable t q S (automataOf t S) ≡ true
+    → (rec : List ℕ) × (T : ℕ) × Accepted t q rec T × (part T S ≡ true)
 provable-accepted t wf q S h =
     let p = provable-exact t wf q S (automataOf t S) .0 h in
-    let goals = goalOf q ∷ [] in
-    let complies = accepts-complies t (q .depth) [] goals (p .forest) (p .derives) S (p .usesOnly) (p .accepted) in (
+    let complies = accepts-complies t (p .derives) S (p .usesOnly) (p .accepted) in (
       written (p .forest),
       usedSet (p .forest),
       record { forest = p .forest; derives = p .derives; whole = refl; complies = complies; uses = refl },
-      used-part t (q .depth) [] goals (p .forest) (p .derives) S (p .usesOnly),
+      used-part t (p .derives) S (p .usesOnly),
     )
 
 -- a used set has credentials of the table alone, and of a set only those that bear on the query
@@ -94,10 +88,11 @@ accepted-fits t q rec S a =
     members-below S (credentials t)
     (λ i h.
     let d = a .derives in
-    named-numbered d (suc i) (used-shows t (q .depth) [] (goalOf q ∷ []) (a .forest) d i (rw (a .uses) h)) .last)
+    named-numbered d (suc i) (used-shows t d i (rw (a .uses) h)) .last)
 
-pub relevant-used : (t : List ℕ) (q : Query) (rec : List ℕ) (M S R : ℕ) → Relevant t q S R → Accepted t q rec M → part M S ≡ true → part M R ≡ true
+pub relevant-used : (t : List ℕ) (q : Query) (rec : List ℕ) (M S R : ℕ) → Relevant t q S R → Accepted t q rec M
+    → part M S ≡ true → part M R ≡ true
 relevant-used t q rec M S R relevant a among =
-    let goals = goalOf q ∷ [] in
-    let only = part-used t (q .depth) [] goals (a .forest) (a .derives) S (rw (a .uses) among) in
-    rw (a .uses) at (used-part t (q .depth) [] goals (a .forest) (a .derives) R (relevant .every (a .forest) (a .derives) only))
+    let d = a .derives in
+    let only = part-used t d S (rw (a .uses) among) in
+    rw (a .uses) at (used-part t d R (relevant .every (a .forest) d only))

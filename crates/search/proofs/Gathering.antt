@@ -2,7 +2,8 @@
 -- role, and rounds over the credentials, of which the first i have been looked at.
 use mathlib.Core.Path.{_≡_, refl, sym, ap, _∙_}
 use mathlib.Core.List.{List}
-use mathlib.Core.Bool.{true, false, not}
+use mathlib.Core.Bool.{Bool, true, false, not}
+use mathlib.Core.Logic.{_⊎_, ⊎-elim}
 use Prim.Native.Nat.{ℕ, suc, _+_, _-_, _*_, _/_, _%_, _^_, _≤_, _<_}
 use native.Mathlib.Omega.{arith}
 use native.Mathlib.Decide.{ℕ-discrete}
@@ -19,11 +20,19 @@ use Rattle.table.specs.declared.Role.{Role}
 use Rattle.table.specs.declared.Chain.{Chain}
 use Rattle.table.specs.declared.Credential.{Credential}
 use Rattle.table.proofs.Tests.{and-both, and-first, and-is, and-is-off, and-on, and-second, false-true, or-first, or-second}
+use Rattle.table.proofs.WellFormed.{wf-sized}
 use Rattle.automata.specs.Sets.{inSet, part, setOf}
 use Rattle.automata.proofs.Members.{inSet-or, inSet-pow, one-bit, part-antisym, part-le, part-or, part-or-left, part-refl, part-shown, part-trans, part-zero}
 use Rattle.search.specs.Relevance.{Asking, ChainThere, Round, allDefined, definers, meant, rolesAsked, withDefiners}
 use Rattle.derivation.proofs.Asking.{chain-there}
 use Rattle.search.proofs.Bearing.{roles-4, with-among, with-grows, with-more}
+
+-- where three ways of the code meet
+pub three-ways : {A B C D : Type 0} → (A → D) → (B → D) → (C → D) → A ⊎ (B ⊎ C) → D
+three-ways one two three = ⊎-elim one (⊎-elim two three)
+
+pub credential-few : (t : List ℕ) → WellFormed t → {i : ℕ} → i < credentials t → i < mostCredentials
+credential-few t wf l = omega (arith, wf-sized t wf .counted .fewCredentials)
 
 -- a role is meant by its owner, or by its name alone where every owner is asked
 module _ (asked r : Role) where
@@ -74,36 +83,22 @@ module _ (t : List ℕ) (P i found : ℕ) (r : Role) (so-far : found ≡ definer
   unfolding inSet
   definers-outside out = definers-off (and-is-off _ (ne-eqb _ 1 out))
 
-  -- which the code has read as x
-  module _ (inside : P / 2 ^ i % 2 ≡ 1) (x : Credential) (read : x ≡ credential t (i + 1)) where
-    pub definers-other : meant r (x .role) ≡ false → found ≡ definersTo t P r (i + 1)
+  -- which is in the set, and which the code has read as x and compared
+  module _ (inside : P / 2 ^ i % 2 ≡ 1) (x : Credential) (read : x ≡ credential t (i + 1)) {means : Bool}
+      (told : means ≡ meant r (x .role)) where
+    pub definers-other : means ≡ false → found ≡ definersTo t P r (i + 1)
     unfolding inSet
-    definers-other other = definers-off (and-is (eq-eqb _ 1 inside) (rw (read, add-one i) at other))
+    definers-other other = definers-off (and-is (eq-eqb _ 1 inside) (rw (read, add-one i) at (sym told ∙ other)))
 
-    pub definers-more : i < mostCredentials → meant r (x .role) ≡ true
-        → bitOr found ((1 * 2 ^ i) % 2 ^ 32) ≡ definersTo t P r (i + 1)
+    pub definers-more : means ≡ true → i < mostCredentials → bitOr found ((1 * 2 ^ i) % 2 ^ 32) ≡ definersTo t P r (i + 1)
     unfolding setOf pick inSet
-    definers-more few means =
-        let own = rw (read, add-one i) at means in
-        rw (add-one i, one-bit 32 i (omega arith), and-both (eq-eqb _ 1 inside) own, so-far)
+    definers-more own few =
+        let same = rw (read, add-one i) at (sym told ∙ own) in
+        rw (add-one i, one-bit 32 i (omega arith), and-both (eq-eqb _ 1 inside) same, so-far)
 
--- a round begins with nothing looked at, and goes on from y to z where nothing is lost
+-- a round begins with nothing looked at
 pub round-starts : (most x : ℕ) {All : Type 0} → All → Round most x x All
 round-starts most x all = record { grows = part-refl x; among = λ h. h; whole = λ e. all }
-
-round-on : (most x y z : ℕ) {A B : Type 0} → Round most x y A → part y z ≡ true → (part y most ≡ true → part z most ≡ true)
-    → (z ≡ x → y ≡ x → A → B) → Round most x z B
-round-on most x y z round grows among on =
-    record {
-      grows = part-trans x y z (round .grows) grows;
-      among = λ h. among (round .among h);
-      whole = λ e.
-          let back = part-antisym y x (rw e at grows) (round .grows) in
-          on e back (round .whole back);
-    }
-
-round-same : (most x y : ℕ) {A B : Type 0} → Round most x y A → (y ≡ x → A → B) → Round most x y B
-round-same most x y round on = round-on most x y y round (part-refl y) (λ h. h) (λ e back. on back)
 
 -- a round that brings something in comes nearer to all that there is
 pub round-less : (most x y : ℕ) {All : Type 0} → Round most x y All → part x most ≡ true → (y ≡ x → ⊥)
@@ -113,12 +108,40 @@ round-less most x y round inside other =
     let top = part-le y most (round .among inside) in
     omega arith
 
-below-next : (A : ℕ → Type 0) (i : ℕ) → ((c : ℕ) → c < i → A c) → A i → (c : ℕ) → c < i + 1 → A c
-below-next A i before here c h = go (ℕ-discrete c i)
+below-next : (At : ℕ → Type 0) (i : ℕ) → ((c : ℕ) → c < i → At c) → At i → (c : ℕ) → c < i + 1 → At c
+below-next At i before here c h = go (ℕ-discrete c i)
   where
-    go : Dec (c ≡ i) → A c
+    go : Dec (c ≡ i) → At c
     go (yes same) = rw same here
     go (no other) = before c (omega arith)
+
+-- a round goes on over credential i + 1 from y to z: nothing is lost, nothing outside of `most` comes in, and where all is as at
+-- the beginning, what the round is to show holds of this credential too
+round-next : (At : ℕ → Type 0) (most x y z i : ℕ) → Round most x y ((c : ℕ) → c < i → At c) → part y z ≡ true
+    → (part y most ≡ true → part z most ≡ true) → (z ≡ x → y ≡ x → At i) → Round most x z ((c : ℕ) → c < i + 1 → At c)
+round-next At most x y z i round grows among here =
+    record {
+      grows = part-trans x y z (round .grows) grows;
+      among = λ h. among (round .among h);
+      whole = λ e.
+          let back = part-antisym y x (rw e at grows) (round .grows) in
+          below-next At i (round .whole back) (here e back);
+    }
+
+round-kept : (At : ℕ → Type 0) (most x y z i : ℕ) → Round most x y ((c : ℕ) → c < i → At c) → z ≡ y → (y ≡ x → At i)
+    → Round most x z ((c : ℕ) → c < i + 1 → At c)
+round-kept At most x y z i round same here =
+    rw same (round-next At most x y y i round (part-refl y) (λ h. h) (λ e back. here back))
+
+-- the set of one member, and a set with a member more
+pub own-bit : (i : ℕ) → inSet (2 ^ i) i ≡ true
+own-bit i = inSet-pow i i ∙ eq-eqb i i refl
+
+pub one-among : (i most : ℕ) → inSet most i ≡ true → part (2 ^ i) most ≡ true
+one-among i most h = part-shown (2 ^ i) most (λ s one. rw (← eqb-true i s (sym (inSet-pow i s) ∙ one)) h)
+
+has-one : (x i : ℕ) → inSet (bitOr x (2 ^ i)) i ≡ true
+has-one x i = inSet-or x (2 ^ i) i ∙ or-second _ (own-bit i)
 
 -- P has every productive credential of S among the first n
 abbrev pub ProductiveAt : List ℕ → ℕ → ℕ → ℕ → Type 0
@@ -128,36 +151,33 @@ ProductiveAt t S P c =
 abbrev pub ProductiveTo : List ℕ → ℕ → ℕ → ℕ → Type 0
 ProductiveTo t S P n = (c : ℕ) → c < n → ProductiveAt t S P c
 
--- a round for the productive ones, with one credential more; what was P is `more` by now
-module _ (t : List ℕ) (S P more i : ℕ) (round : Round S P more (ProductiveTo t S P i)) where
-  productive-next : (more ≡ P → ProductiveAt t S P i) → Round S P more (ProductiveTo t S P (i + 1))
-  productive-next here = round-same S P more round (λ e before. below-next (ProductiveAt t S P) i before (here e))
+-- a round for the productive ones, with one credential more; what was P is `more` by now, and then `next`
+module _ (t : List ℕ) (S P more next i : ℕ) (round : Round S P more (ProductiveTo t S P i)) where
+  productive-kept : next ≡ more → (more ≡ P → ProductiveAt t S P i) → Round S P next (ProductiveTo t S P (i + 1))
+  productive-kept same here = round-kept (ProductiveAt t S P) S P more next i round same here
 
-  pub productive-old : (inSet S i and not (inSet more i)) ≡ false → Round S P more (ProductiveTo t S P (i + 1))
-  productive-old old =
-      productive-next (λ e inside defined. rw e at (not-false (inSet more i) (and-on inside ∙ old)))
+  pub productive-not : {met : Bool} → met ≡ allDefined t more (rolesAsked t (credential t (suc i))) → met ≡ false → next ≡ more
+      → Round S P next (ProductiveTo t S P (i + 1))
+  productive-not told off same =
+      productive-kept same (λ e inside defined. absurd (false-true (sym (rw e at (sym told ∙ off)) ∙ defined)))
 
-  pub productive-not : allDefined t more (rolesAsked t (credential t (suc i))) ≡ false
-      → Round S P more (ProductiveTo t S P (i + 1))
-  productive-not undefined =
-      productive-next (λ e inside defined. absurd (false-true (sym (rw e at undefined) ∙ defined)))
+  module _ {new : Bool} (told : new ≡ (inSet S i and not (inSet more i))) where
+    pub productive-old : new ≡ false → next ≡ more → Round S P next (ProductiveTo t S P (i + 1))
+    productive-old old same =
+        productive-kept same (λ e inside defined. rw e at (not-false (inSet more i) (and-on inside ∙ sym told ∙ old)))
 
-  pub productive-more : (inSet S i and not (inSet more i)) ≡ true → i < mostCredentials
-      → Round S P (bitOr more ((1 * 2 ^ i) % 2 ^ 32)) (ProductiveTo t S P (i + 1))
-  productive-more new few =
-      rw (one-bit 32 i (omega arith))
-      (round-on S P more (bitOr more (2 ^ i)) round (part-or-left more (2 ^ i))
-      (λ h. part-or more (2 ^ i) S h one-allowed) (λ e back. absurd (came e back)))
-    where
-      one-allowed : part (2 ^ i) S ≡ true
-      one-allowed =
-          part-shown (2 ^ i) S (λ s one. rw (← eqb-true i s (sym (inSet-pow i s) ∙ one)) (and-first _ _ new))
+    came-in : new ≡ true → bitOr more (2 ^ i) ≡ P → more ≡ P → ⊥
+    came-in on e back =
+        let out = not-true (inSet more i) (and-second _ _ (sym told ∙ on)) in
+        false-true (sym (rw back at out) ∙ (rw e at (has-one more i)))
 
-      has : inSet (bitOr more (2 ^ i)) i ≡ true
-      has = inSet-or more (2 ^ i) i ∙ or-second _ (inSet-pow i i ∙ eq-eqb i i refl)
-
-      came : bitOr more (2 ^ i) ≡ P → more ≡ P → ⊥
-      came e back = false-true (sym (rw back at (not-true (inSet more i) (and-second _ _ new))) ∙ (rw e at has))
+    pub productive-more : new ≡ true → i < mostCredentials → next ≡ bitOr more ((1 * 2 ^ i) % 2 ^ 32)
+        → Round S P next (ProductiveTo t S P (i + 1))
+    productive-more on few set =
+        let own = one-among i S (and-first _ _ (sym told ∙ on)) in
+        rw (set, one-bit 32 i (omega arith))
+        (round-next (ProductiveAt t S P) S P more (bitOr more (2 ^ i)) i round (part-or-left more (2 ^ i))
+        (λ h. part-or more (2 ^ i) S h own) (λ e back. absurd (came-in on e back)))
 
 -- R has what each of its first n credentials asks
 abbrev pub ReachedAt : List ℕ → ℕ → ℕ → ℕ → Type 0
@@ -166,19 +186,21 @@ ReachedAt t P R c = inSet R c ≡ true → part (withDefiners t P 0 (rolesAsked 
 abbrev pub ReachedTo : List ℕ → ℕ → ℕ → ℕ → Type 0
 ReachedTo t P R n = (c : ℕ) → c < n → ReachedAt t P R c
 
--- a round for the reached ones, with one credential more; what was R is `more` by now
-module _ (t : List ℕ) (P R more i : ℕ) (round : Round P R more (ReachedTo t P R i)) where
-  pub reached-outside : (more / 2 ^ i % 2 ≡ 1 → ⊥) → Round P R more (ReachedTo t P R (i + 1))
+-- a round for the reached ones, with one credential more; what was R is `more` by now, and then `next`
+module _ (t : List ℕ) (P R more next i : ℕ) (round : Round P R more (ReachedTo t P R i)) where
+  pub reached-outside : (more / 2 ^ i % 2 ≡ 1 → ⊥) → next ≡ more → Round P R next (ReachedTo t P R (i + 1))
   unfolding inSet
-  reached-outside out =
-      round-same P R more round (λ e before.
-      below-next (ReachedAt t P R) i before (λ inside. absurd (out (eqb-true _ 1 (rw e inside)))))
+  reached-outside out same =
+      round-kept (ReachedAt t P R) P R more next i round same (λ e inside. absurd (out (eqb-true _ 1 (rw e inside))))
 
-  pub reached-more : Round P R (withDefiners t P more (rolesAsked t (credential t (suc i)))) (ReachedTo t P R (i + 1))
-  reached-more =
-      let asked = rolesAsked t (credential t (suc i)) in
-      round-on P R more (withDefiners t P more asked) round (with-grows t P more asked) (with-among t P more asked)
-      (λ e back before.
-      below-next (ReachedAt t P R) i before (λ inside.
+  all-there : (asked : List Role) → withDefiners t P more asked ≡ R → more ≡ R → part (withDefiners t P 0 asked) R ≡ true
+  all-there asked e back =
       let same : withDefiners t P R asked ≡ R = rw back at e in
-      rw same at (with-more t P 0 R asked (part-zero R))))
+      rw same at (with-more t P 0 R asked (part-zero R))
+
+  pub reached-more : next ≡ withDefiners t P more (rolesAsked t (credential t (suc i))) → Round P R next (ReachedTo t P R (i + 1))
+  reached-more with-asked =
+      let asked = rolesAsked t (credential t (suc i)) in
+      rw with-asked
+      (round-next (ReachedAt t P R) P R more (withDefiners t P more asked) i round (with-grows t P more asked)
+      (with-among t P more asked) (λ e back inside. all-there asked e back))

@@ -23,8 +23,9 @@ use Rattle.table.proofs.WellFormed.{wf-sized}
 use Rattle.automata.specs.Sets.{inSet, setOf}
 use Rattle.automata.proofs.Members.{inSet-and, same-members, setOf-members}
 use Rattle.search.specs.Relevance.{Asking, ChainThere, Indexed, Place, allDefined, allMet, definers, everyCredential, indexed, met, meant, rolesAsked, withDefiners, withMet, withMetTo}
-use Rattle.search.proofs.Bearing.{roles-2, roles-3, roles-4, roles-none}
+use Rattle.search.proofs.Bearing.{roles-1, roles-2, roles-3, roles-4, roles-none}
 use Rattle.search.proofs.Gathering.{chain-whole}
+use Rattle.search.proofs.Ruling.{by-kind}
 
 -- every credential is one of them all
 every-is : setOf (λ (k : ℕ). true) 20 ≡ everyCredential
@@ -61,17 +62,20 @@ definers-within t P r few = same-members _ _ each
         ∙ sym (setOf-members (λ c. inSet P c and meaning c) (credentials t) c)
 
 -- a credential asks at most four roles
-roles-few : (t : List ℕ) (c : Credential) → ChainThere t c → length (rolesAsked t c) ≤ mostParts
+parts-few : (t : List ℕ) (c : Credential) → ChainThere t c → c .kind ≡ 4 → length (rolesAsked t c) ≤ mostParts
 unfolding chainOk within parts
-roles-few t c chained = go (ℕ-discrete (c .kind) 2) (ℕ-discrete (c .kind) 3) (ℕ-discrete (c .kind) 4)
-  where
-    go : Dec (c .kind ≡ 2) → Dec (c .kind ≡ 3) → Dec (c .kind ≡ 4) → length (rolesAsked t c) ≤ mostParts
-    go (yes h2) h3 h4 = rw (roles-2 t c h2) (omega arith)
-    go (no h2) (yes h3) h4 = rw (roles-3 t c h3) (omega arith)
-    go (no h2) (no h3) (yes h4) =
-        rw (roles-4 t c h4, length-map (chain t (c .first)) (λ (k : ℕ). cell t k .role))
-        (leb-true _ _ (and-second _ _ (chained .whole h4)))
-    go (no h2) (no h3) (no h4) = rw (roles-none t c h2 h3 h4) (omega arith)
+parts-few t c chained four =
+    rw (roles-4 t c four, length-map (chain t (c .first)) (λ (k : ℕ). cell t k .role))
+    (leb-true _ _ (and-second _ _ (chained .whole four)))
+
+roles-few : (t : List ℕ) (c : Credential) → ChainThere t c → length (rolesAsked t c) ≤ mostParts
+roles-few t c chained =
+    by-kind (c .kind)
+    (λ one. rw (roles-1 t c one) (omega arith))
+    (λ two. rw (roles-2 t c two) (omega arith))
+    (λ three. rw (roles-3 t c three) (omega arith))
+    (parts-few t c chained)
+    (λ n1 n2 n3 n4. rw (roles-none t c n2 n3 n4) (omega arith))
 
 -- what is there does not depend on what stands for nothing
 getD-there : (l : List Role) (k : ℕ) (d e : Role) → k < length l → getD l k d ≡ getD l k e

@@ -1,6 +1,6 @@
 -- `bwlchareg::bwlchareg_check_query` meets its contract: it tells what `check_request` answers. Assumes nothing.
-use mathlib.Core.Path.{_∙_, ap, sym}
 use borrow.Author.Needs.{needs}
+use Rattle.bwlchareg.proofs.Answers.{told-as}
 use Rattle.derivation.specs.Held.{given}
 use Rattle.table.specs.Checks.{queryTold, requestOutcome}
 use Rattle.bwlchareg.proofs.bwlchareg_check_query.Statement.{statement}
@@ -30,8 +30,7 @@ returns c =
     let enum-told = c .before .before .enum-told in
     let check-request = c .before .before .before .before .check-request in
     let query-of = c .before .before .before .before .before .query-of in
-    c .accept .ensures ∙ ap queryTold (sym (enum-told .given .1)) ∙ check-request .ensures ∙ ap (requestOutcome _)
-    (query-of .ensures)
+    told-as queryTold (requestOutcome _) (c .accept .ensures) (enum-told .given .1) (check-request .ensures) (query-of .ensures)
 
 returns-2 : tie.Need-returns-2
 unfolding queryTold
@@ -39,8 +38,7 @@ returns-2 c =
     let why = c .before .before .before .why in
     let check-request = c .before .before .before .before .before .check-request in
     let query-of = c .before .before .before .before .before .before .query-of in
-    c .refuse .ensures ∙ ap queryTold (sym (why .given .1)) ∙ check-request .ensures ∙ ap (requestOutcome _)
-    (query-of .ensures)
+    told-as queryTold (requestOutcome _) (c .refuse .ensures) (why .given .1) (check-request .ensures) (query-of .ensures)
 
 pub bwlchareg-check-query-spec : {M : Type 1} → statement M
 bwlchareg-check-query-spec =

@@ -1,11 +1,7 @@
 -- `bwlchareg::bwlchareg_list` meets its contract: it tells what `list` answers, and leaves the buffer as `list` does. Assumes nothing.
-use Rattle.listing.specs.Minimal.{bufferAfter, listingTold}
-use denote.Ref.{now}
-use lib.ListN.{length}
-use mathlib.Core.Path.{_∙_, ap, sym}
-use Rattle.table.specs.declared.Query.{Query}
-use Rattle.listing.specs.Minimal
+use Rattle.listing.specs.Minimal.{listingTold}
 use borrow.Author.Needs.{needs}
+use Rattle.bwlchareg.proofs.Answers.{listed-as}
 use Rattle.bwlchareg.proofs.bwlchareg_list.Statement.{statement}
 use Rattle.bwlchareg.proofs.bwlchareg_list.Tie as tie
 
@@ -35,13 +31,8 @@ unfolding listingTold
 returns c =
     let count = c .before .before .before .count in
     let list = c .before .before .before .before .before .before .before .list in
-    let args = c .before .before .before .before .before .before .before .before .before .before .before .before .args in
-    let query-of = c .before .before .before .before .before .before .before .before .before .query-of in (
-      c .accept .ensures ∙ ap listingTold (sym (count .given .1)) ∙ list .ensures .0 ∙ ap (λ (q : Query).
-          Minimal.listing (now (args .table)) q (length (now (args .sets)))) (query-of .ensures),
-      list .ensures .1 ∙
-          ap (λ (q : Query). bufferAfter (now (args .table)) q (now (args .sets))) (query-of .ensures),
-    )
+    let query-of = c .before .before .before .before .before .before .before .before .before .query-of in
+    listed-as _ _ _ (c .accept .ensures) (count .given .1) (list .ensures) (query-of .ensures)
 
 same-length-2 : tie.Need-same-length-2
 same-length-2 c = search needs
@@ -51,13 +42,8 @@ unfolding listingTold
 returns-2 c =
     let why = c .before .before .before .why in
     let list = c .before .before .before .before .before .before .before .list in
-    let args = c .before .before .before .before .before .before .before .before .before .before .before .before .args in
-    let query-of = c .before .before .before .before .before .before .before .before .before .query-of in (
-      c .refuse .ensures ∙ ap listingTold (sym (why .given .1)) ∙ list .ensures .0 ∙ ap (λ (q : Query).
-          Minimal.listing (now (args .table)) q (length (now (args .sets)))) (query-of .ensures),
-      list .ensures .1 ∙
-          ap (λ (q : Query). bufferAfter (now (args .table)) q (now (args .sets))) (query-of .ensures),
-    )
+    let query-of = c .before .before .before .before .before .before .before .before .before .query-of in
+    listed-as _ _ _ (c .refuse .ensures) (why .given .1) (list .ensures) (query-of .ensures)
 
 pub bwlchareg-list-spec : {M : Type 1} → statement M
 bwlchareg-list-spec =

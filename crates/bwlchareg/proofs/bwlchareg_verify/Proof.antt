@@ -1,10 +1,9 @@
 -- `bwlchareg::bwlchareg_verify` meets its contract: it tells what `verify` answers. Assumes nothing.
-use mathlib.Core.Path.{_∙_, ap, sym}
 use borrow.Author.Needs.{needs}
+use Rattle.bwlchareg.proofs.Answers.{told-as}
 use denote.Ref.{now}
 use Rattle.derivation.specs.Held.{given}
 use Rattle.derivation.specs.Verdict.{verdict, verdictTold}
-use Rattle.table.specs.declared.Query.{Query}
 use Rattle.bwlchareg.proofs.bwlchareg_verify.Statement.{statement}
 use Rattle.bwlchareg.proofs.bwlchareg_verify.Tie as tie
 
@@ -36,8 +35,8 @@ returns c =
     let verify = c .before .before .before .before .before .verify in
     let args = c .before .before .before .before .before .before .before .before .before .args in
     let query-of = c .before .before .before .before .before .before .query-of in
-    c .accept .ensures ∙ ap verdictTold (sym (used .given .1)) ∙ verify .ensures ∙ ap (λ (q : Query). verdict (now
-    (args .table)) q (now (args .rec))) (query-of .ensures)
+    told-as verdictTold (λ q. verdict (now (args .table)) q (now (args .rec))) (c .accept .ensures) (used .given .1)
+    (verify .ensures) (query-of .ensures)
 
 returns-2 : tie.Need-returns-2
 unfolding verdictTold
@@ -46,8 +45,8 @@ returns-2 c =
     let verify = c .before .before .before .before .before .verify in
     let args = c .before .before .before .before .before .before .before .before .before .args in
     let query-of = c .before .before .before .before .before .before .query-of in
-    c .refuse .ensures ∙ ap verdictTold (sym (why .given .1)) ∙ verify .ensures ∙ ap (λ (q : Query). verdict (now
-    (args .table)) q (now (args .rec))) (query-of .ensures)
+    told-as verdictTold (λ q. verdict (now (args .table)) q (now (args .rec))) (c .refuse .ensures) (why .given .1)
+    (verify .ensures) (query-of .ensures)
 
 pub bwlchareg-verify-spec : {M : Type 1} → statement M
 bwlchareg-verify-spec =

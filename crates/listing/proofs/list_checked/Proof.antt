@@ -10,7 +10,7 @@ use Rattle.table.proofs.WellFormed.{wf-sized}
 use Rattle.listing.specs.Minimal.{listingTold}
 use Rattle.listing.specs.Below.{FoundUpTo}
 use Rattle.listing.proofs.Finding.{upto-length, upto-same}
-use Rattle.listing.proofs.Whole.{head-few, head-some, listed-told, longer-told, none-told, start-asked, start-none}
+use Rattle.listing.proofs.Whole.{Starts, head-few, head-some, listed-told, longer-told, none-told, start-asked, start-none}
 use Rattle.listing.proofs.list_checked.Statement.{statement}
 use Rattle.listing.proofs.list_checked.Tie as tie
 use Rattle.listing.proofs.list_checked.Reads as reads
@@ -34,15 +34,13 @@ cast-all c = search needs
 
 shl-all : tie.Need-shl-all
 shl-all c =
-    let args = c .before .before .before .before .args in
     let pre = c .before .before .before .before .pre in
-    head-few _ (args .query) (pre .0) _ (c .wide .ensures .0)
+    head-few _ (pre .0) _ (c .wide .ensures .0)
 
 sub-all : tie.Need-sub-all
 sub-all c =
-    let args = c .before .before .before .before .args in
     let pre = c .before .before .before .before .pre in
-    head-some _ (args .query) (pre .0) _ (c .wide .ensures .0)
+    head-some _ (pre .0) _ (c .wide .ensures .0)
 
 index-requires : tie.Need-index-requires
 index-requires c κs = search needs
@@ -59,30 +57,46 @@ provable-requires c κs = search needs
 slice-aggregate-below : tie.Need-slice-aggregate-below
 slice-aggregate-below c = search needs
 
+abbrev claims : lts.Claims
+claims = (
+  wide-reads.Asked,
+  wide-reads.Learnt,
+  index-reads.Asked,
+  index-reads.Learnt,
+  relevant-reads.Asked,
+  relevant-reads.Learnt,
+  provable-reads.Asked,
+  provable-reads.Learnt,
+  below-reads.Asked,
+  below-reads.Learnt,
+)
+
+-- behind `relevant`
+starts : (c : lts.After-relevant claims reads.Pre reads.Post)
+    → let args = c .before .before .before .before .before .before .before .args in
+    Starts (now (args .table)) (args .query) (c .before .before .before .wide .result) (c .relevant .result)
+starts c =
+    let pre = c .before .before .before .before .before .before .before .pre in
+    let wide = c .before .before .before .wide in
+    record { wf = pre .0; head = wide .ensures .0; relevant = c .relevant .ensures }
+
 below-requires : tie.Need-below-requires
 below-requires c κs =
     let pre = c .before .before .before .before .before .before .before .before .before .before .before .before .pre in
-    let wide = c .before .before .before .before .before .before .before .before .wide in
-    let relevant = c .before .before .before .before .before .relevant in
+    let index = c .before .before .before .before .before .before .before .index in
     let provable = c .before .before .before .before .provable in
-    let if1 = c .before .before .before .if1 in
-    let index = c .before .before .before .before .before .before .before .index in (
-      index .ensures,
-      start-asked _ _ (pre .0) _ (wide .ensures .0) _ (relevant .ensures) (pre .1) (provable .ensures) (if1 .taken) _,
-    )
+    let start = starts (c .before .before .before .before .before) in
+    (index .ensures, start-asked start (provable .ensures) (c .before .before .before .if1 .taken) (pre .1) _)
 
 -- where the ways meet: the search, or none
-through : (c : lts.Joined1 (wide-reads.Asked, wide-reads.Learnt, index-reads.Asked, index-reads.Learnt, relevant-reads.Asked, relevant-reads.Learnt, provable-reads.Asked, provable-reads.Learnt, below-reads.Asked, below-reads.Learnt) reads.Pre reads.Post) → let args = c .before .before .before .before .before .before .before .before .before .args in FoundUpTo (now (args .table)) (args .query) (0 + 2 ^ (c .before .before .before .before .before .wide .result)) (now (args .sets)) (c .if1 .sets) (c .if1 .found)
+through : (c : lts.Joined1 claims reads.Pre reads.Post)
+    → let args = c .before .before .before .before .before .before .before .before .before .args in
+    let n = c .before .before .before .before .before .wide .result in
+    FoundUpTo (now (args .table)) (args .query) (0 + 2 ^ n) (now (args .sets)) (c .if1 .sets) (c .if1 .found)
 through c =
-    let pre = c .before .before .before .before .before .before .before .before .before .pre in
-    let wide = c .before .before .before .before .before .wide in
-    let relevant = c .before .before .relevant in
+    let none = start-none (starts (c .before .before)) (c .before .provable .ensures) in
     ⊎-elim (λ w. upto-same _ _ _ _ _ _ _ _ (w .4 .ensures) (w .7) (w .8))
-    (λ w.
-    let none = start-none _ _ (pre .0) _ (wide .ensures .0) _ (relevant .ensures) (c .before .provable .ensures)
-    (w .0 .left) _ in
-    upto-same _ _ _ _ _ _ _ _ none (w .1) (w .2))
-    (c .if1 .came)
+    (λ w. upto-same _ _ _ _ _ _ _ _ (none (w .0 .left) _) (w .1) (w .2)) (c .if1 .came)
 
 same-length : tie.Need-same-length
 same-length c = upto-length _ _ _ _ _ _ (through (c .before))

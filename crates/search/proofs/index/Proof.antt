@@ -1,4 +1,4 @@
--- `derivation::index` meets its contract. Assumes nothing.
+-- `search::index` meets its contract. Assumes nothing.
 use borrow.Author.Needs.{needs}
 use Rattle.search.proofs.index.Statement.{statement}
 use Rattle.search.proofs.index.Tie as tie

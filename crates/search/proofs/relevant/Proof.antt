@@ -1,4 +1,4 @@
--- `derivation::relevant` meets its contract: what is productive, and reached from the goal's role. Assumes nothing.
+-- `search::relevant` meets its contract: what is productive, and reached from the goal's role. Assumes nothing.
 use Rattle.search.proofs.Bearing.{relevant-found}
 use borrow.Author.Needs.{needs}
 use Rattle.search.proofs.relevant.Statement.{statement}

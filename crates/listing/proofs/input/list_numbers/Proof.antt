@@ -33,7 +33,9 @@ same-length : tie.Need-same-length
 same-length c = search needs
 
 returns : tie.Need-returns
-returns c = lists-rest (now (c .before .before .before .before .before .before .before .before .before .before .before .args .numbers)) _ _ _ _ (c .before .before .list .ensures)
+returns c =
+    let args = c .before .before .before .before .before .before .before .before .before .before .before .args in
+    lists-rest (now (args .numbers)) _ _ _ _ (c .before .before .list .ensures)
 
 pub list-numbers-spec : {M : Type 1} → statement M
 list-numbers-spec =

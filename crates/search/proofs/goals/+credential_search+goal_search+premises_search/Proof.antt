@@ -3,20 +3,23 @@
 use Prim.Native.Nat.{_*_, _+_, _-_, _≤_}
 use Rattle.automata.specs.Automata.{acceptingSet}
 use Rattle.automata.specs.Sets.{part}
-use Rattle.search.proofs.Trying.{AtMiddle, any-all, asked-proved, every-more, every-not, goal-again, goal-decided, level-none, met-by, middle-found, middle-next, middle-over, middle-starts, proved-all, proved-given, proved-goals, proved-none, proves-here, proves-later, provesAt, word-proved}
+use Rattle.search.proofs.Middles.{AtMiddle, middle-found, middle-next, middle-over, middle-starts, proved-given, proved-none}
+use Rattle.search.proofs.Trying.{Entered, any-all, every-asked, every-more, goal-again, goal-decided, level-none, next-numbered, one-deeper, proved-all, proved-not, proves-here, provesAt, room-all, room-for, unproved-next, unused-next, word-proved}
 use Rattle.derivation.specs.Held.{above}
 use Rattle.derivation.specs.Rules.{goal, premises}
 use Rattle.search.specs.Search.{everyGoal, proves}
-use Rattle.table.proofs.Tests.{and-is, and-is-off, failed, passed}
+use Rattle.table.proofs.Tests.{failed, passed}
 use Rattle.table.proofs.WellFormed.{wf-sized}
 use Rattle.table.specs.Limits.{mostPrincipals}
 use Rattle.table.specs.Logic.{anyBelow}
-use lib.ListN.{length, take}
+use lib.ListN.{take}
 use mathlib.Core.Bool.{false, true}
+use mathlib.Core.Logic.{⊎-elim}
+use denote.Ref.{now}
 use mathlib.Core.Path.{_∙_, _≡_, refl, sym}
 use native.Mathlib.Omega.{arith}
 use Prim.Native.Nat.{ℕ, _<_}
-use borrow.Fn.Kinds.{In}
+use borrow.Fn.Kinds.{In, Out}
 use borrow.Fn.PlainCycle.{Measures, is, falls, and}
 use Rattle.search.proofs.goals.credential_search.Reads as credential-search
 use Rattle.search.proofs.goals.credential_search.Kinds as credential-search-kinds
@@ -96,47 +99,64 @@ abbrev credential-search-μ-loop : credential-search-lts.MeasureT-loop
 credential-search-μ-loop table terms goal c levels states branch middle₀ middle = mostPrincipals + 1 - middle
 
 abbrev credential-search-claims : ℕ → credential-search-lts.Claims
-credential-search-claims t = (next-middle-reads.Asked, next-middle-reads.Learnt, premises-reads.Asked, premises-reads.Learnt, premises-search-below t, premises-search.Post)
+credential-search-claims t = (
+  next-middle-reads.Asked,
+  next-middle-reads.Learnt,
+  premises-reads.Asked,
+  premises-reads.Learnt,
+  premises-search-below t,
+  premises-search.Post,
+)
 
 abbrev goal-search-claims : ℕ → goal-search-lts.Claims
-goal-search-claims t = (is-fresh-reads.Asked, is-fresh-reads.Learnt, moved-reads.Asked, moved-reads.Learnt, with-reads.Asked, with-reads.Learnt, may-use-reads.Asked, may-use-reads.Learnt, credential-search-below t, credential-search.Post)
+goal-search-claims t = (
+  is-fresh-reads.Asked,
+  is-fresh-reads.Learnt,
+  moved-reads.Asked,
+  moved-reads.Learnt,
+  with-reads.Asked,
+  with-reads.Learnt,
+  may-use-reads.Asked,
+  may-use-reads.Learnt,
+  credential-search-below t,
+  credential-search.Post,
+)
 
 abbrev premises-search-claims : ℕ → premises-search-lts.Claims
-premises-search-claims t = (accepting-reads.Asked, accepting-reads.Learnt, is-asked-before-reads.Asked, is-asked-before-reads.Learnt, goal-search-below t, goal-search.Post)
+premises-search-claims t = (
+  accepting-reads.Asked,
+  accepting-reads.Learnt,
+  is-asked-before-reads.Asked,
+  is-asked-before-reads.Learnt,
+  goal-search-below t,
+  goal-search.Post,
+)
 
-credential-search-next-middle-requires : (t : ℕ) → credential-search-lts.Need-next-middle-requires (credential-search-claims t) (credential-search-at t)
-    credential-search.Post
-    credential-search-Inv-loop
-    credential-search-μ-loop
+-- what `credential_search` needs, whatever its measure is
+abbrev credential-search-needs :
+    (credential-search-lts.Claims → In 1 credential-search-kinds.ps → Out 1 credential-search-kinds.ps credential-search-kinds.r
+    → credential-search-lts.InvT-loop → credential-search-lts.MeasureT-loop → Type 0) → Type 0
+credential-search-needs need =
+    (t : ℕ)
+    → need (credential-search-claims t) (credential-search-at t) credential-search.Post credential-search-Inv-loop credential-search-μ-loop
+
+credential-search-next-middle-requires : credential-search-needs credential-search-lts.Need-next-middle-requires
 credential-search-next-middle-requires t c κs = ((c .before .pre .1 .0), (c .before .pre .1 .1 .1, omega arith))
 
-credential-search-loop-holds : (t : ℕ) → credential-search-lts.Need-loop-holds (credential-search-claims t) (credential-search-at t)
-    credential-search.Post
-    credential-search-Inv-loop
-    credential-search-μ-loop
+credential-search-loop-holds : credential-search-needs credential-search-lts.Need-loop-holds
 credential-search-loop-holds t c = middle-starts _ _ _ _ _ _ _ (c .next-middle .ensures)
 
-credential-search-premises-requires : (t : ℕ) → credential-search-lts.Need-premises-requires (credential-search-claims t) (credential-search-at t)
-    credential-search.Post
-    credential-search-Inv-loop
-    credential-search-μ-loop
+credential-search-premises-requires : credential-search-needs credential-search-lts.Need-premises-requires
 credential-search-premises-requires t c κs =
     let pre = c .before .before .before .before .pre in
     (pre .1 .0)
 
-credential-search-premises-search-requires :
-    (t : ℕ) → credential-search-lts.Need-premises-search-requires (credential-search-claims t) (credential-search-at t)
-    credential-search.Post
-    credential-search-Inv-loop
-    credential-search-μ-loop
+credential-search-premises-search-requires : credential-search-needs credential-search-lts.Need-premises-search-requires
 credential-search-premises-search-requires t c κs =
     let pre = c .before .before .before .before .before .before .pre in
     (omega (arith, pre .0), ((pre .1 .0), (pre .1 .1 .0, c .before .premises .ensures .0)))
 
-credential-search-returns : (t : ℕ) → credential-search-lts.Need-returns (credential-search-claims t) (credential-search-at t)
-    credential-search.Post
-    credential-search-Inv-loop
-    credential-search-μ-loop
+credential-search-returns : credential-search-needs credential-search-lts.Need-returns
 credential-search-returns t c =
     let loop = c .before .before .before .before .before .loop in
     let loop-test = c .before .before .before .before .loop-test in
@@ -145,45 +165,30 @@ credential-search-returns t c =
     middle-found _ _ _ _ _ _ _ (loop .inv) (loop-test .taken) (proved-given _ _ _ (asked .ensures .1) (if1 .taken)
     (sym (c .if2 .taken) ∙ c .before .premises-search .ensures))
 
-credential-search-add-next-middle : (t : ℕ) → credential-search-lts.Need-add-next-middle (credential-search-claims t) (credential-search-at t)
-    credential-search.Post
-    credential-search-Inv-loop
-    credential-search-μ-loop
+credential-search-add-next-middle : credential-search-needs credential-search-lts.Need-add-next-middle
 credential-search-add-next-middle t c = omega arith
 
-credential-search-next-middle-requires-2 :
-    (t : ℕ) → credential-search-lts.Need-next-middle-requires-2 (credential-search-claims t) (credential-search-at t)
-    credential-search.Post
-    credential-search-Inv-loop
-    credential-search-μ-loop
+credential-search-next-middle-requires-2 : credential-search-needs credential-search-lts.Need-next-middle-requires-2
 credential-search-next-middle-requires-2 t c κs =
     let pre = c .before .before .before .before .before .before .pre in
     let loop-test = c .before .before .loop-test in
     ((pre .1 .0), (pre .1 .1 .1, omega (arith, loop-test .taken)))
 
-credential-search-loop-less : (t : ℕ) → credential-search-lts.Need-loop-less (credential-search-claims t) (credential-search-at t)
-    credential-search.Post
-    credential-search-Inv-loop
-    credential-search-μ-loop
+credential-search-loop-less : credential-search-needs credential-search-lts.Need-loop-less
 credential-search-loop-less t c =
     let loop-test = c .before .before .before .loop-test in
     omega (arith, c .next-middle2 .ensures .later, loop-test .taken)
 
-credential-search-loop-again : (t : ℕ) → credential-search-lts.Need-loop-again (credential-search-claims t) (credential-search-at t)
-    credential-search.Post
-    credential-search-Inv-loop
-    credential-search-μ-loop
+credential-search-loop-again : credential-search-needs credential-search-lts.Need-loop-again
 credential-search-loop-again t c =
     let loop = c .before .before .before .before .loop in
-    let asked = c .before .before .premises in
-    middle-next _ _ _ _ _ _ _ _ (loop .inv) (met-by (λ way. proved-given _ _ _ (asked .ensures .1) (way .0 .taken)
-    (sym (way .2 .left) ∙ way .1 .ensures)) (λ way. proved-none _ _ _ (asked .ensures .1) (way .left)) (c .before .if1 .came))
+    let asked = c .before .before .premises .ensures .1 in
+    middle-next _ _ _ _ _ _ _ (loop .inv) _
+    (⊎-elim (λ way. proved-given _ _ _ asked (way .0 .taken) (sym (way .2 .left) ∙ way .1 .ensures))
+    (λ way. proved-none _ _ _ asked (way .left)) (c .before .if1 .came))
     (c .next-middle2 .ensures)
 
-credential-search-returns-2 : (t : ℕ) → credential-search-lts.Need-returns-2 (credential-search-claims t) (credential-search-at t)
-    credential-search.Post
-    credential-search-Inv-loop
-    credential-search-μ-loop
+credential-search-returns-2 : credential-search-needs credential-search-lts.Need-returns-2
 credential-search-returns-2 t c = middle-over _ _ _ _ _ _ _ (c .before .loop .inv) (c .loop-test .left)
 
 abbrev goal-search-Inv-loop : goal-search-lts.InvT-loop
@@ -194,125 +199,119 @@ goal-search-Inv-loop table terms goal levels below deeper n i₀ i =
 abbrev goal-search-μ-loop : goal-search-lts.MeasureT-loop
 goal-search-μ-loop table terms goal levels below deeper n i₀ i = n - i
 
-goal-search-returns : (t : ℕ) → goal-search-lts.Need-returns (goal-search-claims t) (goal-search-at t) goal-search.Post goal-search-Inv-loop goal-search-μ-loop
+-- what `goal_search` needs, whatever its measure is
+abbrev goal-search-needs :
+    (goal-search-lts.Claims → In 1 goal-search-kinds.ps → Out 1 goal-search-kinds.ps goal-search-kinds.r
+    → goal-search-lts.InvT-loop → goal-search-lts.MeasureT-loop → Type 0) → Type 0
+goal-search-needs need =
+    (t : ℕ) → need (goal-search-claims t) (goal-search-at t) goal-search.Post goal-search-Inv-loop goal-search-μ-loop
+
+goal-search-returns : goal-search-needs goal-search-lts.Need-returns
 goal-search-returns t c = level-none _ _ _ _ _ _ _ (c .if1 .taken)
 
-goal-search-is-fresh-requires : (t : ℕ) → goal-search-lts.Need-is-fresh-requires (goal-search-claims t) (goal-search-at t) goal-search.Post goal-search-Inv-loop goal-search-μ-loop
+goal-search-is-fresh-requires : goal-search-needs goal-search-lts.Need-is-fresh-requires
 goal-search-is-fresh-requires t c κs =
     let pre = c .before .before .pre in
     pre .1 .1 .0
 
-goal-search-returns-2 : (t : ℕ) → goal-search-lts.Need-returns-2 (goal-search-claims t) (goal-search-at t) goal-search.Post goal-search-Inv-loop goal-search-μ-loop
+goal-search-returns-2 : goal-search-needs goal-search-lts.Need-returns-2
 goal-search-returns-2 t c =
     let if1 = c .before .before .if1 in
     goal-again _ _ _ _ _ _ _ (if1 .left) (failed (c .before .is-fresh .ensures) (c .if2 .taken))
 
-goal-search-moved-requires : (t : ℕ) → goal-search-lts.Need-moved-requires (goal-search-claims t) (goal-search-at t) goal-search.Post goal-search-Inv-loop goal-search-μ-loop
+-- behind the entry: a level is left, the goal is new, and branch and state sets are one step on
+goal-search-entered : (t : ℕ)
+    (c : goal-search-lts.After-with (goal-search-claims t) (goal-search-at t) goal-search.Post goal-search-Inv-loop goal-search-μ-loop)
+    → let args = c .before .before .before .before .before .before .args in
+    let moved-on = c .before .moved .result in
+    Entered (now (args .table)) (args .levels) (above (args .branch)) (above (c .with .result)) (args .states) moved-on (args .goal)
+goal-search-entered t c =
+    let if1 = c .before .before .before .before .if1 in
+    let is-fresh = c .before .before .before .is-fresh in
+    let new = passed (is-fresh .ensures) (c .before .before .if2 .left) in
+    record { left = if1 .left; new = new; deeper = c .with .ensures .1 .1; moved = c .before .moved .ensures }
+
+goal-search-moved-requires : goal-search-needs goal-search-lts.Need-moved-requires
 goal-search-moved-requires t c κs =
     let pre = c .before .before .before .before .pre in
     (pre .1 .0)
 
-goal-search-with-requires : (t : ℕ) → goal-search-lts.Need-with-requires (goal-search-claims t) (goal-search-at t) goal-search.Post goal-search-Inv-loop goal-search-μ-loop
+goal-search-with-requires : goal-search-needs goal-search-lts.Need-with-requires
 goal-search-with-requires t c κs =
     let pre = c .before .before .before .before .before .pre in
     let if1 = c .before .before .before .if1 in
     (pre .1 .1 .0, omega (arith, if1 .left, pre .1 .1 .1))
 
-goal-search-shared-slice-read-n : (t : ℕ) → goal-search-lts.Need-shared-slice-read-n (goal-search-claims t) (goal-search-at t) goal-search.Post goal-search-Inv-loop goal-search-μ-loop
+goal-search-shared-slice-read-n : goal-search-needs goal-search-lts.Need-shared-slice-read-n
 goal-search-shared-slice-read-n t c =
     let pre = c .before .before .before .before .before .before .before .pre in
     omega (arith, wf-sized _ (pre .1 .0) .counted .head)
 
-goal-search-loop-holds : (t : ℕ) → goal-search-lts.Need-loop-holds (goal-search-claims t) (goal-search-at t) goal-search.Post goal-search-Inv-loop goal-search-μ-loop
+goal-search-loop-holds : goal-search-needs goal-search-lts.Need-loop-holds
 unfolding anyBelow
 goal-search-loop-holds t c = (omega arith, refl)
 
-goal-search-add-may-use : (t : ℕ) → goal-search-lts.Need-add-may-use (goal-search-claims t) (goal-search-at t) goal-search.Post goal-search-Inv-loop goal-search-μ-loop
+goal-search-add-may-use : goal-search-needs goal-search-lts.Need-add-may-use
 goal-search-add-may-use t c =
     let pre = c .before .before .before .before .before .before .before .before .before .pre in
     omega (arith, wf-sized _ (pre .1 .0) .counted .fewCredentials, c .loop-test .taken)
 
-goal-search-may-use-requires : (t : ℕ) → goal-search-lts.Need-may-use-requires (goal-search-claims t) (goal-search-at t) goal-search.Post goal-search-Inv-loop goal-search-μ-loop
+goal-search-may-use-requires : goal-search-needs goal-search-lts.Need-may-use-requires
 goal-search-may-use-requires t c κs =
     let pre = c .before .before .before .before .before .before .before .before .before .pre in
-    ((pre .1 .0), record { first = omega arith; last = omega (arith, c .loop-test .taken) })
+    (pre .1 .0, next-numbered _ _ (c .loop-test .taken))
 
-goal-search-add-credential-search : (t : ℕ) → goal-search-lts.Need-add-credential-search (goal-search-claims t) (goal-search-at t) goal-search.Post goal-search-Inv-loop goal-search-μ-loop
+goal-search-add-credential-search : goal-search-needs goal-search-lts.Need-add-credential-search
 goal-search-add-credential-search t c =
     let pre = c .before .before .before .before .before .before .before .before .before .before .before .pre in
     let loop-test = c .before .before .loop-test in
     omega (arith, wf-sized _ (pre .1 .0) .counted .fewCredentials, loop-test .taken)
 
-goal-search-sub-credential-search : (t : ℕ) → goal-search-lts.Need-sub-credential-search (goal-search-claims t) (goal-search-at t) goal-search.Post goal-search-Inv-loop goal-search-μ-loop
+goal-search-sub-credential-search : goal-search-needs goal-search-lts.Need-sub-credential-search
 goal-search-sub-credential-search t c =
     let if1 = c .before .before .before .before .before .before .before .before .before .if1 in
     omega (arith, if1 .left)
 
-goal-search-credential-search-requires : (t : ℕ) → goal-search-lts.Need-credential-search-requires (goal-search-claims t) (goal-search-at t) goal-search.Post goal-search-Inv-loop goal-search-μ-loop
+goal-search-credential-search-requires : goal-search-needs goal-search-lts.Need-credential-search-requires
 goal-search-credential-search-requires t c κs =
     let pre = c .before .before .before .before .before .before .before .before .before .before .before .pre in
     let if1 = c .before .before .before .before .before .before .before .before .before .if1 in
-    let with = c .before .before .before .before .before .with in
-    let loop-test = c .before .before .loop-test in (
-      omega (arith, pre .0, if1 .left),
-      (
-        (pre .1 .0),
-        (
-          (
-            with .ensures .0,
-            omega (
-              arith,
-              with .ensures .1 .0,
-              if1 .left,
-              pre .1 .1 .1,
-            ),
-          ),
-          record { first = omega arith; last = omega (arith, loop-test .taken) },
-        ),
-      ),
-    )
+    let longer = c .before .before .before .before .before .with .ensures in
+    let fits = one-deeper _ _ _ (if1 .left) (longer .1 .0) (pre .1 .1 .1) in
+    let there = next-numbered _ _ (c .before .before .loop-test .taken) in
+    (omega (arith, pre .0, if1 .left), (pre .1 .0, ((longer .0, fits), there)))
 
-goal-search-returns-3 : (t : ℕ) → goal-search-lts.Need-returns-3 (goal-search-claims t) (goal-search-at t) goal-search.Post goal-search-Inv-loop goal-search-μ-loop
+goal-search-returns-3 : goal-search-needs goal-search-lts.Need-returns-3
 goal-search-returns-3 t c =
-    let if1 = c .before .before .before .before .before .before .before .before .before .before .before .if1 in
-    let is-fresh = c .before .before .before .before .before .before .before .before .before .before .is-fresh in
-    let if2 = c .before .before .before .before .before .before .before .before .before .if2 in
-    let moved′ = c .before .before .before .before .before .before .before .before .moved in
-    let with = c .before .before .before .before .before .before .before .with in
     let loop-test = c .before .before .before .before .loop-test in
     let may-use = c .before .before .before .may-use in
     let if3 = c .before .before .if3 in
-    goal-decided _ _ _ _ _ _ _ _ _ (if1 .left) (passed (is-fresh .ensures) (if2 .left)) (moved′ .ensures) (with .ensures .1 .1)
-    (proves-here _ _ _ _ _ _ _ (loop-test .taken) (sym (may-use .ensures) ∙ if3 .taken) (sym (c .before .credential-search .ensures)
-    ∙ c .if4 .taken))
+    goal-decided _ _ _ _ _ _ _ _ _ (goal-search-entered t (c .before .before .before .before .before .before .before))
+    (proves-here _ _ _ _ _ _ (may-use .ensures) _ (loop-test .taken) (if3 .taken) (c .before .credential-search .ensures) (c .if4 .taken))
 
-goal-search-add-i : (t : ℕ) → goal-search-lts.Need-add-i (goal-search-claims t) (goal-search-at t) goal-search.Post goal-search-Inv-loop goal-search-μ-loop
+goal-search-add-i : goal-search-needs goal-search-lts.Need-add-i
 goal-search-add-i t c =
     let pre = c .before .before .before .before .before .before .before .before .before .before .before .pre in
     let loop-test = c .before .before .loop-test in
     omega (arith, wf-sized _ (pre .1 .0) .counted .fewCredentials, loop-test .taken)
 
-goal-search-loop-less : (t : ℕ) → goal-search-lts.Need-loop-less (goal-search-claims t) (goal-search-at t) goal-search.Post goal-search-Inv-loop goal-search-μ-loop
+goal-search-loop-less : goal-search-needs goal-search-lts.Need-loop-less
 goal-search-loop-less t c = omega arith
 
-goal-search-loop-again : (t : ℕ) → goal-search-lts.Need-loop-again (goal-search-claims t) (goal-search-at t) goal-search.Post goal-search-Inv-loop goal-search-μ-loop
+goal-search-loop-again : goal-search-needs goal-search-lts.Need-loop-again
 goal-search-loop-again t c =
-    let loop = c .before .before .before .loop in (
+    let so-far = c .before .before .before .loop .inv .1 in
+    let may-use = c .before .may-use .ensures in (
       omega arith,
-      proves-later _ _ _ _ _ _ (loop .inv .1) (met-by (λ way. and-is (sym (c .before .may-use .ensures)
-          ∙ way .0 .taken) (sym (way .1 .ensures) ∙ way .2 .left)) (λ way. and-is-off _ (sym (c .before .may-use .ensures)
-          ∙ way .left)) (c .if3 .came)),
+      ⊎-elim (λ way. unproved-next _ _ _ _ _ _ may-use so-far (way .1 .ensures) (way .2 .left))
+          (λ way. unused-next _ _ _ _ _ _ may-use so-far (way .left)) (c .if3 .came),
     )
 
-goal-search-returns-4 : (t : ℕ) → goal-search-lts.Need-returns-4 (goal-search-claims t) (goal-search-at t) goal-search.Post goal-search-Inv-loop goal-search-μ-loop
+goal-search-returns-4 : goal-search-needs goal-search-lts.Need-returns-4
 goal-search-returns-4 t c =
-    let if1 = c .before .before .before .before .before .before .before .if1 in
-    let is-fresh = c .before .before .before .before .before .before .is-fresh in
-    let if2 = c .before .before .before .before .before .if2 in
-    let moved′ = c .before .before .before .before .moved in
-    let with = c .before .before .before .with in
-    goal-decided _ _ _ _ _ _ _ _ _ (if1 .left) (passed (is-fresh .ensures) (if2 .left)) (moved′ .ensures) (with .ensures .1 .1)
-    (any-all _ _ _ (omega (arith, c .before .loop .inv .0, c .loop-test .left)) (c .before .loop .inv .1))
+    let loop = c .before .loop in
+    goal-decided _ _ _ _ _ _ _ _ _ (goal-search-entered t (c .before .before .before))
+    (any-all _ _ _ (omega (arith, loop .inv .0, c .loop-test .left)) (loop .inv .1))
 
 abbrev premises-search-Inv-loop : premises-search-lts.InvT-loop
 premises-search-Inv-loop table terms levels states branch premises len i₀ i =
@@ -322,87 +321,85 @@ premises-search-Inv-loop table terms levels states branch premises len i₀ i =
 abbrev premises-search-μ-loop : premises-search-lts.MeasureT-loop
 premises-search-μ-loop table terms levels states branch premises len i₀ i = len - i
 
-premises-search-accepting-requires : (t : ℕ) → premises-search-lts.Need-accepting-requires (premises-search-claims t) (premises-search-at t) premises-search.Post premises-search-Inv-loop premises-search-μ-loop
+-- what `premises_search` needs, whatever its measure is
+abbrev premises-search-needs :
+    (premises-search-lts.Claims → In 1 premises-search-kinds.ps → Out 1 premises-search-kinds.ps premises-search-kinds.r
+    → premises-search-lts.InvT-loop → premises-search-lts.MeasureT-loop → Type 0) → Type 0
+premises-search-needs need =
+    (t : ℕ) → need (premises-search-claims t) (premises-search-at t) premises-search.Post premises-search-Inv-loop premises-search-μ-loop
+
+premises-search-accepting-requires : premises-search-needs premises-search-lts.Need-accepting-requires
 premises-search-accepting-requires t c κs =
     let pre = c .before .before .pre in
     (pre .1 .0)
 
-premises-search-returns : (t : ℕ) → premises-search-lts.Need-returns (premises-search-claims t) (premises-search-at t) premises-search.Post premises-search-Inv-loop premises-search-μ-loop
+premises-search-returns : premises-search-needs premises-search-lts.Need-returns
 premises-search-returns t c = word-proved _ _ _ _ _ _ _ (c .accepting .ensures) (c .before .if1 .taken)
 
-premises-search-loop-holds : (t : ℕ) → premises-search-lts.Need-loop-holds (premises-search-claims t) (premises-search-at t) premises-search.Post premises-search-Inv-loop premises-search-μ-loop
+premises-search-loop-holds : premises-search-needs premises-search-lts.Need-loop-holds
 unfolding everyGoal
 premises-search-loop-holds t c = (omega arith, refl)
 
-premises-search-is-asked-before-requires :
-    (t : ℕ) → premises-search-lts.Need-is-asked-before-requires (premises-search-claims t) (premises-search-at t) premises-search.Post premises-search-Inv-loop premises-search-μ-loop
+premises-search-is-asked-before-requires : premises-search-needs premises-search-lts.Need-is-asked-before-requires
 premises-search-is-asked-before-requires t c κs =
     let pre = c .before .before .before .before .pre in
     (pre .1 .1 .1, c .loop-test .taken)
 
-premises-search-mul-goal-search : (t : ℕ) → premises-search-lts.Need-mul-goal-search (premises-search-claims t) (premises-search-at t) premises-search.Post premises-search-Inv-loop premises-search-μ-loop
+premises-search-mul-goal-search : premises-search-needs premises-search-lts.Need-mul-goal-search
 premises-search-mul-goal-search t c =
     let pre = c .before .before .before .before .before .before .pre in
     let loop-test = c .before .before .loop-test in
     omega (arith, pre .1 .1 .1 .fits, loop-test .taken)
 
-premises-search-element-copy-out-goal-search :
-    (t : ℕ) → premises-search-lts.Need-element-copy-out-goal-search (premises-search-claims t) (premises-search-at t) premises-search.Post premises-search-Inv-loop premises-search-μ-loop
+premises-search-element-copy-out-goal-search : premises-search-needs premises-search-lts.Need-element-copy-out-goal-search
 premises-search-element-copy-out-goal-search t c =
     let pre = c .before .before .before .before .before .before .pre in
     let loop-test = c .before .before .loop-test in
     omega (arith, pre .1 .1 .1 .fits, pre .1 .1 .1 .size, loop-test .taken)
 
-premises-search-goal-search-requires : (t : ℕ) → premises-search-lts.Need-goal-search-requires (premises-search-claims t) (premises-search-at t) premises-search.Post premises-search-Inv-loop premises-search-μ-loop
+premises-search-goal-search-requires : premises-search-needs premises-search-lts.Need-goal-search-requires
 premises-search-goal-search-requires t c κs =
     let pre = c .before .before .before .before .before .before .before .pre in
     (omega (arith, pre .0), ((pre .1 .0), pre .1 .1 .0))
 
-premises-search-returns-2 : (t : ℕ) → premises-search-lts.Need-returns-2 (premises-search-claims t) (premises-search-at t) premises-search.Post premises-search-Inv-loop premises-search-μ-loop
+premises-search-returns-2 : premises-search-needs premises-search-lts.Need-returns-2
 premises-search-returns-2 t c =
     let if1 = c .before .before .before .before .before .before .before .if1 in
     let pre = c .before .before .before .before .before .before .before .before .before .pre in
     let loop-test = c .before .before .before .before .before .loop-test in
-    proved-goals _ _ _ _ (if1 .left) (omega (arith, pre .1 .1 .1 .fits, pre .1 .1 .1 .size)) (every-not _ _ _ _
-    (loop-test .taken) (omega (arith, pre .1 .1 .1 .fits, pre .1 .1 .1 .size)) (failed (c .before .goal-search .ensures)
-    (c .if3 .taken)))
+    let unproved = failed (c .before .goal-search .ensures) (c .if3 .taken) in
+    proved-not _ _ _ _ (if1 .left) (room-all (pre .1 .1 .1)) _ (loop-test .taken) unproved
 
-premises-search-add-i : (t : ℕ) → premises-search-lts.Need-add-i (premises-search-claims t) (premises-search-at t) premises-search.Post premises-search-Inv-loop premises-search-μ-loop
+premises-search-add-i : premises-search-needs premises-search-lts.Need-add-i
 premises-search-add-i t c =
     let pre = c .before .before .before .before .before .before .pre in
     omega (arith, pre .1 .1 .1 .fits)
 
-premises-search-loop-less : (t : ℕ) → premises-search-lts.Need-loop-less (premises-search-claims t) (premises-search-at t) premises-search.Post premises-search-Inv-loop premises-search-μ-loop
+premises-search-loop-less : premises-search-needs premises-search-lts.Need-loop-less
 premises-search-loop-less t c = omega arith
 
-premises-search-loop-again : (t : ℕ) → premises-search-lts.Need-loop-again (premises-search-claims t) (premises-search-at t) premises-search.Post premises-search-Inv-loop premises-search-μ-loop
+premises-search-loop-again : premises-search-needs premises-search-lts.Need-loop-again
 premises-search-loop-again t c =
-    let loop = c .before .before .before .loop in
-    let args = c .before .before .before .before .before .before .args in
+    let so-far = c .before .before .before .loop .inv .1 in
     let pre = c .before .before .before .before .before .before .pre in
-    let loop-test = c .before .before .loop-test in
-    let room : loop .i < length (args .t3 .goals) = omega (
-      arith,
-      pre .1 .1 .1 .fits,
-      pre .1 .1 .1 .size,
-      loop-test .taken,
-    ) in (
+    let there = room-for (pre .1 .1 .1) (c .before .before .loop-test .taken) in (
       omega arith,
-      every-more _ _ _ room (loop .inv .1) (met-by (λ way. passed (way .2 .ensures)
-          (way .3 .left)) (λ way. asked-proved _ _ _ room (passed (c .before .is-asked-before .ensures) (way .left))
-          (loop .inv .1)) (c .if2 .came)),
+      ⊎-elim (λ way. every-more _ _ _ there so-far (passed (way .2 .ensures) (way .3 .left)))
+          (λ way. every-asked _ _ _ there so-far (passed (c .before .is-asked-before .ensures) (way .left))) (c .if2 .came),
     )
 
-premises-search-returns-3 : (t : ℕ) → premises-search-lts.Need-returns-3 (premises-search-claims t) (premises-search-at t) premises-search.Post premises-search-Inv-loop premises-search-μ-loop
+premises-search-returns-3 : premises-search-needs premises-search-lts.Need-returns-3
 premises-search-returns-3 t c =
     let if1 = c .before .before .if1 in
     let pre = c .before .before .before .before .pre in
-    proved-all _ _ _ _ (c .before .loop .i) (if1 .left) (omega (arith, pre .1 .1 .1 .fits, pre .1 .1 .1 .size))
-    (omega (arith, c .before .loop .inv .0, c .loop-test .left)) (c .before .loop .inv .1)
+    let loop = c .before .loop in
+    proved-all _ _ _ _ (if1 .left) (room-all (pre .1 .1 .1)) (loop .i)
+    (omega (arith, loop .inv .0, c .loop-test .left)) (loop .inv .1)
 
 pub +credential-search+goal-search+premises-search-spec : {M : Type 1} → statement M
 +credential-search+goal-search+premises-search-spec =
-    close μ-credential-search μ-goal-search μ-premises-search (λ t. credential-search-lts.spec (credential-search-claims t) (credential-search-at t)
+    close μ-credential-search μ-goal-search μ-premises-search
+    (λ t. credential-search-lts.spec (credential-search-claims t) (credential-search-at t)
     credential-search.Post
     credential-search-Inv-loop
     credential-search-μ-loop

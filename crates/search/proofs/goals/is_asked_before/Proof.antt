@@ -1,8 +1,8 @@
--- `is_asked_before`: none of the goals before j is goal i. Assumes that i is the number of a goal.
+-- `search::goals::is_asked_before`: none of the goals before j is goal i. Assumes that i is the number of a goal.
 use Prim.Native.Nat.{_-_, _≤_}
-use Rattle.search.proofs.Trying.{asked-here, asked-later, asked-nowhere, isNamed}
-use Rattle.derivation.specs.Rules.{premises}
+use Rattle.search.proofs.Trying.{asked-here, asked-nowhere, isNamed}
 use Rattle.table.specs.Logic.{anyBelow}
+use Rattle.table.proofs.Tests.{any-next}
 use borrow.Author.Needs.{needs}
 use mathlib.Core.Bool.{false}
 use mathlib.Core.Path.{_∙_, _≡_, refl, sym}
@@ -52,12 +52,8 @@ loop-less c = omega arith
 
 loop-again : tie.Need-loop-again Inv-loop μ-loop
 loop-again c =
-    let args = c .before .before .before .before .before .before .args in
-    let loop = c .before .before .before .before .loop in (
-      omega arith,
-      asked-later (args .t1 .goals) (args .i) (loop .j) (loop .inv .1) (sym (c .before .same-goal .ensures)
-          ∙ c .if1 .left),
-    )
+    let so-far = c .before .before .before .before .loop .inv .1 in
+    (omega arith, any-next _ _ so-far (sym (c .before .same-goal .ensures) ∙ c .if1 .left))
 
 returns-2 : tie.Need-returns-2 Inv-loop μ-loop
 returns-2 c =

@@ -1,4 +1,4 @@
--- `may_use`: the credential is in the set, and its role is the goal's. Assumes an accepted table and a credential of it.
+-- `search::goals::may_use`: the credential is in the set, and its role is the goal's. Assumes an accepted table and a credential of it.
 use Rattle.automata.specs.Sets.{inSet}
 use Rattle.search.proofs.Trying.{uses-role}
 use Rattle.search.specs.Search.{mayUse}
@@ -29,14 +29,8 @@ wide-requires c κs = search needs
 
 credential-requires : tie.Need-credential-requires
 credential-requires c κs =
-    let pre = c .before .before .before .pre in (
-      wf-sized _ (pre .0),
-      record {
-        first = omega (arith, c .wide .ensures .0, pre .1 .first);
-        last = omega
-            (arith, c .wide .ensures .0, pre .1 .last);
-      },
-    )
+    let pre = c .before .before .before .pre in
+    (wf-sized _ (pre .0), rw (c .wide .ensures .0) (pre .1))
 
 same-requires : tie.Need-same-requires
 same-requires c κs = search needs

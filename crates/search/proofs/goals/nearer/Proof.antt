@@ -1,5 +1,5 @@
--- `nearer`: the tests one after the other, each with its way out. Assumes nothing.
-use Rattle.search.proofs.Trying.{nearer-after, nearer-before, nearer-between, nearer-kind, nearer-other}
+-- `search::goals::nearer`: the tests one after the other, each with its way out. Assumes nothing.
+use Rattle.search.proofs.Middles.{nearer-after, nearer-before, nearer-between, nearer-kind, nearer-other}
 use Rattle.search.proofs.goals.nearer.Statement.{statement}
 use Rattle.search.proofs.goals.nearer.Tie as tie
 

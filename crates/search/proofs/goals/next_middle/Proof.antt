@@ -1,7 +1,7 @@
--- `next_middle`: `least` is the nearest of the members that the first i credentials name. Assumes an accepted table and a
+-- `search::goals::next_middle`: `least` is the nearest of the members that the first i credentials name. Assumes an accepted table and a
 -- credential of it.
 use Prim.Native.Nat.{_-_, _≤_}
-use Rattle.search.proofs.Trying.{Nearest, middle-first, middle-linking, middle-none, nearest-next, nearest-none}
+use Rattle.search.proofs.Middles.{Nearest, middle-first, middle-linking, middle-none, nearest-next, nearest-none}
 use Rattle.table.proofs.WellFormed.{wf-sized}
 use borrow.Author.Needs.{needs}
 use mathlib.Core.Path.{_∙_, ap}
@@ -21,21 +21,15 @@ wide-requires c κs = search needs
 
 credential-requires : tie.Need-credential-requires Inv-loop μ-loop
 credential-requires c κs =
-    let pre = c .before .before .pre in (
-      wf-sized _ (pre .0),
-      record {
-        first = omega (arith, c .wide .ensures .0, pre .1 .0 .first);
-        last = omega
-            (arith, c .wide .ensures .0, pre .1 .0 .last);
-      },
-    )
+    let pre = c .before .before .pre in
+    (wf-sized _ (pre .0), rw (c .wide .ensures .0) (pre .1 .0))
 
 returns : tie.Need-returns Inv-loop μ-loop
 returns c =
     let found = c .before .before .before .credential in
     let wide = c .before .before .before .before .wide in
-    middle-first _ _ _ _ (found .ensures ∙ ap (Layout.credential _) (wide .ensures .0)) (c .before .if1 .taken)
-    _ (c .if2 .taken)
+    let read = found .ensures ∙ ap (Layout.credential _) (wide .ensures .0) in
+    middle-first _ _ _ _ _ read (c .before .if1 .taken) (c .if2 .taken)
 
 add-result : tie.Need-add-result Inv-loop μ-loop
 add-result c = omega arith
@@ -45,8 +39,8 @@ returns-2 c =
     let found = c .before .before .before .credential in
     let wide = c .before .before .before .before .wide in
     let pre = c .before .before .before .before .before .before .pre in
-    middle-none _ _ _ _ (found .ensures ∙ ap (Layout.credential _) (wide .ensures .0)) (c .before .if1 .taken) _
-    (c .if2 .left) (pre .1 .1)
+    let read = found .ensures ∙ ap (Layout.credential _) (wide .ensures .0) in
+    middle-none _ _ _ _ _ read (c .before .if1 .taken) (c .if2 .left) (pre .1 .1)
 
 shared-slice-read-wide : tie.Need-shared-slice-read-wide Inv-loop μ-loop
 shared-slice-read-wide c =
@@ -101,9 +95,9 @@ returns-3 c =
     let found = c .before .before .before .before .before .before .credential in
     let wide = c .before .before .before .before .before .before .before .wide in
     let if1 = c .before .before .before .before .if1 in
+    let read = found .ensures ∙ ap (Layout.credential _) (wide .ensures .0) in
     let wide2 = c .before .before .wide2 in
-    middle-linking _ _ _ _ _ _ _ (found .ensures ∙ ap (Layout.credential _) (wide .ensures .0)) (if1 .left)
-    (omega (arith, wide2 .ensures .0, c .before .loop .inv .0)) (c .before .loop .inv .1)
+    middle-linking _ _ _ _ _ read _ _ (if1 .left) (omega (arith, wide2 .ensures .0, c .before .loop .inv .0)) (c .before .loop .inv .1)
 
 pub next-middle-spec : {M : Type 1} → statement M
 next-middle-spec =

@@ -1,4 +1,4 @@
--- `same_goal`: equal principals and equal roles, tested one after the other. Assumes nothing.
+-- `search::goals::same_goal`: equal principals and equal roles, tested one after the other. Assumes nothing.
 use Rattle.search.specs.Search.{sameGoal}
 use Rattle.table.proofs.Tests.{and-is-off, and-on}
 use borrow.Author.Tests.{eq-eqb, ne-eqb}

@@ -1,7 +1,6 @@
--- `derivation::relevance::defining` meets its contract: of the first i credentials, those of the set that define the role
+-- `search::relevance::defining` meets its contract: of the first i credentials, those of the set that define the role
 -- are found. Assumes nothing.
-use mathlib.Core.Path.{_∙_, _≡_, refl, sym}
-use mathlib.Core.Logic.{⊎-elim}
+use mathlib.Core.Path.{_∙_, _≡_, refl}
 use Prim.Native.Nat.{_-_, _≤_}
 use native.Mathlib.Omega.{arith}
 use Rattle.automata.specs.Sets.{setOf}
@@ -9,7 +8,7 @@ use denote.Ref.{now}
 use Rattle.table.specs.Layout.{credentials}
 use Rattle.table.proofs.WellFormed.{wf-sized}
 use Rattle.search.specs.Relevance.{definers}
-use Rattle.search.proofs.Gathering.{definers-more, definers-other, definers-outside, definersTo}
+use Rattle.search.proofs.Gathering.{credential-few, definers-more, definers-other, definers-outside, definersTo, three-ways}
 use borrow.Author.Needs.{needs}
 use Rattle.search.proofs.relevance.defining.Statement.{statement}
 use Rattle.search.proofs.relevance.defining.Tie as tie
@@ -71,21 +70,14 @@ loop-less c = search needs
 
 loop-again : tie.Need-loop-again Inv-loop μ-loop
 loop-again c =
-    let pre = c .before .before .before .before .before .before .pre in
-    let so-far = c .before .before .loop .inv .1 in
-    ⊎-elim
-    (λ w. (
+    let few = credential-few _ (c .before .before .before .before .before .before .pre) in
+    let so-far = c .before .before .loop .inv .1 in (
       omega arith,
-      w .4 ∙ definers-more _ _ _ _ _ so-far (w .0 .taken) _ (w .1 .ensures)
-          (omega (arith, wf-sized _ pre .counted .fewCredentials)) (sym (w .2 .ensures) ∙ w .3 .taken),
-    ))
-    (⊎-elim
-    (λ w. (
-      omega arith,
-      w .4 ∙ definers-other _ _ _ _ _ so-far (w .0 .taken) _ (w .1 .ensures) (sym (w .2 .ensures) ∙ w .3 .left),
-    ))
-    (λ w. (omega arith, w .1 ∙ definers-outside _ _ _ _ _ so-far (w .0 .left))))
-    (c .if1 .came)
+      three-ways
+          (λ w. w .4 ∙ definers-more _ _ _ _ _ so-far (w .0 .taken) _ (w .1 .ensures) (w .2 .ensures) (w .3 .taken) (few (omega arith)))
+          (λ w. w .4 ∙ definers-other _ _ _ _ _ so-far (w .0 .taken) _ (w .1 .ensures) (w .2 .ensures) (w .3 .left))
+          (λ w. w .1 ∙ definers-outside _ _ _ _ _ so-far (w .0 .left)) (c .if1 .came),
+    )
 
 returns : tie.Need-returns Inv-loop μ-loop
 unfolding definers

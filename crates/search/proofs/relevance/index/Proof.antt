@@ -1,9 +1,8 @@
--- `derivation::relevance::index` meets its contract: the first i cells are made. Assumes nothing.
+-- `search::relevance::index` meets its contract: the first i cells are made. Assumes nothing.
 use mathlib.Core.Path.{_≡_, refl, _∙_}
 use Prim.Native.Nat.{_-_, _*_, _≤_, _<_}
 use native.Mathlib.Omega.{arith}
-use lib.ListN.{length}
-use lib.ListN.{length-set}
+use lib.ListN.{length, length-set}
 use Rattle.table.proofs.WellFormed.{wf-sized}
 use Rattle.search.proofs.Gathering.{chain-whole}
 use Rattle.search.proofs.Indexing.{IndexedTo, index-next}
@@ -33,7 +32,8 @@ add-credential : tie.Need-add-credential Inv-loop μ-loop
 add-credential c = omega (arith, wf-sized _ (c .before .before .before .before .before .pre) .counted .fewCredentials)
 
 credential-requires : tie.Need-credential-requires Inv-loop μ-loop
-credential-requires c κs = (wf-sized _ (c .before .before .before .before .before .pre), record { first = omega arith; last = omega arith })
+credential-requires c κs =
+    (wf-sized _ (c .before .before .before .before .before .pre), record { first = omega arith; last = omega arith })
 
 index-cell-requires : tie.Need-index-cell-requires Inv-loop μ-loop
 index-cell-requires c κs =
@@ -44,7 +44,9 @@ mul-index : tie.Need-mul-index Inv-loop μ-loop
 mul-index c = omega (arith, wf-sized _ (c .before .before .before .before .before .before .before .pre) .counted .fewCredentials)
 
 array-write-index : tie.Need-array-write-index Inv-loop μ-loop
-array-write-index c = omega (arith, wf-sized _ (c .before .before .before .before .before .before .before .pre) .counted .fewCredentials, c .before .before .before .loop .inv .1)
+array-write-index c =
+    let pre = c .before .before .before .before .before .before .before .pre in
+    omega (arith, wf-sized _ pre .counted .fewCredentials, c .before .before .before .loop .inv .1)
 
 add-i : tie.Need-add-i Inv-loop μ-loop
 add-i c = search needs
@@ -55,8 +57,12 @@ loop-less c = search needs
 loop-again : tie.Need-loop-again Inv-loop μ-loop
 loop-again c =
     let loop = c .before .before .before .loop in
-    let room : loop .i < length (loop .index) = omega (arith, wf-sized _ (c .before .before .before .before .before .before .before .pre) .counted .fewCredentials, loop .inv .1) in
-    (omega arith, length-set (loop .index) (loop .i) (c .index-cell .result) ∙ loop .inv .1, index-next _ (loop .index) (loop .i) _ _ room (loop .inv .2) (c .before .credential .ensures) (c .index-cell .ensures))
+    let pre = c .before .before .before .before .before .before .before .pre in
+    let room : loop .i < length (loop .index) = omega (arith, wf-sized _ pre .counted .fewCredentials, loop .inv .1) in (
+      omega arith,
+      length-set (loop .index) (loop .i) (c .index-cell .result) ∙ loop .inv .1,
+      index-next _ (loop .index) (loop .i) _ _ room (loop .inv .2) (c .before .credential .ensures) (c .index-cell .ensures),
+    )
 
 returns : tie.Need-returns Inv-loop μ-loop
 returns c =

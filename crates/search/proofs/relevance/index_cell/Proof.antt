@@ -1,4 +1,4 @@
--- `derivation::relevance::index_cell` meets its contract: the number of roles asked, or the definers of one. Assumes nothing.
+-- `search::relevance::index_cell` meets its contract: the number of roles asked, or the definers of one. Assumes nothing.
 use mathlib.Core.Path.{_∙_}
 use Rattle.search.proofs.Indexing.{cell-count, cell-role, cell-unused}
 use borrow.Author.Needs.{needs}

@@ -1,4 +1,4 @@
--- `derivation::relevance::is_meant` meets its contract: the owner is passed where it is 0 or the same. Assumes nothing.
+-- `search::relevance::is_meant` meets its contract: the owner is passed where it is 0 or the same. Assumes nothing.
 use mathlib.Core.Path.{sym}
 use mathlib.Core.Logic.{⊎-elim}
 use Rattle.search.proofs.Gathering.{meant-name, meant-other, meant-owner}

@@ -1,4 +1,4 @@
--- `derivation::relevance::is_new` meets its contract: both sets are looked at. Assumes nothing.
+-- `search::relevance::is_new` meets its contract: both sets are looked at. Assumes nothing.
 use mathlib.Core.Path.{refl, sym}
 use borrow.Author.Tests.{eq-eqb, ne-eqb}
 use Rattle.table.proofs.Tests.{and-is, and-is-off}

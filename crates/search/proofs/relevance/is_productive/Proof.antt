@@ -1,4 +1,4 @@
--- `derivation::relevance::is_productive` meets its contract: the first k of the roles asked are defined. Assumes nothing.
+-- `search::relevance::is_productive` meets its contract: the first k of the roles asked are defined. Assumes nothing.
 use mathlib.Core.Path.{_≡_, refl, sym, ap}
 use mathlib.Core.Bool.{false, not}
 use Prim.Native.Nat.{_-_, _*_, _≤_}
@@ -27,26 +27,38 @@ mul-len : tie.Need-mul-len Inv-loop μ-loop
 mul-len c = omega (arith, c .pre .there)
 
 shared-slice-read-len : tie.Need-shared-slice-read-len Inv-loop μ-loop
-shared-slice-read-len c = omega (arith, c .before .pre .room, c .before .pre .there, c .before .pre .few)
+shared-slice-read-len c =
+    let place = c .before .pre in
+    omega (arith, place .room, place .there, place .few)
 
 cast-len : tie.Need-cast-len Inv-loop μ-loop
-cast-len c = omega (arith, c .before .pre .room, c .before .pre .there, c .before .pre .few)
+cast-len c =
+    let place = c .before .pre in
+    omega (arith, place .room, place .there, place .few)
 
 loop-holds : tie.Need-loop-holds Inv-loop μ-loop
 unfolding anyBelow
 loop-holds c = (omega arith, refl)
 
 add-if1 : tie.Need-add-if1 Inv-loop μ-loop
-add-if1 c = omega (arith, c .before .before .before .pre .room, c .before .before .before .pre .there, c .before .before .before .pre .few)
+add-if1 c =
+    let place = c .before .before .before .pre in
+    omega (arith, place .room, place .there, place .few)
 
 add-if1-2 : tie.Need-add-if1-2 Inv-loop μ-loop
-add-if1-2 c = omega (arith, c .before .before .before .pre .room, c .before .before .before .pre .there, c .before .before .before .pre .few)
+add-if1-2 c =
+    let place = c .before .before .before .pre in
+    omega (arith, place .room, place .there, place .few)
 
 mul-if1 : tie.Need-mul-if1 Inv-loop μ-loop
-mul-if1 c = omega (arith, c .before .before .before .pre .room, c .before .before .before .pre .there, c .before .before .before .pre .few)
+mul-if1 c =
+    let place = c .before .before .before .pre in
+    omega (arith, place .room, place .there, place .few)
 
 shared-slice-read-if1 : tie.Need-shared-slice-read-if1 Inv-loop μ-loop
-shared-slice-read-if1 c = omega (arith, c .before .before .before .before .pre .room, c .before .before .before .before .pre .there, c .before .before .before .before .pre .few)
+shared-slice-read-if1 c =
+    let place = c .before .before .before .before .pre in
+    omega (arith, place .room, place .there, place .few)
 
 returns : tie.Need-returns Inv-loop μ-loop
 unfolding allMet

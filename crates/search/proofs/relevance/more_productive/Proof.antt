@@ -1,14 +1,13 @@
--- `derivation::relevance::more_productive` meets its contract: one round, in which the first i credentials
--- have been looked at; where nothing came in, those of them that are productive were there. Assumes nothing.
-use mathlib.Core.Path.{_∙_, _≡_, sym}
-use mathlib.Core.Logic.{⊎-elim}
+-- `search::relevance::more_productive` meets its contract: one round, in which the first i credentials have been looked at;
+-- where nothing came in, those of them that are productive were there. Assumes nothing.
+use mathlib.Core.Path.{_∙_, _≡_}
 use Prim.Native.Nat.{_-_, _≤_}
 use native.Mathlib.Omega.{arith}
 use denote.Ref.{now}
 use Rattle.table.specs.Layout.{credentials}
 use Rattle.table.proofs.WellFormed.{wf-sized}
 use Rattle.search.specs.Relevance.{Round}
-use Rattle.search.proofs.Gathering.{ProductiveTo, productive-more, productive-not, productive-old, round-starts}
+use Rattle.search.proofs.Gathering.{ProductiveTo, credential-few, productive-more, productive-not, productive-old, round-starts, three-ways}
 use Rattle.search.proofs.Indexing.{all-met, place}
 use borrow.Author.Needs.{needs}
 use Rattle.search.proofs.relevance.more_productive.Statement.{statement}
@@ -61,21 +60,12 @@ loop-again : tie.Need-loop-again Inv-loop μ-loop
 loop-again c =
     let pre = c .before .before .before .before .before .before .before .before .pre in
     let round = c .before .before .before .loop .inv .1 in
-    let new = c .before .is-new in
-    ⊎-elim
-    (λ w. (
+    let new = c .before .is-new .ensures in (
       omega arith,
-      rw (w .3) (productive-more _ _ _ _ _ round (sym (new .ensures) ∙ w .0 .taken)
-          (omega (arith, wf-sized _ (pre .0) .counted .fewCredentials))),
-    ))
-    (⊎-elim
-    (λ w. (
-      omega arith,
-      rw (w .3) (productive-not _ _ _ _ _ round
-          (sym (all-met _ _ (pre .0) (pre .1) _ (omega arith) _) ∙ sym (w .1 .ensures) ∙ w .2 .left)),
-    ))
-    (λ w. (omega arith, rw (w .1) (productive-old _ _ _ _ _ round (sym (new .ensures) ∙ w .0 .left)))))
-    (c .if1 .came)
+      three-ways (λ w. productive-more _ _ _ _ _ _ round new (w .0 .taken) (credential-few _ (pre .0) (omega arith)) (w .3))
+          (λ w. productive-not _ _ _ _ _ _ round (w .1 .ensures ∙ all-met _ _ (pre .0) (pre .1) _ (omega arith) _) (w .2 .left) (w .3))
+          (λ w. productive-old _ _ _ _ _ _ round new (w .0 .left) (w .1)) (c .if1 .came),
+    )
 
 returns : tie.Need-returns Inv-loop μ-loop
 returns c =

@@ -1,6 +1,6 @@
--- `derivation::relevance::more_reachable` meets its contract: one round, in which the first i credentials
+-- `search::relevance::more_reachable` meets its contract: one round, in which the first i credentials
 -- have been looked at; where nothing came in, all that those of them in the set ask was there. Assumes nothing.
-use mathlib.Core.Path.{_≡_}
+use mathlib.Core.Path.{_∙_, _≡_}
 use mathlib.Core.Logic.{⊎-elim}
 use Prim.Native.Nat.{_-_, _≤_}
 use native.Mathlib.Omega.{arith}
@@ -56,15 +56,11 @@ loop-less c = search needs
 loop-again : tie.Need-loop-again Inv-loop μ-loop
 loop-again c =
     let pre = c .before .before .before .before .before .before .before .pre in
-    let loop = c .before .before .loop in
-    let round = loop .inv .1 in
-    ⊎-elim
-    (λ w. (
+    let round = c .before .before .loop .inv .1 in (
       omega arith,
-      rw (w .2, w .1 .ensures, with-met _ _ (pre .0) (pre .1) (loop .i) (omega arith) _ _) (reached-more _ _ _ _ _ round),
-    ))
-    (λ w. (omega arith, rw (w .1) (reached-outside _ _ _ _ _ round (w .0 .left))))
-    (c .if1 .came)
+      ⊎-elim (λ w. reached-more _ _ _ _ _ _ round (w .2 ∙ w .1 .ensures ∙ with-met _ _ (pre .0) (pre .1) _ (omega arith) _ _))
+          (λ w. reached-outside _ _ _ _ _ _ round (w .0 .left) (w .1)) (c .if1 .came),
+    )
 
 returns : tie.Need-returns Inv-loop μ-loop
 returns c =

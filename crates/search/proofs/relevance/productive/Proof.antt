@@ -1,4 +1,4 @@
--- `derivation::relevance::productive` meets its contract: what the rounds have brought so far is allowed, and where a round
+-- `search::relevance::productive` meets its contract: what the rounds have brought so far is allowed, and where a round
 -- brings nothing in, all is there. Assumes nothing.
 use mathlib.Core.Path.{_≡_}
 use mathlib.Core.Bool.{true}

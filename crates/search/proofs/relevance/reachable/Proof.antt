@@ -1,4 +1,4 @@
--- `derivation::relevance::reachable` meets its contract: the rounds begin with the definers of the role and lose none, what
+-- `search::relevance::reachable` meets its contract: the rounds begin with the definers of the role and lose none, what
 -- they bring is productive, and where a round brings nothing in, all is there. Assumes nothing.
 use mathlib.Core.Path.{_≡_}
 use mathlib.Core.Bool.{true}

@@ -1,4 +1,4 @@
--- `derivation::relevance::roles_asked` meets its contract: it goes by kind. Assumes nothing.
+-- `search::relevance::roles_asked` meets its contract: it goes by kind. Assumes nothing.
 use mathlib.Core.Path.{refl}
 use native.Mathlib.Omega.{arith}
 use Rattle.search.proofs.Bearing.{roles-2, roles-3, roles-none}

@@ -1,4 +1,4 @@
--- `derivation::relevance::with_defining` meets its contract: the definers of the first k of the roles asked are taken in. Assumes nothing.
+-- `search::relevance::with_defining` meets its contract: the definers of the first k of the roles asked are taken in. Assumes nothing.
 use mathlib.Core.Path.{_≡_, refl}
 use Prim.Native.Nat.{_-_, _*_, _≤_}
 use native.Mathlib.Omega.{arith}
@@ -23,26 +23,38 @@ mul-len : tie.Need-mul-len Inv-loop μ-loop
 mul-len c = omega (arith, c .pre .there)
 
 shared-slice-read-len : tie.Need-shared-slice-read-len Inv-loop μ-loop
-shared-slice-read-len c = omega (arith, c .before .pre .room, c .before .pre .there, c .before .pre .few)
+shared-slice-read-len c =
+    let place = c .before .pre in
+    omega (arith, place .room, place .there, place .few)
 
 cast-len : tie.Need-cast-len Inv-loop μ-loop
-cast-len c = omega (arith, c .before .pre .room, c .before .pre .there, c .before .pre .few)
+cast-len c =
+    let place = c .before .pre in
+    omega (arith, place .room, place .there, place .few)
 
 loop-holds : tie.Need-loop-holds Inv-loop μ-loop
 unfolding withMetTo
 loop-holds c = (omega arith, refl)
 
 add-more : tie.Need-add-more Inv-loop μ-loop
-add-more c = omega (arith, c .before .before .before .pre .room, c .before .before .before .pre .there, c .before .before .before .pre .few)
+add-more c =
+    let place = c .before .before .before .pre in
+    omega (arith, place .room, place .there, place .few)
 
 add-more-2 : tie.Need-add-more-2 Inv-loop μ-loop
-add-more-2 c = omega (arith, c .before .before .before .pre .room, c .before .before .before .pre .there, c .before .before .before .pre .few)
+add-more-2 c =
+    let place = c .before .before .before .pre in
+    omega (arith, place .room, place .there, place .few)
 
 mul-more : tie.Need-mul-more Inv-loop μ-loop
-mul-more c = omega (arith, c .before .before .before .pre .room, c .before .before .before .pre .there, c .before .before .before .pre .few)
+mul-more c =
+    let place = c .before .before .before .pre in
+    omega (arith, place .room, place .there, place .few)
 
 shared-slice-read-more : tie.Need-shared-slice-read-more Inv-loop μ-loop
-shared-slice-read-more c = omega (arith, c .before .before .before .before .pre .room, c .before .before .before .before .pre .there, c .before .before .before .before .pre .few)
+shared-slice-read-more c =
+    let place = c .before .before .before .before .pre in
+    omega (arith, place .room, place .there, place .few)
 
 add-k : tie.Need-add-k Inv-loop μ-loop
 add-k c = search needs
