@@ -154,6 +154,13 @@ part-shown x y all = eq-eqb (bitAnd x y) x (same-members (bitAnd x y) x (λ s. i
     go s true e = and-is e (all s e) ∙ sym e
     go s false e = and-is-off (inSet y s) e ∙ sym e
 
+-- the set of one member
+pub own-bit : (i : ℕ) → inSet (2 ^ i) i ≡ true
+own-bit i = inSet-pow i i ∙ eq-eqb i i refl
+
+pub one-among : (i most : ℕ) → inSet most i ≡ true → part (2 ^ i) most ≡ true
+one-among i most h = part-shown (2 ^ i) most (λ s one. rw (← eqb-true i s (sym (inSet-pow i s) ∙ one)) h)
+
 pub part-refl : (x : ℕ) → part x x ≡ true
 part-refl x = part-shown x x (λ s h. h)
 

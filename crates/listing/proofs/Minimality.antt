@@ -12,7 +12,7 @@ use Rattle.table.specs.Logic.{_and_, anyBelow}
 use Rattle.table.specs.Layout.{credentials}
 use Rattle.table.specs.Checks.{WellFormed}
 use Rattle.table.specs.declared.Query.{Query}
-use Rattle.table.proofs.Tests.{and-both, and-first, and-second, any-none, any-not, false-true}
+use Rattle.table.proofs.Tests.{and-both, and-first, and-second, any-none, any-not, any-or-none, false-true, refuted}
 use Rattle.automata.specs.Sets.{inSet, part}
 use Rattle.automata.proofs.Members.{part-antisym, part-le, part-member, part-or-left, part-refl, part-shown, part-trans}
 use Rattle.derivation.specs.Tally.{automataOf}
@@ -21,7 +21,6 @@ use Rattle.derivation.specs.Verdict.{Accepted}
 use Rattle.listing.specs.Minimal.{admits, isMinimal}
 use Rattle.listing.specs.Below.{Decided, Promising, promising}
 use Rattle.search.proofs.Searching.{provable-mono}
-use Rattle.search.proofs.Trying.{any-or-none, refuted}
 use Rattle.listing.proofs.Lists.{less-or-not}
 use Rattle.search.proofs.Admitting.{accepted-provable, automata-mono, provable-accepted, relevant-used}
 use Rattle.listing.proofs.Blocks.{block-part, halves, lower-undecided, lower-without, part-without, upper-ends, upper-has, upper-own, upper-joins, upper-undecided, without-other, without-own}

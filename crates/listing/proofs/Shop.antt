@@ -11,7 +11,8 @@ use Rattle.table.specs.Layout.{automaton, cell, cellsFrom, credential, edge, pa
 use Rattle.table.specs.Checks.{cellOk, cellsOutcome, chainOk, chainsOutcome, countsOk, credentialOk, credentialsOutcome, edgeOk, edgesOutcome, goodCell, goodChain, goodCredential, goodEdge, headOutcome, isName, isPrincipal, isRole, labelOk, meaningOk, queryOutcome, requestOutcome, tableOutcome, within}
 use Rattle.table.specs.declared.Query.{Query}
 use Rattle.automata.specs.Sets.{inSet, meets, part, setOf}
-use Rattle.automata.specs.Automata.{acceptingSet, acceptsFrom, each, leads, matches, moved, movedBy, movedSets, starting, startingSets, together}
+use Rattle.automata.specs.Automata.{acceptsFrom, leads, matches, moved, movedBy, starting}
+use Rattle.automata.specs.Together.{acceptingSet, each, movedSets, startingSets, together}
 use Rattle.derivation.specs.Rules.{asks, fresh, premises}
 use Rattle.derivation.specs.Tally.{automataOf, automataUpTo}
 use Rattle.search.specs.Search.{everyGoal, isMember, mayUse, provable, provedPremises, proves, provesBy, tries}

@@ -15,14 +15,15 @@ use borrow.Author.Tests.{eq-eqb, eqb-true, ne-eqb, not-false, not-true}
 use Rattle.table.specs.Logic.{_and_, _or_, pick}
 use Rattle.table.specs.Limits.{mostCredentials, mostParts}
 use Rattle.table.specs.Checks.{WellFormed}
-use Rattle.table.specs.Layout.{Holds, Numbered, credential, credentials}
+use Rattle.table.specs.Layout.{Numbered, credential, credentials}
+use Rattle.table.specs.Holding.{Holds}
 use Rattle.table.specs.declared.Role.{Role}
 use Rattle.table.specs.declared.Chain.{Chain}
 use Rattle.table.specs.declared.Credential.{Credential}
 use Rattle.table.proofs.Tests.{and-both, and-first, and-is, and-is-off, and-on, and-second, false-true, or-first, or-second}
 use Rattle.table.proofs.WellFormed.{wf-sized}
 use Rattle.automata.specs.Sets.{inSet, part, setOf}
-use Rattle.automata.proofs.Members.{inSet-or, inSet-pow, one-bit, part-antisym, part-le, part-or, part-or-left, part-refl, part-shown, part-trans, part-zero}
+use Rattle.automata.proofs.Members.{inSet-or, inSet-pow, one-among, one-bit, own-bit, part-antisym, part-le, part-or, part-or-left, part-refl, part-shown, part-trans, part-zero}
 use Rattle.search.specs.Relevance.{Asking, ChainThere, Round, allDefined, definers, meant, rolesAsked, withDefiners}
 use Rattle.derivation.proofs.Asking.{chain-there}
 use Rattle.search.proofs.Bearing.{roles-4, with-among, with-grows, with-more}
@@ -132,13 +133,6 @@ round-kept : (At : ℕ → Type 0) (most x y z i : ℕ) → Round most x y ((c :
     → Round most x z ((c : ℕ) → c < i + 1 → At c)
 round-kept At most x y z i round same here =
     rw same (round-next At most x y y i round (part-refl y) (λ h. h) (λ e back. here back))
-
--- the set of one member, and a set with a member more
-pub own-bit : (i : ℕ) → inSet (2 ^ i) i ≡ true
-own-bit i = inSet-pow i i ∙ eq-eqb i i refl
-
-pub one-among : (i most : ℕ) → inSet most i ≡ true → part (2 ^ i) most ≡ true
-one-among i most h = part-shown (2 ^ i) most (λ s one. rw (← eqb-true i s (sym (inSet-pow i s) ∙ one)) h)
 
 has-one : (x i : ℕ) → inSet (bitOr x (2 ^ i)) i ≡ true
 has-one x i = inSet-or x (2 ^ i) i ∙ or-second _ (own-bit i)

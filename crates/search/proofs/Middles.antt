@@ -14,14 +14,13 @@ use Rattle.table.specs.Limits.{mostPrincipals}
 use Rattle.table.specs.Layout.{credential, credentials}
 use Rattle.table.specs.declared.Credential.{Credential}
 use Rattle.table.specs.declared.Goal.{Goal}
-use Rattle.table.proofs.Tests.{and-both, and-first, and-is, and-is-off, and-second, any-next, any-none, any-on, any-reached, false-true, or-first, or-second}
+use Rattle.table.proofs.Tests.{and-both, and-first, and-is, and-is-off, and-none, and-second, any-next, any-none, any-on, any-reached, false-true, or-first, or-second, refuted}
 use Rattle.automata.specs.Sets.{inSet}
 use Rattle.derivation.specs.Rules.{premises}
 use Rattle.derivation.specs.Held.{given}
 use Rattle.derivation.specs.declared.Premises.{Premises}
 use Rattle.derivation.proofs.Entering.{given-none, given-some}
 use Rattle.search.specs.Search.{NextMiddle, isMember, nearer, provedPremises, provesBy, tries}
-use Rattle.search.proofs.Trying.{and-none, refuted}
 
 -- the credential is an allowed simple membership that names x
 abbrev names : Bool → Credential → ℕ → Bool

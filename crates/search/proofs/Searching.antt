@@ -21,7 +21,8 @@ use Rattle.table.specs.declared.Query.{Query}
 use Rattle.table.proofs.Tests.{and-both, and-first, and-second, and-true, any-reached, any-shows, false-true}
 use Rattle.table.proofs.WellFormed.{wf-sized}
 use Rattle.automata.specs.Sets.{inSet, meets, part}
-use Rattle.automata.specs.Automata.{accepts, acceptsFrom, acceptingSet, movedSets, starting}
+use Rattle.automata.specs.Automata.{accepts, acceptsFrom, starting}
+use Rattle.automata.specs.Together.{acceptingSet, movedSets}
 use Rattle.automata.specs.declared.StateSets.{StateSets}
 use Rattle.automata.proofs.Members.{part-member, part-shown, setOf-members}
 use Rattle.automata.proofs.Moves.{run-empty}

@@ -17,32 +17,14 @@ use Rattle.table.specs.Layout.{Numbered, credential, credentials, principal, sa
 use Rattle.table.specs.declared.Credential.{Credential}
 use Rattle.table.specs.declared.Goal.{Goal}
 use Rattle.table.specs.declared.Query.{Query}
-use Rattle.table.proofs.Tests.{and-both, and-false, and-first, and-is, and-is-off, and-second, any-next, any-reached, any-shows, false-true}
+use Rattle.table.proofs.Tests.{and-both, and-false, and-first, and-is, and-is-off, and-none, and-second, any-all, any-next, any-reached, any-shows, false-true, refuted}
 use Rattle.automata.specs.Sets.{inSet, part}
-use Rattle.automata.specs.Automata.{acceptingSet, movedSets, startingSets}
+use Rattle.automata.specs.Together.{acceptingSet, movedSets, startingSets}
 use Rattle.automata.specs.declared.StateSets.{StateSets}
 use Rattle.derivation.specs.Rules.{fresh, goal, goalOf}
 use Rattle.derivation.specs.Held.{Room, noGoal}
 use Rattle.derivation.proofs.Applying.{same-role}
 use Rattle.search.specs.Search.{askedBefore, everyGoal, mayUse, provable, provedPremises, proves, provesBy, sameGoal}
-
-pub refuted : (b : Bool) → (b ≡ true → ⊥) → b ≡ false
-refuted true wrong = absurd (wrong refl)
-refuted false wrong = refl
-
-pub and-none : (a : Bool) {b : Bool} → b ≡ false → (a and b) ≡ false
-and-none a e = ap (λ b. a and b) e ∙ and-false a
-
-pub any-all : (p : ℕ → Bool) (i n : ℕ) → i ≡ n → anyBelow p i ≡ false → anyBelow p n ≡ false
-any-all p i n e h = sym (ap (anyBelow p) e) ∙ h
-
--- some number below n passes, or none does
-pub any-or-none : {A : Type 0} (p : ℕ → Bool) (n : ℕ) → ((k : ℕ) → k < n → p k ≡ true → A) → (anyBelow p n ≡ false → A) → A
-any-or-none {A} p n one none = go (anyBelow p n) refl
-  where
-    go : (b : Bool) → anyBelow p n ≡ b → A
-    go true e = let (k, l, passes) = any-shows p n e in one k l passes
-    go false e = none e
 
 pub next-numbered : (n i : ℕ) → i < n → Numbered n (i + 1)
 next-numbered n i l = record { first = omega arith; last = omega arith }

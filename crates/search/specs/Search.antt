@@ -15,7 +15,7 @@ use Rattle.table.specs.declared.Credential.{Credential}
 use Rattle.table.specs.declared.Goal.{Goal}
 use Rattle.table.specs.declared.Query.{Query}
 use Rattle.automata.specs.Sets.{inSet, part}
-use Rattle.automata.specs.Automata.{acceptingSet, movedSets, startingSets}
+use Rattle.automata.specs.Together.{acceptingSet, movedSets, startingSets}
 use Rattle.automata.specs.declared.StateSets.{StateSets}
 use Rattle.derivation.specs.Rules.{fresh, goalOf, premises}
 use Rattle.derivation.specs.Forest.{Derives, Forest, names}

@@ -41,6 +41,10 @@ or-off h = rw h
 pub false-true : false ≡ true → ⊥
 false-true e = let z : _≡_ {A = ℕ} 0 1 = cc in omega arith
 
+pub refuted : (b : Bool) → (b ≡ true → ⊥) → b ≡ false
+refuted true wrong = absurd (wrong refl)
+refuted false wrong = refl
+
 -- both parts of a conjunction that holds
 pub and-first : (a b : Bool) → (a and b) ≡ true → a ≡ true
 unfolding _and_
@@ -85,6 +89,9 @@ pub and-false : (b : Bool) → (b and false) ≡ false
 unfolding _and_
 and-false true = refl
 and-false false = refl
+
+pub and-none : (a : Bool) {b : Bool} → b ≡ false → (a and b) ≡ false
+and-none a e = ap (λ b. a and b) e ∙ and-false a
 
 pub and-assoc : (a b c : Bool) → ((a and b) and c) ≡ (a and b and c)
 unfolding _and_
@@ -167,18 +174,22 @@ any-reached p (suc n) k l h = go (any-reached p n k) (ℕ-discrete k n)
     go before (no e) = or-first (p n) (before (omega arith) h)
 
 pub any-none : (p : ℕ → Bool) (n : ℕ) → ((k : ℕ) → k < n → p k ≡ false) → anyBelow p n ≡ false
-any-none p n none = go (anyBelow p n) refl
-  where
-    go : (b : Bool) → anyBelow p n ≡ b → anyBelow p n ≡ false
-    go true e = let found = any-shows p n e in absurd (false-true (sym (none (found .0) (found .1)) ∙ found .2))
-    go false e = e
+any-none p n none =
+    refuted (anyBelow p n) (λ e. let (k, l, passes) = any-shows p n e in false-true (sym (none k l) ∙ passes))
 
 pub any-not : (p : ℕ → Bool) (n k : ℕ) → anyBelow p n ≡ false → k < n → p k ≡ false
-any-not p n k h l = go (p k) refl
+any-not p n k h l = refuted (p k) (λ e. false-true (sym h ∙ any-reached p n k l e))
+
+pub any-all : (p : ℕ → Bool) (i n : ℕ) → i ≡ n → anyBelow p i ≡ false → anyBelow p n ≡ false
+any-all p i n e h = sym (ap (anyBelow p) e) ∙ h
+
+-- some number below n passes, or none does
+pub any-or-none : {A : Type 0} (p : ℕ → Bool) (n : ℕ) → ((k : ℕ) → k < n → p k ≡ true → A) → (anyBelow p n ≡ false → A) → A
+any-or-none {A} p n one none = go (anyBelow p n) refl
   where
-    go : (b : Bool) → p k ≡ b → p k ≡ false
-    go true e = absurd (false-true (sym h ∙ any-reached p n k l e))
-    go false e = e
+    go : (b : Bool) → anyBelow p n ≡ b → A
+    go true e = let (k, l, passes) = any-shows p n e in one k l passes
+    go false e = none e
 
 -- a search in ascending order: nothing from `from` up to `next` passes
 pub any-on : (p : ℕ → Bool) (from next : ℕ) → anyBelow p from ≡ false → ((k : ℕ) → from ≤ k → k < next → p k ≡ false)
