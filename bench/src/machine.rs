@@ -1,32 +1,34 @@
 //! On what machine, when and with which programs figures were measured.
 
 use std::fs;
-use std::path::Path;
+use std::process::Command;
 use std::thread;
 use std::time::{SystemTime, UNIX_EPOCH};
 
-use crate::peers::solver::{version, Solver};
-
 /// Prints a table about the machine.
 pub fn print() {
-    let [gringo, clasp] = match Solver::find() {
-        Ok(solver) => solver.versions(),
-        Err(_) => ["gringo", "clasp"].map(|name| format!("{name}, or its peer, not installed")),
-    };
     let lines = [
         ("date", date(days())),
         ("processor", processor(&text("/proc/cpuinfo"))),
         ("processors", processors()),
         ("memory", memory(&text("/proc/meminfo"))),
         ("load before the run", load(&text("/proc/loadavg"))),
-        ("compiler", version(Path::new("rustc"))),
-        ("grounder", gringo),
-        ("solver", clasp),
+        ("compiler", version("rustc")),
+        ("grounder", version("gringo")),
+        ("solver", version("clasp")),
     ];
     println!("| machine | |\n|---|---|");
     for (what, words) in lines {
         println!("| {what} | {words} |");
     }
+}
+
+/// The first line that a program prints about its version.
+fn version(program: &str) -> String {
+    let output = Command::new(program).arg("--version").output();
+    let output = output.map(|output| output.stdout).unwrap_or_default();
+    let text = String::from_utf8_lossy(&output);
+    text.lines().next().unwrap_or("not installed").to_string()
 }
 
 /// The text of a file, empty if there is none.
@@ -98,7 +100,7 @@ fn value<'a>(text: &'a str, name: &str) -> Option<&'a str> {
 
 #[cfg(test)]
 mod tests {
-    use super::{date, load, memory, processor};
+    use super::{date, load, memory, processor, version};
 
     #[test]
     fn days_are_dates() {
@@ -131,5 +133,6 @@ mod tests {
         assert_eq!(processor(""), "not known");
         assert_eq!(memory("MemTotal: much"), "not known");
         assert!(load("").starts_with("not known"));
+        assert_eq!(version("/no/such/program"), "not installed");
     }
 }

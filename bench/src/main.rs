@@ -43,6 +43,8 @@ use sheet::Form;
 
 /// The seed of the tables and records.
 const SEED: u64 = 2015;
+/// How the program is called from the repository's root.
+const COMMAND: &str = "cargo run --release --offline -p bench --";
 /// The code for wrong arguments.
 const WRONG_ARGUMENTS: u8 = 2;
 
@@ -61,14 +63,8 @@ fn done(task: Task) -> ExitCode {
     match task {
         Task::Help => println!("{}", arguments::USAGE),
         Task::Calls => time_calls(Form::Columns),
-        Task::Peers(options) => return time_peers(&options),
-        Task::Page(options) => {
-            machine::print();
-            println!();
-            let code = time_peers(&options);
-            time_calls(Form::Markdown);
-            return code;
-        }
+        Task::Peers(options) => return time_peers(&options, false),
+        Task::Page(options) => return time_peers(&options, true),
     }
     ExitCode::SUCCESS
 }
@@ -82,24 +78,48 @@ fn time_calls(form: Form) {
     lists::time_lists(&mut random, form);
 }
 
-/// Times the ways of listing, prints the tables and writes the plot. It fails
+/// Times the ways of listing, prints the tables and writes the plot. For the
+/// page there are tables of the machine and of the calls beside them. It fails
 /// if two ways list different sets, or if the plot cannot be written.
-fn time_peers(options: &Options) -> ExitCode {
+fn time_peers(options: &Options, page: bool) -> ExitCode {
     let plot = options.plot.as_deref();
     if let Some(Err(error)) = plot.map(can_be_written) {
-        eprintln!("the plot cannot be written: {error}");
-        return ExitCode::FAILURE;
+        return unwritten(&error);
+    }
+    if page {
+        print_heading();
     }
     let comparison = peers::compare(options.limit);
     print!("{}", peers::tables::all(&comparison));
     let drawn = plot.map(|file| fs::write(file, peers::curves::drawn(&comparison)));
-    if let Some(Err(error)) = &drawn {
-        eprintln!("the plot cannot be written: {error}");
+    if page {
+        println!("\n### Calls of the library and of the reference");
+        time_calls(Form::Markdown);
     }
-    match comparison.faults == 0 && !matches!(drawn, Some(Err(_))) {
-        true => ExitCode::SUCCESS,
-        false => ExitCode::FAILURE,
+    match drawn {
+        Some(Err(error)) => unwritten(&error),
+        _ if comparison.faults > 0 => ExitCode::FAILURE,
+        _ => ExitCode::SUCCESS,
     }
+}
+
+/// Prints what comes first on the page: the command and the machine.
+fn print_heading() {
+    let arguments: Vec<String> = env::args_os()
+        .skip(1)
+        .map(|argument| argument.display().to_string())
+        .collect();
+    println!("## Figures\n\nThis section was printed by\n");
+    println!("    {COMMAND} {}\n", arguments.join(" "));
+    println!("### Machine\n");
+    machine::print();
+    println!("\n### Ways of listing\n");
+}
+
+/// Says that the plot cannot be written.
+fn unwritten(error: &io::Error) -> ExitCode {
+    eprintln!("the plot cannot be written: {error}");
+    ExitCode::FAILURE
 }
 
 /// Whether a file can be written, asked before minutes go by. What it holds

@@ -1,8 +1,8 @@
 //! Several ways of listing minimal sets, timed on the same wallets in one run.
 //!
 //! - [`wallets`]: what they are timed on
-//! - [`proofs`], with [`automata`], [`deadline`] and [`minimal`]: an enumeration
-//!   of all proofs, in the way of document 001
+//! - [`proofs`], with [`store`], [`automata`], [`deadline`] and [`minimal`]: an
+//!   enumeration of all proofs, in the way of document 001
 //! - [`solver`], with [`facts`] and [`pipe`]: an answer set solver, in the way
 //!   of document 000
 //! - [`tables`], [`curves`]: what comes of it
@@ -18,9 +18,10 @@ mod pipe;
 mod proofs;
 #[cfg(test)]
 mod samples;
-pub mod solver;
+mod solver;
+mod store;
 pub mod tables;
-pub mod wallets;
+mod wallets;
 
 use std::time::Duration;
 

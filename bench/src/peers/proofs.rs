@@ -12,7 +12,6 @@
 //! from the top, as document 01 has it.
 
 use std::collections::HashMap;
-use std::rc::Rc;
 use std::time::Duration;
 
 use reference::query::Asked;
@@ -22,39 +21,10 @@ use reference::table::{Members, Table};
 use super::automata::{Automata, States};
 use super::deadline::Deadline;
 use super::minimal::minimal;
+use super::store::{Id, Proof, Store};
 
 /// No more proofs than these are constructed: they would not fit into memory.
 const MOST_PROOFS: u32 = 20_000_000;
-
-/// A proof: a credential, and proofs of what it asks for. Which goal it proves
-/// is told by where it stands.
-pub struct Proof {
-    /// The number of the credential. Only the tests write proofs down.
-    #[cfg_attr(not(test), allow(dead_code))]
-    credential: u16,
-    /// The middle, 0 for all kinds but 3.
-    #[cfg_attr(not(test), allow(dead_code))]
-    middle: u16,
-    /// The proofs of the premises in their order. Equal ones are shared.
-    subproofs: Vec<Rc<Proof>>,
-    /// The used set: credential i counts 2^(i-1).
-    used: u32,
-    /// The automata of the used credentials: automaton i counts 2^(i-1).
-    constraints: u8,
-    /// The automata that reject one of the words.
-    rejecting: u8,
-}
-
-impl Proof {
-    /// The record of the proof, added to some numbers.
-    #[cfg(test)]
-    fn write(&self, record: &mut Vec<u16>) {
-        record.extend([self.credential, self.middle]);
-        for subproof in &self.subproofs {
-            subproof.write(record);
-        }
-    }
-}
 
 /// Where a goal stands.
 #[derive(Clone, Copy)]
@@ -69,12 +39,14 @@ struct Place<'a> {
 
 /// The minimal sets by all proofs, if they can be constructed in time.
 pub fn minimal_sets(table: &Table, asked: Asked, limit: Duration) -> Option<Vec<u32>> {
-    let proofs = proofs(table, asked, limit)?;
-    Some(minimal(proofs.iter().map(|proof| proof.used).collect()))
+    let (store, proofs) = proofs(table, asked, limit)?;
+    let used = proofs.iter().map(|&proof| store.proof(proof).used);
+    Some(minimal(used.collect()))
 }
 
-/// All proofs that comply, if they can be constructed in time.
-pub fn proofs(table: &Table, asked: Asked, limit: Duration) -> Option<Vec<Rc<Proof>>> {
+/// All proofs that comply, if they can be constructed in time, and where they
+/// are kept.
+fn proofs(table: &Table, asked: Asked, limit: Duration) -> Option<(Store, Vec<Id>)> {
     let automata = Automata::new(table);
     let top = Place {
         path: &[],
@@ -88,8 +60,10 @@ pub fn proofs(table: &Table, asked: Asked, limit: Duration) -> Option<Vec<Rc<Pro
         depth: usize::from(asked.depth),
         deadline: Deadline::within(limit),
         made: 0,
+        store: Store::default(),
     };
-    construction.goal(asked.goal, top)
+    let proofs = construction.goal(asked.goal, top)?;
+    Some((construction.store, proofs))
 }
 
 /// The numbers of the credentials that define each role.
@@ -109,13 +83,14 @@ struct Construction<'a> {
     /// The highest level that a node may have.
     depth: usize,
     deadline: Deadline,
-    /// How many proofs have been made.
+    /// How many proofs have been made, those that were filtered out among them.
     made: u32,
+    store: Store,
 }
 
 impl Construction<'_> {
     /// The proofs of a goal in a place.
-    fn goal(&mut self, goal: Goal, place: Place) -> Option<Vec<Rc<Proof>>> {
+    fn goal(&mut self, goal: Goal, place: Place) -> Option<Vec<Id>> {
         self.deadline.step()?;
         let mut proofs = Vec::new();
         let states = self.automata.after(&place.states, goal.role);
@@ -146,7 +121,7 @@ impl Construction<'_> {
         node: (u16, u16),
         premises: &[Goal],
         inside: Place,
-        proofs: &mut Vec<Rc<Proof>>,
+        proofs: &mut Vec<Id>,
     ) -> Option<()> {
         let mut parts = Vec::new();
         for &premise in premises {
@@ -156,14 +131,13 @@ impl Construction<'_> {
             }
         }
         let mut chosen = vec![0; parts.len()];
+        let mut subproofs: Vec<Id> = parts.iter().map(|part| part[0]).collect();
         loop {
-            let subproofs = parts.iter().zip(&chosen);
-            let subproofs = subproofs.map(|(part, &index)| Rc::clone(&part[index]));
-            let proof = self.proof(node, subproofs.collect(), inside)?;
+            let proof = self.proof(node, &subproofs, inside)?;
             if (inside.constraints | proof.constraints) & proof.rejecting == 0 {
-                proofs.push(Rc::new(proof));
+                proofs.push(self.store.keep(proof, &subproofs));
             }
-            if !next(&mut chosen, &parts) {
+            if !next(&mut chosen, &parts, &mut subproofs) {
                 return Some(());
             }
         }
@@ -174,26 +148,18 @@ impl Construction<'_> {
     fn proof(
         &mut self,
         (credential, middle): (u16, u16),
-        subproofs: Vec<Rc<Proof>>,
+        subproofs: &[Id],
         inside: Place,
     ) -> Option<Proof> {
         self.deadline.step()?;
         self.made += 1;
-        let mut proof = Proof {
-            credential,
-            middle,
-            used: 1 << (credential - 1),
-            constraints: self.constraint(credential),
-            rejecting: 0,
-            subproofs,
+        let rejecting = match subproofs {
+            [] => self.automata.rejecting(&inside.states),
+            _ => 0,
         };
-        if proof.subproofs.is_empty() {
-            proof.rejecting = self.automata.rejecting(&inside.states);
-        }
-        for subproof in &proof.subproofs {
-            proof.used |= subproof.used;
-            proof.constraints |= subproof.constraints;
-            proof.rejecting |= subproof.rejecting;
+        let mut proof = Proof::new(credential, middle, self.constraint(credential), rejecting);
+        for &subproof in subproofs {
+            proof.join(self.store.proof(subproof));
         }
         (self.made <= MOST_PROOFS).then_some(proof)
     }
@@ -225,13 +191,15 @@ impl Construction<'_> {
 }
 
 /// Goes on to the next combination, if there is one.
-fn next(chosen: &mut [usize], parts: &[Vec<Rc<Proof>>]) -> bool {
-    for (index, part) in chosen.iter_mut().zip(parts) {
+fn next(chosen: &mut [usize], parts: &[Vec<Id>], subproofs: &mut [Id]) -> bool {
+    for ((index, part), subproof) in chosen.iter_mut().zip(parts).zip(subproofs) {
         *index += 1;
-        if *index < part.len() {
+        let more = *index < part.len();
+        *index = if more { *index } else { 0 };
+        *subproof = part[*index];
+        if more {
             return true;
         }
-        *index = 0;
     }
     false
 }
@@ -247,17 +215,16 @@ mod tests {
 
     const LONG: Duration = Duration::from_secs(60);
 
-    /// The records of all proofs, in any order but ascending, with their used
-    /// sets.
+    /// The records of all proofs with their used sets, ascending.
     fn records(listing: &Listing) -> Vec<(Vec<u16>, u32)> {
         let (table, asked) = listing.read();
-        let proofs = proofs(&table, asked, LONG).expect("time enough");
-        let record = |proof: &super::Proof| {
+        let (store, proofs) = proofs(&table, asked, LONG).expect("time enough");
+        let record = |&proof: &u32| {
             let mut record = Vec::new();
-            proof.write(&mut record);
-            (record, proof.used)
+            store.write(proof, &mut record);
+            (record, store.proof(proof).used)
         };
-        let mut records: Vec<_> = proofs.iter().map(|proof| record(proof)).collect();
+        let mut records: Vec<_> = proofs.iter().map(record).collect();
         records.sort();
         records
     }

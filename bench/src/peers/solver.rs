@@ -5,7 +5,7 @@
 //! to files.
 
 use std::env;
-use std::path::{Path, PathBuf};
+use std::path::PathBuf;
 use std::process::Command;
 use std::time::{Duration, Instant};
 
@@ -49,11 +49,6 @@ impl Solver {
         })
     }
 
-    /// What the two programs call themselves.
-    pub fn versions(&self) -> [String; 2] {
-        [version(&self.gringo), version(&self.clasp)]
-    }
-
     /// The minimal sets, ascending, if both programs end in time.
     pub fn minimal_sets(&self, listing: &Listing, limit: Duration) -> Result<Vec<u32>, Unfinished> {
         let end = Instant::now().checked_add(limit);
@@ -95,14 +90,6 @@ impl Solver {
 fn program(folders: &[PathBuf], name: &str) -> Option<PathBuf> {
     let mut places = folders.iter().map(|folder| folder.join(name));
     places.find(|place| place.is_file())
-}
-
-/// The first line that a program prints about its version.
-pub fn version(program: &Path) -> String {
-    let output = Command::new(program).arg("--version").output();
-    let output = output.map(|output| output.stdout).unwrap_or_default();
-    let text = String::from_utf8_lossy(&output).into_owned();
-    text.lines().next().unwrap_or("not known").to_string()
 }
 
 /// The sets that clasp prints, ascending: a line for each, with `in(I)` for
