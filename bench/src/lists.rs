@@ -45,8 +45,11 @@ pub fn time_lists(random: &mut Random, form: Form) {
     }
     let grown = families::grown(random, 1_000);
     report(&sheet, "1,000 grown wallets", grown);
-    for (what, wallet) in families::growing() {
-        report(&sheet, &what, vec![wallet]);
+    // The page has them among the ways of listing.
+    if form == Form::Columns {
+        for (what, wallet) in families::growing() {
+            report(&sheet, &what, vec![wallet]);
+        }
     }
 }
 

@@ -72,6 +72,41 @@ fn one_goal_in_two_places() {
     assert_eq!(listed(&solver, &records.numbers(), query), [63]);
 }
 
+/// A derivation of three levels, whose middle one is proved through one of these
+/// credentials and whose lowest role has this name. Only words of three roles
+/// are accepted.
+fn three_levels(through: [u16; 6], name: u16, fourth: [u16; 6]) -> Vec<u16> {
+    let records = Records {
+        credentials: vec![[1, name, 1, 9, 0, 1], [1, 1, 2, 1, 2, 0], through, fourth],
+        cells: vec![[1, name, 2], [1, name, 0]],
+        automata: vec![[1, 8]],
+        edges: (0..3).map(|state| [1, state, 2, 0, 0, state + 1]).collect(),
+    };
+    records.numbers()
+}
+
+/// Under every kind, and for both premises of kind 3: if the lowest role is the
+/// goal's own, there is no derivation.
+#[test]
+fn no_role_comes_twice_on_a_branch() {
+    let Some(solver) = solver() else { return };
+    let query = Query::from_numbers([9, 1, 1, 16]);
+    let unused = [3, 3, 1, 9, 0, 0];
+    for (name, whole) in [(1, false), (6, true)] {
+        let cases = [
+            ([1, 2, 2, 1, name, 0], unused, 7),
+            ([1, 2, 4, 1, 0, 0], unused, 7),
+            ([1, 2, 3, name, 5, 0], [9, 5, 1, 9, 0, 0], 15),
+            ([1, 2, 3, 4, name, 0], [1, 4, 1, 1, 0, 0], 15),
+        ];
+        for (through, fourth, set) in cases {
+            let table = three_levels(through, name, fourth);
+            let expected = if whole { vec![set] } else { vec![] };
+            assert_eq!(listed(&solver, &table, query), expected, "{through:?}");
+        }
+    }
+}
+
 #[test]
 fn generated_listings() {
     let Some(solver) = solver() else { return };
