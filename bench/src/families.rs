@@ -51,7 +51,7 @@ pub fn sixteen_levels() -> Wallet {
 /// The goal above so many layers of four roles, 1 to 4. The goal and every role
 /// but those of the last layer are chains of the next layer's four roles; the
 /// credentials of the last layer are there twice if there is room.
-pub fn layers(layers: u16) -> Wallet {
+fn layers(layers: u16) -> Wallet {
     let role = |layer: u16, part: u16| 4 * layer + part;
     let first_cell = |layer: u16| 4 * layer + 1;
     let mut credentials = vec![[1, 1, 4, first_cell(0), 0, 0]];
@@ -112,13 +112,42 @@ pub fn choices(each: u16) -> Wallet {
 }
 
 /// The ladder with an automaton on the credential that every derivation uses.
-pub fn constrained_ladder(constraint: &Constraint) -> Wallet {
+fn constrained_ladder(constraint: &Constraint) -> Wallet {
     let mut wallet = ladder(5);
     let mut random = Random::new(0);
     let number = constraints::add(&mut random, &mut wallet.records, constraint);
     let last = wallet.records.credentials.last_mut();
     last.expect("a credential")[5] = number.expect("there is room for an automaton");
     wallet
+}
+
+/// Tables of one shape in several sizes, with what they are.
+pub fn growing() -> Vec<(String, Wallet)> {
+    let mut growing = vec![(
+        "sixteen levels, one role four times".to_string(),
+        sixteen_levels(),
+    )];
+    growing.extend((1..=4).map(|count| {
+        let what = format!("four different roles, layers {count}");
+        (what, layers(count))
+    }));
+    growing.extend((1..=4).map(|each| {
+        let what = format!("four roles, each defined {each} times");
+        (what, choices(each))
+    }));
+    growing.extend((2..=5).map(|principals| {
+        let what = format!("ladder of {} of kind 3", 2 * principals);
+        (what, ladder(principals))
+    }));
+    let constraints = [
+        ("at most 5 roles", Constraint::at_most(5)),
+        ("role 2.2 nowhere", Constraint::nowhere((2, 2))),
+    ];
+    growing.extend(constraints.map(|(words, constraint)| {
+        let what = format!("the same, words: {words}");
+        (what, constrained_ladder(&constraint))
+    }));
+    growing
 }
 
 /// The table with these records, and the query for the member in role 1.1.

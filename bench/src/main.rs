@@ -1,171 +1,130 @@
-//! Times the calls of the library and of the reference, side by side.
+//! Times the calls of the library and of the reference, side by side, and
+//! several ways of listing minimal sets.
 //!
-//! Prints the time of one check, as the median of several rounds, for the
-//! shop's table, for the largest table, and for 1,000 valid tables made up at
-//! random; the time of one verdict for the shop's records and for 1,000 grown
-//! ones; the nodes per second for records of very many nodes; and the time of
-//! one list for several families of tables, where a family of several tables
-//! has its median, 99th percentile and worst. Where the reference takes too
-//! long it gives up. It says how long things take and judges nothing.
+//! Without an argument it prints the time of one check, as the median of
+//! several rounds, for the shop's table, for the largest table, and for 1,000
+//! valid tables made up at random; the time of one verdict for the shop's
+//! records and for 1,000 grown ones; the nodes per second for records of very
+//! many nodes; and the time of one list for several families of tables, where a
+//! family of several tables has its median, 99th percentile and worst. Where
+//! the reference takes too long it gives up. It says how long things take and
+//! judges nothing.
+//!
+//! With `peers` it times the library's list, the reference's, an enumeration of
+//! proofs and an answer set solver on the same wallets, and compares what they
+//! list. With `page` it does all this, and its tables are those of
+//! docs/PERFORMANCE.md.
 
 #![forbid(unsafe_code)]
+#![warn(missing_docs)]
 
+mod arguments;
+mod calls;
 mod families;
+mod listing;
 mod lists;
+mod machine;
+mod peers;
+mod plot;
+mod sheet;
 mod timing;
+mod words;
 
-use reference::generate::claims::{Claim, Grown};
-use reference::generate::constraints::{self, Constraint};
-use reference::generate::growth::Policy;
-use reference::generate::{policies, valid, wide};
+use std::env;
+use std::fs::{self, File};
+use std::io;
+use std::path::Path;
+use std::process::ExitCode;
+
 use reference::random::Random;
-use reference::records::{Head, Records};
-use reference::shop;
 
-use timing::medians;
+use arguments::{Options, Task};
+use sheet::Form;
 
 /// The seed of the tables and records.
 const SEED: u64 = 2015;
-/// How many rounds there are; the median is taken over them.
-const ROUNDS: usize = 15;
-/// How many rounds there are for a record of very many nodes.
-const WIDE_ROUNDS: usize = 5;
+/// How the program is called from the repository's root.
+const COMMAND: &str = "cargo run --release --offline -p bench --";
+/// The code for wrong arguments.
+const WRONG_ARGUMENTS: u8 = 2;
 
-fn main() {
-    let mut random = Random::new(SEED);
-    time_checks(&mut random);
-    time_verdicts(&mut random);
-    time_nodes();
-    lists::time_lists(&mut random);
-}
-
-/// Prints the header of some lines.
-fn header(title: &str, inputs: &str, ratio: &str) {
-    println!("{title}");
-    let [library, reference] = ["library", "reference"];
-    println!("{inputs:<38} {library:>12} {reference:>12} {ratio:>20}");
-}
-
-/// Times the table call.
-fn time_checks(random: &mut Random) {
-    let title = format!("median of {ROUNDS} rounds, time of one check in nanoseconds");
-    header(&title, "tables", "reference / library");
-    let largest = valid::records(random, Head::LIMITS).numbers();
-    report_checks("the shop's table T", &[shop::T.to_vec()]);
-    report_checks("the largest table", &[largest]);
-    report_checks("1,000 made-up valid tables", &tables(random));
-}
-
-/// A thousand valid tables of every size.
-fn tables(random: &mut Random) -> Vec<Vec<u16>> {
-    let mut table = || {
-        let head = valid::head(random);
-        valid::records(random, head).numbers()
-    };
-    (0..1_000).map(|_| table()).collect()
-}
-
-/// Times the table call on some tables and prints a line.
-fn report_checks(what: &str, tables: &[Vec<u16>]) {
-    let library = |table: &Vec<u16>| bwlchareg::check(table).is_ok();
-    let reference = |table: &Vec<u16>| reference::check(table).is_ok();
-    let (library, reference) = medians(ROUNDS, tables, library, reference);
-    let ratio = reference / library;
-    println!("{what:<38} {library:>12.1} {reference:>12.1} {ratio:>20.2}");
-}
-
-/// Times the verifying call on small records.
-fn time_verdicts(random: &mut Random) {
-    let title = format!("median of {ROUNDS} rounds, time of one verdict in nanoseconds");
-    header(&title, "records", "reference / library");
-    let claim = |table: &[u16], record: &[u16]| Claim {
-        table: table.to_vec(),
-        query: shop::Q,
-        record: record.to_vec(),
-    };
-    report_verdicts(
-        "the shop's R with T, accepted",
-        &[claim(&shop::T, &shop::R)],
-    );
-    report_verdicts("the shop's R with U, refused", &[claim(&shop::U, &shop::R)]);
-    report_verdicts(
-        "the shop's 4 0 with U, accepted",
-        &[claim(&shop::U, &[4, 0])],
-    );
-    report_verdicts("1,000 grown records, accepted", &grown(random));
-}
-
-/// A thousand grown records that are accepted and use an automaton.
-fn grown(random: &mut Random) -> Vec<Claim> {
-    let mut claims = Vec::new();
-    while claims.len() < 1_000 {
-        let policy = Policy::new(policies::records(random));
-        let grown = Grown::new(random, &policy);
-        let kept = grown.and_then(|grown| grown.kept(random));
-        claims.extend(kept.map(|grown| grown.claim()));
+fn main() -> ExitCode {
+    match arguments::task(env::args_os().skip(1)) {
+        Ok(task) => done(task),
+        Err(wrong) => {
+            eprintln!("{wrong}\n{}", arguments::USAGE);
+            ExitCode::from(WRONG_ARGUMENTS)
+        }
     }
-    claims
 }
 
-/// Times the verifying call on some claims and prints a line.
-fn report_verdicts(what: &str, claims: &[Claim]) {
-    let (library, reference) = medians(ROUNDS, claims, library_verdict, reference_verdict);
-    let ratio = reference / library;
-    println!("{what:<38} {library:>12.1} {reference:>12.1} {ratio:>20.2}");
-}
-
-/// Whether the library accepts a claim.
-fn library_verdict(claim: &Claim) -> bool {
-    let query = bwlchareg::Query {
-        principal: claim.query.principal,
-        owner: claim.query.owner,
-        name: claim.query.name,
-        depth: claim.query.depth,
-    };
-    bwlchareg::verify(&claim.table, query, &claim.record).is_ok()
-}
-
-/// Whether the reference accepts a claim.
-fn reference_verdict(claim: &Claim) -> bool {
-    reference::verify(&claim.table, claim.query, &claim.record).is_ok()
-}
-
-/// Times the verifying call on records of very many nodes.
-fn time_nodes() {
-    let title = format!("median of {WIDE_ROUNDS} rounds, nodes per second, all accepted");
-    header(&title, "records", "library / reference");
-    report_nodes(11, 0);
-    report_nodes(11, 1);
-    report_nodes(9, 8);
-}
-
-/// Times the verifying call on the record of so many levels, whose credentials
-/// have so many automata, and prints a line.
-fn report_nodes(levels: u16, automata: u16) {
-    let records = constrained(wide::records(levels), automata);
-    let nodes = wide::nodes(levels);
-    let edges = records.head().edges;
-    let claim = Claim {
-        table: records.numbers(),
-        query: wide::query(levels),
-        record: wide::record(levels),
-    };
-    let (library, reference) = medians(WIDE_ROUNDS, &[claim], library_verdict, reference_verdict);
-    let per_second = |time: f64| nodes as f64 / time * 1e9;
-    let (library, reference) = (per_second(library), per_second(reference));
-    let what = format!("{nodes} nodes, automata {automata}, edges {edges}");
-    let ratio = library / reference;
-    println!("{what:<38} {library:>12.0} {reference:>12.0} {ratio:>20.2}");
-}
-
-/// The table with an automaton attached to each of so many credentials, from
-/// the first on. Each accepts words of at most 15 roles.
-fn constrained(mut records: Records, automata: u16) -> Records {
-    let mut random = Random::new(SEED);
-    for index in 0..usize::from(automata) {
-        let constraint = Constraint::at_most(15);
-        let number = constraints::add(&mut random, &mut records, &constraint);
-        records.credentials[index][5] = number.expect("there is room for an automaton");
+/// Does what there is to do.
+fn done(task: Task) -> ExitCode {
+    match task {
+        Task::Help => println!("{}", arguments::USAGE),
+        Task::Calls => time_calls(Form::Columns),
+        Task::Peers(options) => return time_peers(&options, false),
+        Task::Page(options) => return time_peers(&options, true),
     }
-    records
+    ExitCode::SUCCESS
+}
+
+/// Times the calls of the library and of the reference.
+fn time_calls(form: Form) {
+    let mut random = Random::new(SEED);
+    calls::time_checks(&mut random, form);
+    calls::time_verdicts(&mut random, form);
+    calls::time_nodes(form);
+    lists::time_lists(&mut random, form);
+}
+
+/// Times the ways of listing, prints the tables and writes the plot. For the
+/// page there are tables of the machine and of the calls beside them. It fails
+/// if two ways list different sets, or if the plot cannot be written.
+fn time_peers(options: &Options, page: bool) -> ExitCode {
+    let plot = options.plot.as_deref();
+    if let Some(Err(error)) = plot.map(can_be_written) {
+        return unwritten(&error);
+    }
+    if page {
+        print_heading();
+    }
+    let comparison = peers::compare(options.limit);
+    print!("{}", peers::tables::all(&comparison));
+    let drawn = plot.map(|file| fs::write(file, peers::curves::drawn(&comparison)));
+    if page {
+        println!("\n### Calls of the library and of the reference");
+        time_calls(Form::Markdown);
+    }
+    match drawn {
+        Some(Err(error)) => unwritten(&error),
+        _ if comparison.faults > 0 => ExitCode::FAILURE,
+        _ => ExitCode::SUCCESS,
+    }
+}
+
+/// Prints what comes first on the page: the command and the machine.
+fn print_heading() {
+    let arguments: Vec<String> = env::args_os()
+        .skip(1)
+        .map(|argument| argument.display().to_string())
+        .collect();
+    println!("## Figures\n\nThis section was printed by\n");
+    println!("    {COMMAND} {}\n", arguments.join(" "));
+    println!("### Machine\n");
+    machine::print();
+    println!("\n### Ways of listing\n");
+}
+
+/// Says that the plot cannot be written.
+fn unwritten(error: &io::Error) -> ExitCode {
+    eprintln!("the plot cannot be written: {error}");
+    ExitCode::FAILURE
+}
+
+/// Whether a file can be written, asked before minutes go by. What it holds
+/// stays.
+fn can_be_written(file: &Path) -> io::Result<()> {
+    File::options().append(true).create(true).open(file)?;
+    Ok(())
 }

@@ -56,26 +56,30 @@ const ROUNDS_ALONE: usize = 5;
 /// No further round is begun once they have lasted so long.
 const LONG: Duration = Duration::from_millis(300);
 
-/// The time of one call in nanoseconds, the median of some rounds that last so
-/// long at the least. There is none if the call gives up. The first call shows
-/// how many there can be in a round, and counts only if it takes very long.
-pub fn alone(round: Duration, call: impl Fn() -> Option<usize>) -> Option<f64> {
+/// What a call gives, and the time of one call in nanoseconds, the median of
+/// some rounds that last so long at the least. There is none if the call fails
+/// or gives up. The first call shows how many there can be in a round, and
+/// counts only if it takes very long.
+pub fn alone<Value, Failure>(
+    round: Duration,
+    call: impl Fn() -> Result<Value, Failure>,
+) -> Result<(Value, f64), Failure> {
     let start = Instant::now();
-    black_box(call()?);
+    let value = black_box(call()?);
     let first = start.elapsed();
     let passes = round.as_nanos() / first.as_nanos().max(1) + 1;
     let mut times = Vec::new();
     while times.len() < ROUNDS_ALONE && start.elapsed() < LONG {
         let start = Instant::now();
         for _ in 0..passes {
-            black_box(call());
+            let _ = black_box(call());
         }
         times.push(start.elapsed().as_nanos() as f64 / passes as f64);
     }
     if times.is_empty() {
         times.push(first.as_nanos() as f64);
     }
-    Some(median(times))
+    Ok((value, median(times)))
 }
 
 /// The times of a call on each of some inputs, in nanoseconds, ascending. There
@@ -89,7 +93,8 @@ pub fn each<Input>(
     let start = Instant::now();
     let mut times = Vec::new();
     for input in inputs {
-        times.push(alone(round, || call(black_box(input)))?);
+        let (_, time) = alone(round, || call(black_box(input)).ok_or(())).ok()?;
+        times.push(time);
         if start.elapsed() > limit {
             return None;
         }

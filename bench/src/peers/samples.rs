@@ -1,0 +1,26 @@
+//! Small listings of every sort, for tests.
+
+use reference::generate::listings::made_up;
+use reference::random::Random;
+
+use crate::listing::Listing;
+
+/// No more credentials than these: with many more, some tables have too many
+/// derivations to go through.
+const CREDENTIALS: u16 = 10;
+
+/// So many made-up listings that both sides accept, the same in every run:
+/// grown wallets, tables with cycles, and queries of which nothing is known.
+pub fn listings(count: usize) -> Vec<Listing> {
+    let mut random = Random::new(1);
+    let mut listings = Vec::new();
+    while listings.len() < count {
+        let made_up = made_up(&mut random);
+        let (table, query) = (made_up.table, made_up.query);
+        let is_valid = reference::check_query(&table, query).is_ok();
+        if is_valid && table[0] <= CREDENTIALS {
+            listings.push(Listing { table, query });
+        }
+    }
+    listings
+}
