@@ -17,7 +17,7 @@ use Rattle.table.specs.Layout.{Numbered, credential, credentials, principal, sa
 use Rattle.table.specs.declared.Credential.{Credential}
 use Rattle.table.specs.declared.Goal.{Goal}
 use Rattle.table.specs.declared.Query.{Query}
-use Rattle.table.proofs.Tests.{and-both, and-false, and-first, and-is, and-is-off, and-none, and-second, any-all, any-next, any-reached, any-shows, false-true, refuted}
+use Rattle.table.proofs.Tests.{and-both, and-first, and-is, and-is-off, and-none, and-second, any-all, any-next, any-reached, any-shows, false-true, refuted}
 use Rattle.automata.specs.Sets.{inSet, part}
 use Rattle.automata.specs.Together.{acceptingSet, movedSets, startingSets}
 use Rattle.automata.specs.declared.StateSets.{StateSets}
