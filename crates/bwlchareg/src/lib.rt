@@ -57,7 +57,8 @@ pub extern "C" fn bwlchareg_list(
     sets: &mut [u32],
     value: &mut u64,
 ) -> u32
-    ensures { λ r. ⌜ (answered r (now (value .exit)) ≡ listing (now (table .entry)) (asQuery principal owner name depth) (length (now (sets .entry)))) × (now (sets .exit) ≡ bufferAfter (now (table .entry)) (asQuery principal owner name depth) (now (sets .entry))) ⌝ }
+    ensures { λ r. ⌜ (answered r (now (value .exit)) ≡ listing (now (table .entry)) (asQuery principal owner name depth) (length (now (sets .entry))))
+        × (now (sets .exit) ≡ bufferAfter (now (table .entry)) (asQuery principal owner name depth) (now (sets .entry))) ⌝ }
 {
     let query = query_of(principal, owner, name, depth);
     match listing::list(table, query, sets) {
@@ -77,7 +78,8 @@ pub extern "C" fn bwlchareg_verify(
     rec: &[u16],
     value: &mut u64,
 ) -> u32
-    ensures { λ r. ⌜ answered r (now (value .exit)) ≡ verdict (now (table .entry)) (asQuery principal owner name depth) (now (rec .entry)) ⌝ }
+    ensures { λ r. ⌜ answered r (now (value .exit))
+        ≡ verdict (now (table .entry)) (asQuery principal owner name depth) (now (rec .entry)) ⌝ }
 {
     let query = query_of(principal, owner, name, depth);
     match derivation::verify(table, query, rec) {

@@ -18,7 +18,10 @@ pub data Forest : Type 0 where
 -- with so many levels left, below a branch: one tree for each goal, by the rules, level and roles included
 pub data Derives (t : List ℕ) : ℕ → List Goal → List Goal → Forest → Type 0 where
   done : {levels : ℕ} {branch : List Goal} → Derives t levels branch [] end
-  step : {levels c m : ℕ} {branch goals rest : List Goal} {g : Goal} {children siblings : Forest} → premises t g c m ≡ some goals → fresh branch g ≡ true → Derives t levels (g ∷ branch) goals children → Derives t (suc levels) branch rest siblings → Derives t (suc levels) branch (g ∷ rest) (node c m children siblings)
+  step : {levels c m : ℕ} {branch goals rest : List Goal} {g : Goal} {children siblings : Forest}
+      → premises t g c m ≡ some goals → fresh branch g ≡ true → Derives t levels (g ∷ branch) goals children
+      → Derives t (suc levels) branch rest siblings
+      → Derives t (suc levels) branch (g ∷ rest) (node c m children siblings)
 
 -- the record: two numbers for each node, in preorder
 unfoldable pub written : Forest → List ℕ

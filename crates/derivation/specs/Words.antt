@@ -35,4 +35,5 @@ met t f k = not (usesAutomaton t f k) or acceptsAll t k (words t [] f)
 -- a record complies if every word is accepted by the automaton of every credential that it uses
 abbrev pub Complies : List ℕ → Forest → Type 0
 Complies t f =
-    (c : ℕ) → names f c ≡ true → (credential t c .automaton ≡ 0 → ⊥) → acceptsAll t (credential t c .automaton) (words t [] f) ≡ true
+    (c : ℕ) → names f c ≡ true → (credential t c .automaton ≡ 0 → ⊥)
+    → acceptsAll t (credential t c .automaton) (words t [] f) ≡ true

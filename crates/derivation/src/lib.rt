@@ -76,7 +76,8 @@ pub fn goal_of(query: Query) -> Goal
 fn judge(table: &[Number], query: Query, rec: &[Number]) -> Verdict
     requires { ⌜ WellFormed (now table) ⌝ }
     requires { ⌜ Valid query ⌝ }
-    ensures { λ r. ⌜ verdictTold r ≡ judged (now (table .entry)) (reader (now (table .entry)) (query .depth) [] (goalOf query ∷ []) (now (rec .entry)) 1) ⌝ }
+    ensures { λ r. ⌜ verdictTold r
+        ≡ judged (now (table .entry)) (reader (now (table .entry)) (query .depth) [] (goalOf query ∷ []) (now (rec .entry)) 1) ⌝ }
 {
     let mut used = 0;
     let mut nodes = 0;

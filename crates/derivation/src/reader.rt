@@ -33,7 +33,8 @@ struct Step {
 fn enter(table: &[Number], rec: &[Number], goal: Goal, levels: usize, branch: Branch) -> Step
     requires { ⌜ WellFormed (now table) ⌝ }
     requires { ⌜ Room mostDepth (branch .len) (branch .goals) × (branch .len + levels ≤ mostDepth) ⌝ }
-    ensures { λ r. ⌜ Room mostParts (r .len) (r .goals) × (stepped r (now (rec .entry)) ≡ entry (now (table .entry)) (may levels (above branch) goal) goal (now (rec .entry))) ⌝ }
+    ensures { λ r. ⌜ Room mostParts (r .len) (r .goals)
+        × (stepped r (now (rec .entry)) ≡ entry (now (table .entry)) (may levels (above branch) goal) goal (now (rec .entry))) ⌝ }
 {
     if rec.len() < 2 {
         return halted(11, goal);
@@ -107,7 +108,9 @@ pub fn read<'a>(
     requires { ⌜ Room mostDepth (branch .len) (branch .goals) × (branch .len + levels ≤ mostDepth) ⌝ }
     requires { ⌜ now nodes + length (now rec) < 2 ^ 63 ⌝ }
     requires { ⌜ now refusal ≡ 0 ⌝ }
-    ensures { λ r. ⌜ ReadOn (now (table .entry)) levels (above branch) goal states (now (rec .entry)) (now (used .entry)) (now (nodes .entry)) (now (every .entry)) (now r) (now (used .exit)) (now (nodes .exit)) (now (every .exit)) (now (refusal .exit)) ⌝ }
+    ensures { λ r. ⌜ ReadOn (now (table .entry)) levels (above branch) goal states
+        (now (rec .entry)) (now (used .entry)) (now (nodes .entry)) (now (every .entry))
+        (now r) (now (used .exit)) (now (nodes .exit)) (now (every .exit)) (now (refusal .exit)) ⌝ }
 {
     *nodes += 1;
     let step = enter(table, rec, goal, levels, branch);

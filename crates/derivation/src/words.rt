@@ -23,7 +23,8 @@ pub const ALL_AUTOMATA: Number = 255;
 // `every` has the automata that have accepted every word; the others must not be attached to a used credential.
 pub fn judge_words(table: &[Number], used: u32, every: Number) -> Verdict
     requires { ⌜ WellFormed (now table) ⌝ }
-    ensures { λ r. ⌜ verdictTold r ≡ (demandEach (keeps (now (table .entry)) used every) (automata (now (table .entry))) 14 andThen Outcome.accepted used) ⌝ }
+    ensures { λ r. ⌜ verdictTold r
+        ≡ (demandEach (keeps (now (table .entry)) used every) (automata (now (table .entry))) 14 andThen Outcome.accepted used) ⌝ }
 {
     let imposed = automata_of(table, used);
     let a = layout::wide(table[2]);

@@ -6,6 +6,7 @@ use mathlib.Core.List.{List}
 use mathlib.Core.Bool.{true}
 use mathlib.Core.Logic.{_↔_}
 use lib.ListN.{getD, length, take}
+use Rattle.table.specs.Outcome.{Outcome}
 use Rattle.table.specs.Outcome.Outcome.{accepted, refused}
 use Rattle.table.specs.Layout.{credentials}
 use Rattle.table.specs.Checks.{Valid, WellFormed, requestOutcome, tableOutcome}
@@ -37,7 +38,8 @@ pub record MinimalSets (t : List ℕ) (q : Query) (sets : List ℕ) : Type 0 whe
 -- a list of so many sets in the first cells of the buffer
 pub record Listed (t : List ℕ) (q : Query) (before after : List ℕ) (count : ℕ) : Type 0 where
   -- a set of the table's credentials includes a listed set exactly when some record using only its credentials is accepted
-  pub full : (S : ℕ) → S < 2 ^ credentials t → (((i : ℕ) × (i < count) × (part (getD after i 0) S ≡ true)) ↔ Admitted t q S)
+  pub full : (S : ℕ) → S < 2 ^ credentials t
+      → (((i : ℕ) × (i < count) × (part (getD after i 0) S ≡ true)) ↔ Admitted t q S)
   -- each listed set is the used set of an accepted record
   pub used : (i : ℕ) → i < count → Used t q (getD after i 0)
   -- none includes another
@@ -59,8 +61,19 @@ pub record DemandThree (t : List ℕ) (q : Query) (buffer : List ℕ) : Type 0 w
   -- "list longer than buffer" exactly when there are fewer cells than minimal sets
   pub longer : (listing t q (length buffer) ≡ refused 10 0) ↔ (length buffer < length sets)
   -- otherwise the list, whose count is the number of minimal sets
-  pub otherwise : (listing t q (length buffer) ≡ refused 9 0 → ⊥) → (listing t q (length buffer) ≡ refused 10 0 → ⊥) → listing t q (length buffer) ≡ accepted (length sets)
-  pub listed : (count : ℕ) → listing t q (length buffer) ≡ accepted count → (count ≡ length sets) × Listed t q buffer (bufferAfter t q buffer) count
+  pub otherwise : (listing t q (length buffer) ≡ refused 9 0 → ⊥) → (listing t q (length buffer) ≡ refused 10 0 → ⊥)
+      → listing t q (length buffer) ≡ accepted (length sets)
+  pub listed : (count : ℕ) → listing t q (length buffer) ≡ accepted count
+      → (count ≡ length sets) × Listed t q buffer (bufferAfter t q buffer) count
+
+-- the outcome is a refusal with a number up to `last`
+abbrev pub RefusedUpTo : ℕ → Outcome → Type 0
+RefusedUpTo last outcome = (number position : ℕ) × (outcome ≡ refused number position) × (1 ≤ number) × (number ≤ last)
+
+-- the record is refused by the first thing that applies to it
+abbrev pub RefusedFirst : List ℕ → Query → List ℕ → Type 0
+RefusedFirst t q rec =
+    (number position : ℕ) × (verdict t q rec ≡ refused number position) × Refuses t q rec number position
 
 -- Demand 1: each call has a result or a refusal, for every table, query, record and buffer, of every length
 pub data OneOf (A B : Type 0) : Type 0 where
@@ -69,15 +82,19 @@ pub data OneOf (A B : Type 0) : Type 0 where
 
 pub record DemandOne (t : List ℕ) (q : Query) (rec buffer : List ℕ) : Type 0 where
   -- the table call makes the checks of rows 1 to 7, and has nothing else to tell
-  pub table : OneOf (WellFormed t) ((number position : ℕ) × (tableOutcome t ≡ refused number position) × (1 ≤ number) × (number ≤ 7))
+  pub table : OneOf (WellFormed t) (RefusedUpTo 7 (tableOutcome t))
   -- verifying and listing make the checks of rows 1 to 8 first, and what these refuse leaves the buffer unchanged
-  pub request : OneOf (WellFormed t × Valid q) ((number position : ℕ) × (requestOutcome t q ≡ refused number position) × (1 ≤ number) × (number ≤ 8))
-  pub stopped : (number position : ℕ) → requestOutcome t q ≡ refused number position → (verdict t q rec ≡ refused number position) × (listing t q (length buffer) ≡ refused number position) × (bufferAfter t q buffer ≡ buffer)
+  pub request : OneOf (WellFormed t × Valid q) (RefusedUpTo 8 (requestOutcome t q))
+  pub stopped : (number position : ℕ) → requestOutcome t q ≡ refused number position
+      → (verdict t q rec ≡ refused number position)
+      × (listing t q (length buffer) ≡ refused number position)
+      × (bufferAfter t q buffer ≡ buffer)
   -- past these a record is accepted, or refused by the first thing that applies to it
-  pub verdicts : WellFormed t → Valid q → OneOf ((S : ℕ) × (verdict t q rec ≡ accepted S)) ((number position : ℕ) × (verdict t q rec ≡ refused number position) × Refuses t q rec number position)
+  pub verdicts : WellFormed t → Valid q → OneOf ((S : ℕ) × (verdict t q rec ≡ accepted S)) (RefusedFirst t q rec)
   -- and a list is accepted, or refused with 9, which leaves the buffer unchanged, or with 10, which fills it with the first sets
   pub unchanged : listing t q (length buffer) ≡ refused 9 0 → bufferAfter t q buffer ≡ buffer
-  pub filled : WellFormed t → Valid q → listing t q (length buffer) ≡ refused 10 0 → (sets : List ℕ) → MinimalSets t q sets → bufferAfter t q buffer ≡ take (length buffer) sets
+  pub filled : WellFormed t → Valid q → listing t q (length buffer) ≡ refused 10 0
+      → (sets : List ℕ) → MinimalSets t q sets → bufferAfter t q buffer ≡ take (length buffer) sets
 
 abbrev pub Demands : Type 0
 Demands =

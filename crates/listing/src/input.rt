@@ -22,7 +22,8 @@ const QUERY_SIZE: usize = 4;
 // Lists the minimal sets for the query and the table that the bytes hold; the buffer is as `list` leaves it. Bytes after the first
 // 4,096 are ignored and not counted. An odd count, or one too small for a query, is refused as a short head.
 pub fn list_input(bytes: &[u8], sets: &mut [u32]) -> Listing
-    ensures { λ r. ⌜ (listingTold r ≡ inputOutcome (now (bytes .entry)) (length (now (sets .entry)))) × (now (sets .exit) ≡ inputBuffer (now (bytes .entry)) (now (sets .entry))) ⌝ }
+    ensures { λ r. ⌜ (listingTold r ≡ inputOutcome (now (bytes .entry)) (length (now (sets .entry))))
+        × (now (sets .exit) ≡ inputBuffer (now (bytes .entry)) (now (sets .entry))) ⌝ }
 {
     let read = counted(bytes);
     let half = read.len() / 2;
@@ -69,7 +70,8 @@ fn number_of(low: u8, high: u8) -> Number
 // The query's four numbers, then the table.
 fn list_numbers(numbers: &[Number], sets: &mut [u32]) -> Listing
     requires { ⌜ querySize ≤ length (now numbers) ⌝ }
-    ensures { λ r. ⌜ (listingTold r ≡ listing (tableOf (now (numbers .entry))) (queryOf (now (numbers .entry))) (length (now (sets .entry)))) × (now (sets .exit) ≡ bufferAfter (tableOf (now (numbers .entry))) (queryOf (now (numbers .entry))) (now (sets .entry))) ⌝ }
+    ensures { λ r. ⌜ (listingTold r ≡ listing (tableOf (now (numbers .entry))) (queryOf (now (numbers .entry))) (length (now (sets .entry))))
+        × (now (sets .exit) ≡ bufferAfter (tableOf (now (numbers .entry))) (queryOf (now (numbers .entry))) (now (sets .entry))) ⌝ }
 {
     let query = Query {
         principal: Principal(numbers[0]),

@@ -32,7 +32,8 @@ pub enum Listing {
 // Lists the minimal sets: rows 1 to 8, then 9, 10 or the list, for any table, query and buffer. Cells beyond the list are
 // unchanged, and so is the buffer on a refusal, except that 10 fills it with the first sets.
 pub fn list(table: &[Number], query: Query, sets: &mut [u32]) -> Listing
-    ensures { λ r. ⌜ (listingTold r ≡ listing (now (table .entry)) query (length (now (sets .entry)))) × (now (sets .exit) ≡ bufferAfter (now (table .entry)) query (now (sets .entry))) ⌝ }
+    ensures { λ r. ⌜ (listingTold r ≡ listing (now (table .entry)) query (length (now (sets .entry))))
+        × (now (sets .exit) ≡ bufferAfter (now (table .entry)) query (now (sets .entry))) ⌝ }
 {
     match table::check_request(table, query) {
         QueryCheck::Valid => list_checked(table, query, sets),
@@ -44,7 +45,8 @@ pub fn list(table: &[Number], query: Query, sets: &mut [u32]) -> Listing
 fn list_checked(table: &[Number], query: Query, sets: &mut [u32]) -> Listing
     requires { ⌜ WellFormed (now table) ⌝ }
     requires { ⌜ Valid query ⌝ }
-    ensures { λ r. ⌜ (listingTold r ≡ counted (length (now (sets .entry))) (length (minimalSets (now (table .entry)) query))) × (now (sets .exit) ≡ laid (minimalSets (now (table .entry)) query) (now (sets .entry))) ⌝ }
+    ensures { λ r. ⌜ (listingTold r ≡ counted (length (now (sets .entry))) (length (minimalSets (now (table .entry)) query)))
+        × (now (sets .exit) ≡ laid (minimalSets (now (table .entry)) query) (now (sets .entry))) ⌝ }
 {
     let cells = sets.len();
     let n = layout::wide(table[0]);
@@ -152,7 +154,8 @@ fn is_any_part(sets: &[u32], found: usize, set: u32) -> bool
 // The next set of the list, where there is a cell for it; it counts in any case.
 fn put(sets: &mut [u32], found: &mut usize, chosen: u32)
     requires { ⌜ now found ≤ length (now sets) ⌝ }
-    ensures { λ r. ⌜ (now (found .exit) ≡ now (found .entry) + 1) × (now (sets .exit) ≡ set (now (sets .entry)) (now (found .entry)) chosen) ⌝ }
+    ensures { λ r. ⌜ (now (found .exit) ≡ now (found .entry) + 1)
+        × (now (sets .exit) ≡ set (now (sets .entry)) (now (found .entry)) chosen) ⌝ }
 {
     if *found < sets.len() {
         sets[*found] = chosen;

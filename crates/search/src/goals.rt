@@ -73,7 +73,9 @@ fn credential_search(
     requires { ⌜ WellFormed (now table) ⌝ }
     requires { ⌜ Room mostDepth (branch .len) (branch .goals) × (branch .len + levels ≤ mostDepth) ⌝ }
     requires { ⌜ Numbered (credentials (now table)) c ⌝ }
-    ensures { λ r. ⌜ r ≡ provesBy (now (table .entry)) (terms .allowed) (proves (now (table .entry)) (terms .allowed) (terms .constraints) levels (above branch) states) (part (terms .constraints) (acceptingSet (now (table .entry)) states)) goal c ⌝ }
+    ensures { λ r. ⌜ r ≡ provesBy (now (table .entry)) (terms .allowed)
+        (proves (now (table .entry)) (terms .allowed) (terms .constraints) levels (above branch) states)
+        (part (terms .constraints) (acceptingSet (now (table .entry)) states)) goal c ⌝ }
 {
     let mut middle = next_middle(table, terms.allowed, c, 0);
     while middle <= layout::MOST_PRINCIPALS {
@@ -100,7 +102,10 @@ fn premises_search(
     requires { ⌜ WellFormed (now table) ⌝ }
     requires { ⌜ Room mostDepth (branch .len) (branch .goals) × (branch .len + levels ≤ mostDepth) ⌝ }
     requires { ⌜ Room mostParts (premises .len) (premises .goals) ⌝ }
-    ensures { λ r. ⌜ r ≡ provedPremises (proves (now (table .entry)) (terms .allowed) (terms .constraints) levels (above branch) states) (part (terms .constraints) (acceptingSet (now (table .entry)) states)) (some (take (premises .len) (premises .goals))) ⌝ }
+    ensures { λ r. ⌜ r ≡ provedPremises
+        (proves (now (table .entry)) (terms .allowed) (terms .constraints) levels (above branch) states)
+        (part (terms .constraints) (acceptingSet (now (table .entry)) states))
+        (some (take (premises .len) (premises .goals))) ⌝ }
 {
     let len = premises.len;
     if len == 0 {

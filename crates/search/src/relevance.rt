@@ -102,7 +102,8 @@ fn more_productive(table: &[Number], index: &[u32], allowed: u32, set: u32) -> u
 pub fn reachable(table: &[Number], index: &[u32], role: Role, productive: u32) -> u32
     requires { ⌜ WellFormed (now table) ⌝ }
     requires { ⌜ Indexed (now table) (now index) ⌝ }
-    ensures { λ r. ⌜ (part r productive ≡ true) × ((part (definers (now (table .entry)) productive role) r ≡ true) × Reached (now (table .entry)) productive r) ⌝ }
+    ensures { λ r. ⌜ (part r productive ≡ true)
+        × ((part (definers (now (table .entry)) productive role) r ≡ true) × Reached (now (table .entry)) productive r) ⌝ }
 {
     let mut set = defining(table, productive, role);
     let mut next = more_reachable(table, index, productive, set);
