@@ -5,8 +5,10 @@
 //! the first nodes and words are shown, what is at fault, and how many more
 //! there are.
 
-use crate::derivation::{ancestors, numbered, Judged, Node, HIGHEST};
+use crate::derivation::{ancestors, numbered, Judged, Node};
+use crate::limits::NAMES;
 use crate::names::Names;
+use crate::refusal;
 use crate::words::{roles, run, states, used_credentials, words, Word, Words};
 use crate::Wallet;
 
@@ -48,13 +50,7 @@ pub fn text(wallet: &Wallet, judged: &Judged) -> String {
 
 /// What was asked: `Ann in Shop.discount within 2`.
 pub fn question(wallet: &Wallet, judged: &Judged) -> String {
-    let query = judged.query;
-    let role = crate::table::Role {
-        owner: query.owner,
-        name: query.name,
-    };
-    let goal = wallet.names.goal(query.principal, role);
-    format!("{goal} within {}", query.depth)
+    wallet.names.query(judged.query)
 }
 
 /// The verdict: `accepted: used set 7 = credentials 1, 2, 3`, or `refused 14
@@ -69,7 +65,7 @@ pub fn verdict(wallet: &Wallet, judged: &Judged, words: &Words) -> String {
         _ => judged.reason(&wallet.names),
     };
     let why = why.unwrap_or_else(|| refusal.to_string());
-    format!("refused {} at {}: {why}", refusal.number, refusal.position)
+    refusal::told(refusal, why)
 }
 
 /// The credentials of a used set: `credentials 1, 2, 3`.
@@ -207,7 +203,7 @@ fn through(wallet: &Wallet, node: &Node) -> String {
     }
     match node.middle {
         None | Some(0) => through,
-        Some(middle @ 1..=HIGHEST) => {
+        Some(middle @ 1..=NAMES) => {
             format!("{through}; middle {}", wallet.names.principal(middle))
         }
         Some(middle) => format!("{through}; middle {middle}"),
