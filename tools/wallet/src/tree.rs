@@ -29,7 +29,7 @@ const NO_FAULT: &str = "  ";
 /// was judged.
 pub fn text(wallet: &Wallet, judged: &Judged) -> String {
     let words = words(wallet, judged);
-    let mut lines = vec![question(wallet, judged)];
+    let mut lines = vec![wallet.names.query(judged.query)];
     if !judged.nodes.is_empty() {
         lines.push(String::new());
         tree(wallet, judged, &mut lines);
@@ -46,11 +46,6 @@ pub fn text(wallet: &Wallet, judged: &Judged) -> String {
     lines.push(verdict(wallet, judged, &words));
     lines.push(String::new());
     lines.join("\n")
-}
-
-/// What was asked: `Ann in Shop.discount within 2`.
-pub fn question(wallet: &Wallet, judged: &Judged) -> String {
-    wallet.names.query(judged.query)
 }
 
 /// The verdict: `accepted: used set 7 = credentials 1, 2, 3`, or `refused 14
