@@ -123,11 +123,7 @@ fn read_asked(asked: &Asked) -> Result<(Wallet, Query), Failure> {
     let mut wallet = read(&asked.wallet)?;
     if let Some(text) = &asked.query {
         let given = query(&wallet, text.as_encoded_bytes());
-        wallet.query = Some(given.map_err(
-            |Mistake {
-                 column, message, ..
-             }| { Failure::Wrong(format!("--query: column {column}: {message}")) },
-        )?);
+        wallet.query = Some(given.map_err(|mistake| wrong_query(&mistake))?);
         // It stands on no line.
         wallet.lines.query = None;
     }
@@ -163,6 +159,14 @@ fn text(source: &Source) -> Result<Vec<u8>, Failure> {
         }
         Ok(_) => Ok(bytes),
     }
+}
+
+/// What is wrong with a query that is given apart.
+fn wrong_query(mistake: &Mistake) -> Failure {
+    let Mistake {
+        column, message, ..
+    } = mistake;
+    Failure::Wrong(format!("--query: column {column}: {message}"))
 }
 
 /// What is wrong with what was read.
