@@ -8,7 +8,7 @@ use crate::record::decimal;
 use crate::Wallet;
 
 /// The cells that the listing program has.
-const CELLS: usize = 4096;
+pub const CELLS: usize = 4096;
 
 /// All minimal sets, or why there is no list.
 #[derive(Clone, Debug, PartialEq, Eq)]

@@ -14,6 +14,7 @@ usage: wallet encode WALLET                   writes the listing program's input
        wallet verify WALLET NUMBER...         verifies a proof record, in words
        wallet draw WALLET NUMBER...           the same as a picture
 WALLET is a file or `-`, standard input. `-o FILE` writes to a file.
+`--query \"D in A.r within 2\"` asks this in the place of the wallet's own query.
 ";
 
 /// A command, and where its output goes.
@@ -29,19 +30,28 @@ pub struct Arguments {
 #[derive(Debug, PartialEq, Eq)]
 pub enum Command {
     /// Writes the listing program's input.
-    Encode(Source),
+    Encode(Asked),
     /// Lists all minimal sets.
-    List(Source),
+    List(Asked),
     /// Explains what the listing program printed.
-    Explain(Source),
+    Explain(Asked),
     /// Writes the text of an input, in the words of a wallet.
     Decode(Option<Source>),
     /// Verifies a record.
-    Verify(Source, Vec<u16>),
+    Verify(Asked, Vec<u16>),
     /// Draws a record.
-    Draw(Source, Vec<u16>),
+    Draw(Asked, Vec<u16>),
     /// Says how the tool is called.
     Help,
+}
+
+/// A wallet, and what is asked about it.
+#[derive(Clone, Debug, PartialEq, Eq)]
+pub struct Asked {
+    /// The wallet.
+    pub wallet: Source,
+    /// The query behind `--query`, which goes before the wallet's own.
+    pub query: Option<OsString>,
 }
 
 /// Where a wallet's text is.
@@ -68,15 +78,20 @@ pub fn read(mut words: impl Iterator<Item = OsString>) -> Result<Arguments, Stri
     let name = words.next().ok_or("a command is missing")?;
     let mut rest = Rest::new(words)?;
     let command = match name.to_str() {
-        Some("encode") => Command::Encode(rest.wallet()?),
-        Some("list") => Command::List(rest.wallet()?),
-        Some("explain") => Command::Explain(alone(rest.wallet()?, "OUTPUT")?),
+        Some("encode") => Command::Encode(rest.asked()?),
+        Some("list") => Command::List(rest.asked()?),
+        Some("explain") => {
+            let asked = rest.asked()?;
+            alone(&asked.wallet, "OUTPUT")?;
+            Command::Explain(asked)
+        }
         Some("decode") => {
             let names = rest.names.take();
-            Command::Decode(names.map(|source| alone(source, "INPUT")).transpose()?)
+            names.iter().try_for_each(|source| alone(source, "INPUT"))?;
+            Command::Decode(names)
         }
-        Some("verify") => Command::Verify(rest.wallet()?, rest.record()?),
-        Some("draw") => Command::Draw(rest.wallet()?, rest.record()?),
+        Some("verify") => Command::Verify(rest.asked()?, rest.record()?),
+        Some("draw") => Command::Draw(rest.asked()?, rest.record()?),
         Some("help" | "--help" | "-h") => Command::Help,
         _ => return Err(format!("unknown command `{}`", name.display())),
     };
@@ -91,31 +106,45 @@ pub fn read(mut words: impl Iterator<Item = OsString>) -> Result<Arguments, Stri
 struct Rest {
     output: Option<PathBuf>,
     names: Option<Source>,
+    query: Option<OsString>,
     words: std::vec::IntoIter<OsString>,
 }
 
 impl Rest {
     /// Sets the options apart, wherever they stand.
     fn new(mut all: impl Iterator<Item = OsString>) -> Result<Rest, String> {
-        let (mut output, mut names, mut words) = (None, None, Vec::new());
+        let (mut output, mut names, mut query) = (None, None, None);
+        let mut words = Vec::new();
         while let Some(word) = all.next() {
-            let mut value = |what| all.next().ok_or(format!("{what} is missing"));
-            match word.to_str() {
-                Some("-o") if output.is_some() => return Err("`-o` stands twice".to_string()),
-                Some("-o") => output = Some(PathBuf::from(value("the file behind `-o`")?)),
-                Some("--names") if names.is_some() => {
-                    return Err("`--names` stands twice".to_string())
+            let (option, value, what) = match word.to_str() {
+                Some("-o") => ("-o", &mut output, "file"),
+                Some("--names") => ("--names", &mut names, "wallet"),
+                Some("--query") => ("--query", &mut query, "query"),
+                _ => {
+                    words.push(word);
+                    continue;
                 }
-                Some("--names") => {
-                    names = Some(Source::new(value("the wallet behind `--names`")?));
-                }
-                _ => words.push(word),
+            };
+            let next = all
+                .next()
+                .ok_or(format!("the {what} behind `{option}` is missing"))?;
+            if value.replace(next).is_some() {
+                return Err(format!("`{option}` stands twice"));
             }
         }
         Ok(Rest {
-            output,
-            names,
+            output: output.map(PathBuf::from),
+            names: names.map(Source::new),
+            query,
             words: words.into_iter(),
+        })
+    }
+
+    /// The wallet and the query about it.
+    fn asked(&mut self) -> Result<Asked, String> {
+        Ok(Asked {
+            wallet: self.wallet()?,
+            query: self.query.take(),
         })
     }
 
@@ -143,6 +172,9 @@ impl Rest {
         if self.names.is_some() {
             return Err("`--names` belongs to `decode`".to_string());
         }
+        if self.query.is_some() {
+            return Err("`--query` belongs to commands that ask about a wallet".to_string());
+        }
         match self.words.next() {
             None => Ok(()),
             Some(word) => Err(format!("`{}` is too much", word.display())),
@@ -151,18 +183,19 @@ impl Rest {
 }
 
 /// A wallet beside something else that is read from standard input.
-fn alone(source: Source, other: &str) -> Result<Source, String> {
+fn alone(source: &Source, other: &str) -> Result<(), String> {
     match source {
         Source::Standard => Err(format!(
             "standard input is for {other}: name the wallet's file"
         )),
-        file => Ok(file),
+        Source::File(_) => Ok(()),
     }
 }
 
 #[cfg(test)]
 mod tests {
-    use super::{read, Arguments, Command, Source};
+    use super::{read, Arguments, Asked, Command, Source};
+    use std::ffi::OsString;
     use std::path::PathBuf;
 
     fn asked(line: &str) -> Result<Arguments, String> {
@@ -177,17 +210,25 @@ mod tests {
         Source::File(PathBuf::from(name))
     }
 
+    /// A wallet's own query.
+    fn own(wallet: Source) -> Asked {
+        Asked {
+            wallet,
+            query: None,
+        }
+    }
+
     #[test]
     fn commands_are_read() {
-        assert_eq!(command("encode w"), Ok(Command::Encode(file("w"))));
-        assert_eq!(command("list -"), Ok(Command::List(Source::Standard)));
-        assert_eq!(command("explain w"), Ok(Command::Explain(file("w"))));
+        assert_eq!(command("encode w"), Ok(Command::Encode(own(file("w")))));
+        assert_eq!(command("list -"), Ok(Command::List(own(Source::Standard))));
+        assert_eq!(command("explain w"), Ok(Command::Explain(own(file("w")))));
         assert_eq!(command("decode"), Ok(Command::Decode(None)));
         let named = Ok(Command::Decode(Some(file("w"))));
         assert_eq!(command("decode --names w"), named);
-        let verify = Ok(Command::Verify(Source::Standard, vec![1, 2]));
+        let verify = Ok(Command::Verify(own(Source::Standard), vec![1, 2]));
         assert_eq!(command("verify - 1 2"), verify);
-        assert_eq!(command("draw w"), Ok(Command::Draw(file("w"), vec![])));
+        assert_eq!(command("draw w"), Ok(Command::Draw(own(file("w")), vec![])));
         assert_eq!(command("help"), Ok(Command::Help));
     }
 
@@ -196,8 +237,32 @@ mod tests {
         for line in ["verify -o f w 1", "verify w -o f 1", "verify w 1 -o f"] {
             let arguments = asked(line).expect("a right call");
             assert_eq!(arguments.output, Some(PathBuf::from("f")), "{line}");
-            let verify = Command::Verify(file("w"), vec![1]);
+            let verify = Command::Verify(own(file("w")), vec![1]);
             assert_eq!(arguments.command, verify, "{line}");
+        }
+    }
+
+    #[test]
+    fn a_query_stands_anywhere_behind_the_command() {
+        let wallet = file("w");
+        let query = Some(OsString::from("D-in-A.r"));
+        let asked = Asked { wallet, query };
+        for line in [
+            "verify w 1 2 --query D-in-A.r",
+            "verify w --query D-in-A.r 1 2",
+            "verify --query D-in-A.r w 1 2",
+        ] {
+            let verify = Command::Verify(asked.clone(), vec![1, 2]);
+            assert_eq!(command(line), Ok(verify), "{line}");
+        }
+        let line = |name| format!("{name} w --query D-in-A.r");
+        for (name, expected) in [
+            ("encode", Command::Encode(asked.clone())),
+            ("list", Command::List(asked.clone())),
+            ("explain", Command::Explain(asked.clone())),
+            ("draw", Command::Draw(asked.clone(), vec![])),
+        ] {
+            assert_eq!(command(&line(name)), Ok(expected));
         }
     }
 
@@ -212,6 +277,15 @@ mod tests {
         assert_eq!(told("list w -o"), "the file behind `-o` is missing");
         assert_eq!(told("list w -o f -o f"), "`-o` stands twice");
         assert_eq!(told("list w --names v"), "`--names` belongs to `decode`");
+        assert_eq!(
+            told("list w --query"),
+            "the query behind `--query` is missing"
+        );
+        let twice = "`--query` stands twice";
+        assert_eq!(told("list w --query q --query q"), twice);
+        let no_wallet = "`--query` belongs to commands that ask about a wallet";
+        assert_eq!(told("decode --query q"), no_wallet);
+        assert_eq!(told("help --query q"), no_wallet);
         assert_eq!(told("decode w"), "`w` is too much");
         let standard = "standard input is for OUTPUT: name the wallet's file";
         assert_eq!(told("explain -"), standard);

@@ -4,16 +4,17 @@ use std::fmt::Display;
 use std::fs::File;
 use std::io::{self, Read};
 
-use bwlchareg::Query;
+use bwlchareg::{Query, Refusal};
 use wallet::answer::{listed, printed, Answer};
-use wallet::derivation::judge;
-use wallet::explain::{explain, said};
-use wallet::parse::parse;
+use wallet::derivation::{judge, Judged};
+use wallet::explain::explain;
+use wallet::mistake::Mistake;
+use wallet::parse::{parse, query};
 use wallet::print::print;
 use wallet::table::Table;
-use wallet::{program, svg, tree, Wallet};
+use wallet::{program, refusal, svg, tree, Wallet};
 
-use crate::arguments::{Command, Source, USAGE};
+use crate::arguments::{Asked, Command, Source, USAGE};
 
 /// The most bytes of a text that are read.
 const MOST_BYTES: u64 = 1 << 20;
@@ -37,38 +38,25 @@ pub enum Failure {
 /// Runs a command.
 pub fn run(command: &Command) -> Result<Written, Failure> {
     match command {
-        Command::Encode(source) => {
-            let (wallet, query) = asked(source)?;
+        Command::Encode(asked) => {
+            let (wallet, query) = read_asked(asked)?;
             accepted(program::input(query, &wallet.table.numbers()))
         }
-        Command::List(source) => {
-            let (wallet, query) = asked(source)?;
+        Command::List(asked) => {
+            let (wallet, query) = read_asked(asked)?;
             Ok(answered(&wallet, query, &listed(&wallet, query)))
         }
-        Command::Explain(source) => {
-            let (wallet, query) = asked(source)?;
+        Command::Explain(asked) => {
+            let (wallet, query) = read_asked(asked)?;
             let output = text(&Source::Standard)?;
             let answer = printed(&wallet, &String::from_utf8_lossy(&output));
             Ok(answered(&wallet, query, &answer.map_err(Failure::Wrong)?))
         }
         Command::Decode(names) => decode(names.as_ref()),
-        Command::Verify(source, record) => {
-            let (wallet, query) = asked(source)?;
-            let judged = judge(&wallet, query, record);
-            Ok(Written {
-                bytes: tree::text(&wallet, &judged).into_bytes(),
-                refused: judged.refusal().is_some(),
-            })
-        }
-        Command::Draw(source, record) => {
-            let (wallet, query) = asked(source)?;
-            let judged = judge(&wallet, query, record);
-            let picture = svg::picture(&wallet, &judged).map_err(Failure::Wrong)?;
-            Ok(Written {
-                bytes: picture.into_bytes(),
-                refused: judged.refusal().is_some(),
-            })
-        }
+        Command::Verify(asked, record) => judged(asked, record, |wallet, judged| {
+            Ok(tree::text(wallet, judged))
+        }),
+        Command::Draw(asked, record) => judged(asked, record, svg::picture),
         Command::Help => accepted(USAGE.as_bytes().to_vec()),
     }
 }
@@ -89,6 +77,22 @@ fn answered(wallet: &Wallet, query: Query, answer: &Answer) -> Written {
     }
 }
 
+/// Writes what is shown of a record that is judged.
+fn judged(
+    asked: &Asked,
+    record: &[u16],
+    shown: impl Fn(&Wallet, &Judged) -> Result<String, String>,
+) -> Result<Written, Failure> {
+    let (wallet, query) = read_asked(asked)?;
+    let judged = judge(&wallet, query, record);
+    Ok(Written {
+        bytes: shown(&wallet, &judged)
+            .map_err(Failure::Wrong)?
+            .into_bytes(),
+        refused: judged.refusal().is_some(),
+    })
+}
+
 /// Writes the text of the input on standard input.
 fn decode(names: Option<&Source>) -> Result<Written, Failure> {
     let names = match names {
@@ -100,10 +104,8 @@ fn decode(names: Option<&Source>) -> Result<Written, Failure> {
         .take(program::MOST_BYTES as u64)
         .read_to_end(&mut input)
         .map_err(|error| wrong(&Source::Standard, error))?;
-    let refused = |refusal: bwlchareg::Refusal| {
-        let bwlchareg::Refusal { number, position } = refusal;
-        Failure::Refused(format!("refused {number} {position}: {}", said(refusal)))
-    };
+    let refused =
+        |refusal: Refusal| Failure::Refused(refusal::told(refusal, refusal::of_program(refusal)));
     let (query, numbers) = program::read(&input).map_err(refused)?;
     bwlchareg::check_query(&numbers, query).map_err(refused)?;
     let wallet = Wallet {
@@ -115,14 +117,22 @@ fn decode(names: Option<&Source>) -> Result<Written, Failure> {
     accepted(print(&wallet).into_bytes())
 }
 
-/// The wallet of a text, with its query, which must be there.
-fn asked(source: &Source) -> Result<(Wallet, Query), Failure> {
-    let wallet = read(source)?;
+/// The wallet of a text, and what is asked about it: the query that is given
+/// apart, or else the wallet's own, which must be there.
+fn read_asked(asked: &Asked) -> Result<(Wallet, Query), Failure> {
+    let mut wallet = read(&asked.wallet)?;
+    if let Some(text) = &asked.query {
+        let given = query(&wallet, text.as_encoded_bytes());
+        wallet.query = Some(given.map_err(|mistake| wrong_query(&mistake))?);
+        // It stands on no line.
+        wallet.lines.query = None;
+    }
     match wallet.query {
         Some(query) => Ok((wallet, query)),
         None => {
-            let message = "the wallet has no query; write a line like `D in A.r within 2`";
-            Err(wrong(source, message))
+            let message = "the wallet has no query; write a line like `D in A.r within 2`, \
+                or the same behind `--query`";
+            Err(wrong(&asked.wallet, message))
         }
     }
 }
@@ -149,6 +159,14 @@ fn text(source: &Source) -> Result<Vec<u8>, Failure> {
         }
         Ok(_) => Ok(bytes),
     }
+}
+
+/// What is wrong with a query that is given apart.
+fn wrong_query(mistake: &Mistake) -> Failure {
+    let Mistake {
+        column, message, ..
+    } = mistake;
+    Failure::Wrong(format!("--query: column {column}: {message}"))
 }
 
 /// What is wrong with what was read.

@@ -6,12 +6,10 @@
 
 use bwlchareg::{Query, Refusal};
 
+use crate::limits::NAMES;
 use crate::names::Names;
 use crate::table::{Body, Credential, Role, Table};
 use crate::Wallet;
-
-/// Principals, and with them middles, are numbered 1 to this.
-pub const HIGHEST: u16 = 64;
 
 /// That a principal is in a role.
 #[derive(Clone, Copy, Debug, PartialEq, Eq)]
@@ -160,9 +158,9 @@ impl Judged {
                 "credential {credential} names another principal, {}",
                 names.principal(principal)
             ),
-            Why::MiddleOutOfRange(middle) => format!(
-                "the middle of credential {credential} must be 1 to {HIGHEST}, not {middle}"
-            ),
+            Why::MiddleOutOfRange(middle) => {
+                format!("the middle of credential {credential} must be 1 to {NAMES}, not {middle}")
+            }
             Why::MiddleNotZero(middle) => {
                 format!("the middle of credential {credential} must be 0, not {middle}")
             }
@@ -263,10 +261,7 @@ fn allowed(table: &Table, limit: u16, nodes: &[Node], node: &Node) -> Result<Vec
 fn asked(query: Query) -> Goal {
     Goal {
         principal: query.principal,
-        role: Role {
-            owner: query.owner,
-            name: query.name,
-        },
+        role: Role::asked(query),
     }
 }
 
@@ -283,7 +278,7 @@ fn premises(table: &Table, node: &Node) -> Result<Vec<Goal>, Why> {
     let same_in = |role: Role| Goal { principal, role };
     match (credential.body, middle) {
         (Body::Member(member), _) if member != principal => Err(Why::OtherPrincipal(member)),
-        (Body::Linked { first, second }, 1..=HIGHEST) => Ok(vec![
+        (Body::Linked { first, second }, 1..=NAMES) => Ok(vec![
             Goal {
                 principal: middle,
                 role: Role {

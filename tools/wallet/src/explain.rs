@@ -4,9 +4,17 @@
 
 use bwlchareg::{Query, Refusal};
 
-use crate::answer::Answer;
-use crate::table::{Body, Credential, Role};
+use crate::answer::{Answer, CELLS};
+use crate::refusal;
+use crate::rows::{rows, width};
+use crate::table::{Body, Credential};
 use crate::Wallet;
+
+/// The columns that a line of memberships has at most, where names allow it.
+pub const COLUMNS: usize = 100;
+
+/// What stands before a set's memberships.
+const SHOWS: &str = "  shows ";
 
 /// What an answer says of a wallet and its query.
 pub fn explain(wallet: &Wallet, query: Query, answer: &Answer) -> String {
@@ -27,19 +35,7 @@ fn heading(wallet: &Wallet, query: Query, count: usize) -> String {
     } else {
         "sets prove"
     };
-    format!("{count} minimal {sets} {}\n", asked(wallet, query))
-}
-
-/// The query in words.
-fn asked(wallet: &Wallet, query: Query) -> String {
-    let Query {
-        principal,
-        owner,
-        name,
-        depth,
-    } = query;
-    let goal = wallet.names.goal(principal, Role { owner, name });
-    format!("{goal} within {depth}")
+    format!("{count} minimal {sets} {}\n", wallet.names.query(query))
 }
 
 /// A set: its credentials, one on a line, and what it shows.
@@ -49,19 +45,17 @@ fn explain_set(wallet: &Wallet, set: u32) -> String {
         .collect();
     let said = |index: &usize| credential(wallet, *index);
     let texts: Vec<String> = chosen.iter().map(said).collect();
-    let width = texts.iter().map(|text| text.chars().count()).max();
-    let width = width.unwrap_or_default();
+    let widest = texts.iter().map(|text| width(text)).max();
+    let widest = widest.unwrap_or_default();
     let mut lines = format!("\nset {set}\n");
     for (index, text) in chosen.iter().zip(&texts) {
         let line = wallet.lines.credentials.get(*index);
         let line = line.map_or(String::new(), |line| format!("  line {line}"));
-        let pad = width - text.chars().count();
-        let number = index + 1;
-        let row = format!("  {number:>2}  {text}{:pad$}{line}", "");
+        let row = format!("  {:>2}  {text:<widest$}{line}", index + 1);
         lines += row.trim_end();
         lines += "\n";
     }
-    format!("{lines}  {}\n", shown(wallet, &chosen))
+    lines + &shown(wallet, &chosen) + "\n"
 }
 
 /// A credential in words.
@@ -83,49 +77,26 @@ fn shown(wallet: &Wallet, chosen: &[usize]) -> String {
             }
         }
     }
-    match goals.len() {
-        0 => "shows nobody".to_string(),
-        _ => format!("shows {}", goals.join(", ")),
+    if goals.is_empty() {
+        return format!("{SHOWS}nobody");
     }
+    // All rows but the last end with a comma.
+    let rows = rows(goals, COLUMNS - SHOWS.len() - 1);
+    let further = format!(",\n{:1$}", "", SHOWS.len());
+    format!("{SHOWS}{}", rows.join(&further))
 }
 
 /// A refusal, with the wallet's line that its position means.
 fn explain_refusal(wallet: &Wallet, query: Query, refusal: Refusal) -> String {
-    let Refusal { number, position } = refusal;
-    let said = match number {
-        9 => format!("no set of credentials proves {}", asked(wallet, query)),
-        10 => format!("more than 4096 minimal sets prove {}", asked(wallet, query)),
-        _ => said(refusal),
+    let asked = wallet.names.query(query);
+    let said = match refusal.number {
+        Refusal::NONE => format!("no set of credentials proves {asked}"),
+        Refusal::LONGER => format!("more than {CELLS} minimal sets prove {asked}"),
+        _ => refusal::of_program(refusal),
     };
-    let line = line(wallet, refusal).map(|line| format!(" (line {line})"));
+    let line = refusal::line(wallet, refusal).map(|line| format!(" (line {line})"));
     let line = line.unwrap_or_default();
-    format!("refused {number} {position}: {said}{line}\n")
-}
-
-/// A refusal of the listing program in words. It has the table from its input,
-/// so the table is too short when the input is.
-pub fn said(refusal: Refusal) -> String {
-    match refusal.number {
-        1 => "the input has fewer than 16 bytes, or an odd number of them".to_string(),
-        _ => refusal.to_string(),
-    }
-}
-
-/// The line of the record or the query that a refusal's position means.
-pub fn line(wallet: &Wallet, refusal: Refusal) -> Option<usize> {
-    let lines = &wallet.lines;
-    let of = |lines: &[usize]| {
-        let index = usize::try_from(refusal.position).ok()?.checked_sub(1)?;
-        lines.get(index).copied()
-    };
-    match refusal.number {
-        4 | 6 => of(&lines.credentials),
-        5 => of(&lines.cells),
-        7 => of(&lines.edges),
-        8 => lines.query,
-        14 => of(&lines.automata),
-        _ => None,
-    }
+    refusal::told(refusal, format_args!("{said}{line}")) + "\n"
 }
 
 #[cfg(test)]
@@ -138,9 +109,13 @@ mod tests {
     const TEXT: &str = "A.r <- A.s & A.t under c\n\nA.s <- B\nA.s <- B\nA.t <- Alexander\n\
         constraint c\n  start 0\n\n  0 -- any --> 0\nB in A.r within 2\n";
 
-    fn said(answer: Answer) -> String {
-        let wallet = parse(TEXT.as_bytes()).expect("a wallet");
+    fn said_of(text: &str, answer: Answer) -> String {
+        let wallet = parse(text.as_bytes()).expect("a wallet");
         explain(&wallet, wallet.query.expect("a query"), &answer)
+    }
+
+    fn said(answer: Answer) -> String {
+        said_of(TEXT, answer)
     }
 
     #[test]
@@ -162,37 +137,55 @@ set 14
     }
 
     #[test]
+    fn many_memberships_are_wrapped() {
+        let text = "Registry.licence <- Alexander\nRegistry.insured <- Alexander\n\
+            Registry.audited <- Alexander\nRegistry.known <- Alexander\n\
+            Alexander in Registry.known within 1\n";
+        let said = said_of(text, Answer::Sets(vec![15]));
+        let full = "
+  shows Alexander in Registry.licence, Alexander in Registry.insured, Alexander in Registry.audited,
+        Alexander in Registry.known
+";
+        assert!(said.ends_with(full), "{said}");
+        let first = full.lines().nth(1).expect("a row");
+        assert_eq!(first.chars().count(), 100);
+        let longer = text.replace("licence", "licences");
+        let said = said_of(&longer, Answer::Sets(vec![15]));
+        let earlier = "
+  shows Alexander in Registry.licences, Alexander in Registry.insured,
+        Alexander in Registry.audited, Alexander in Registry.known
+";
+        assert!(said.ends_with(earlier), "{said}");
+    }
+
+    #[test]
     fn refusals_are_said_with_their_lines() {
-        let all = [
-            (
-                1,
-                0,
-                "the input has fewer than 16 bytes, or an odd number of them",
-            ),
-            (2, 0, "a count in the table's head is over its limit"),
-            (3, 0, "the table's length is not what its head says"),
-            (
-                4,
-                2,
-                "credential 2 has a field outside what its kind allows (line 3)",
-            ),
-            (5, 2, "part cell 2 has a field out of range (line 1)"),
-            (
-                6,
-                1,
-                "the chain of credential 1 does not have 2 to 4 cells (line 1)",
-            ),
-            (7, 1, "edge 1 has a field out of range (line 9)"),
-            (8, 3, "the query's name is out of range (line 10)"),
-            (9, 0, "no set of credentials proves B in A.r within 2"),
-            (10, 0, "more than 4096 minimal sets prove B in A.r within 2"),
-        ];
-        for (number, position, words) in all {
-            let answer = Answer::Refused(Refusal { number, position });
-            assert_eq!(
-                said(answer),
-                format!("refused {number} {position}: {words}\n")
-            );
+        let words = |number, position| {
+            let said = said(Answer::Refused(Refusal { number, position }));
+            let place = if position == 0 {
+                format!("refused {number}: ")
+            } else {
+                format!("refused {number} at {position}: ")
+            };
+            let words = said
+                .strip_prefix(&place)
+                .unwrap_or_else(|| panic!("{said}"));
+            words.strip_suffix('\n').expect("a line").to_string()
+        };
+        let short = "the input has fewer than 16 bytes, or an odd number of them";
+        assert_eq!(words(1, 0), short);
+        let none = "no set of credentials proves B in A.r within 2";
+        assert_eq!(words(9, 0), none);
+        let more = "more than 4096 minimal sets prove B in A.r within 2";
+        assert_eq!(words(10, 0), more);
+        // The others are in the words of the checker.
+        for (number, position) in [(2, 0), (3, 0)] {
+            let refusal = Refusal { number, position };
+            assert_eq!(words(number, position), refusal.to_string());
+        }
+        for (number, position, line) in [(4, 2, 3), (5, 2, 1), (6, 1, 1), (7, 1, 9), (8, 3, 10)] {
+            let refusal = Refusal { number, position };
+            assert_eq!(words(number, position), format!("{refusal} (line {line})"));
         }
     }
 }

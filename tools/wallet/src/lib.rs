@@ -18,6 +18,8 @@ pub mod parse;
 pub mod print;
 pub mod program;
 pub mod record;
+pub mod refusal;
+mod rows;
 pub mod svg;
 pub mod table;
 pub mod tokens;

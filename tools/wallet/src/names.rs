@@ -2,6 +2,8 @@
 
 use std::collections::BTreeMap;
 
+use bwlchareg::Query;
+
 use crate::table::{Body, Credential, Edge, Label, Role, Table};
 
 /// The names of a wallet's numbers. A number without a name has a name made
@@ -53,6 +55,12 @@ impl Names {
     /// A membership: `Ann in Shop.discount`.
     pub fn goal(&self, principal: u16, role: Role) -> String {
         format!("{} in {}", self.principal(principal), self.role(role))
+    }
+
+    /// A query: `Ann in Shop.discount within 2`.
+    pub fn query(&self, query: Query) -> String {
+        let goal = self.goal(query.principal, Role::asked(query));
+        format!("{goal} within {}", query.depth)
     }
 
     /// A credential's text without its constraint:

@@ -9,7 +9,7 @@ mod layout;
 mod marks;
 
 use crate::derivation::Judged;
-use crate::tree::{counted, question, verdict};
+use crate::tree::{counted, verdict};
 use crate::words::words;
 use crate::Wallet;
 use boxes::{columns, sheets, Sheet};
@@ -52,7 +52,7 @@ pub fn picture(wallet: &Wallet, judged: &Judged) -> Result<String, String> {
     }
     let drawing = fitting(judged, &sheets(wallet, judged, &words));
     let head = Head {
-        question: question(wallet, judged),
+        question: wallet.names.query(judged.query),
         verdict,
         accepted: judged.refusal().is_none(),
         words: words.words.len(),

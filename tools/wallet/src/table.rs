@@ -13,6 +13,16 @@ pub struct Role {
     pub name: u16,
 }
 
+impl Role {
+    /// The role that a query asks about.
+    pub fn asked(query: bwlchareg::Query) -> Role {
+        Role {
+            owner: query.owner,
+            name: query.name,
+        }
+    }
+}
+
 /// What stands behind a credential's arrow.
 #[derive(Clone, Copy, Debug, PartialEq, Eq)]
 pub enum Body {

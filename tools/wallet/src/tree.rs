@@ -5,8 +5,10 @@
 //! the first nodes and words are shown, what is at fault, and how many more
 //! there are.
 
-use crate::derivation::{ancestors, numbered, Judged, Node, HIGHEST};
+use crate::derivation::{ancestors, numbered, Judged, Node};
+use crate::limits::NAMES;
 use crate::names::Names;
+use crate::refusal;
 use crate::words::{roles, run, states, used_credentials, words, Word, Words};
 use crate::Wallet;
 
@@ -27,7 +29,7 @@ const NO_FAULT: &str = "  ";
 /// was judged.
 pub fn text(wallet: &Wallet, judged: &Judged) -> String {
     let words = words(wallet, judged);
-    let mut lines = vec![question(wallet, judged)];
+    let mut lines = vec![wallet.names.query(judged.query)];
     if !judged.nodes.is_empty() {
         lines.push(String::new());
         tree(wallet, judged, &mut lines);
@@ -46,17 +48,6 @@ pub fn text(wallet: &Wallet, judged: &Judged) -> String {
     lines.join("\n")
 }
 
-/// What was asked: `Ann in Shop.discount within 2`.
-pub fn question(wallet: &Wallet, judged: &Judged) -> String {
-    let query = judged.query;
-    let role = crate::table::Role {
-        owner: query.owner,
-        name: query.name,
-    };
-    let goal = wallet.names.goal(query.principal, role);
-    format!("{goal} within {}", query.depth)
-}
-
 /// The verdict: `accepted: used set 7 = credentials 1, 2, 3`, or `refused 14
 /// at 1` and why.
 pub fn verdict(wallet: &Wallet, judged: &Judged, words: &Words) -> String {
@@ -69,7 +60,7 @@ pub fn verdict(wallet: &Wallet, judged: &Judged, words: &Words) -> String {
         _ => judged.reason(&wallet.names),
     };
     let why = why.unwrap_or_else(|| refusal.to_string());
-    format!("refused {} at {}: {why}", refusal.number, refusal.position)
+    refusal::told(refusal, why)
 }
 
 /// The credentials of a used set: `credentials 1, 2, 3`.
@@ -207,7 +198,7 @@ fn through(wallet: &Wallet, node: &Node) -> String {
     }
     match node.middle {
         None | Some(0) => through,
-        Some(middle @ 1..=HIGHEST) => {
+        Some(middle @ 1..=NAMES) => {
             format!("{through}; middle {}", wallet.names.principal(middle))
         }
         Some(middle) => format!("{through}; middle {middle}"),

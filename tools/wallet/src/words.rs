@@ -6,11 +6,9 @@
 //! it.
 
 use crate::derivation::{ancestors, numbered, Judged, Node};
+use crate::limits::{AUTOMATA, STATES};
 use crate::table::{Role, Table};
 use crate::Wallet;
-
-/// A table has at most so many automata.
-const AUTOMATA: usize = 8;
 
 /// A set of states for each automaton, automaton 1 first.
 type Standing = [u16; AUTOMATA];
@@ -171,7 +169,7 @@ fn has(set: u16, state: u16) -> bool {
 
 /// The states of a set, ascending.
 pub fn states(set: u16) -> impl Iterator<Item = u16> {
-    (0..16).filter(move |&state| has(set, state))
+    (0..STATES).filter(move |&state| has(set, state))
 }
 
 /// Which of some automata do not accept a word after which all are in these

@@ -131,13 +131,13 @@ fn list_and_explain_say_the_same() {
 fn a_list_that_is_refused() {
     let text = "A.r <- B\nC in A.r within 1\n";
     let done = run(&["list", "-"], text.as_bytes());
-    let words = "refused 9 0: no set of credentials proves C in A.r within 1\n";
+    let words = "refused 9: no set of credentials proves C in A.r within 1\n";
     assert_eq!((done.code, done.text().as_str()), (Some(1), words));
     let wallet = file("nobody.wallet", text.as_bytes());
     let done = run(&["explain", &wallet], b"refused 9 0\n");
     assert_eq!((done.code, done.text().as_str()), (Some(1), words));
     let done = run(&["explain", &wallet], b"refused 8 4\n");
-    let words = "refused 8 4: the query's depth is out of range (line 2)\n";
+    let words = "refused 8 at 4: the query's depth is out of range (line 2)\n";
     assert_eq!((done.code, done.text().as_str()), (Some(1), words));
 }
 
@@ -158,11 +158,7 @@ fn decode() {
     long.resize(4096, 0);
     let done = run(&["decode"], &[long, vec![1; 9]].concat());
     assert_eq!(done.code, Some(1));
-    assert!(
-        done.err.starts_with("wallet: refused 3 0: "),
-        "{}",
-        done.err
-    );
+    assert!(done.err.starts_with("wallet: refused 3: "), "{}", done.err);
 }
 
 #[test]
@@ -175,16 +171,13 @@ fn an_input_that_is_refused_has_no_text() {
         let done = run(arguments, &input);
         assert_eq!(done.code, Some(1));
         assert!(done.out.is_empty());
-        let told = "wallet: refused 4 1: credential 1 has a field outside what its kind allows\n";
+        let told =
+            "wallet: refused 4 at 1: credential 1 has a field outside what its kind allows\n";
         assert_eq!(done.err, told);
         for input in [&input[..15], &input[..6], b""] {
             let done = run(arguments, input);
             assert_eq!(done.code, Some(1));
-            assert!(
-                done.err.starts_with("wallet: refused 1 0: "),
-                "{}",
-                done.err
-            );
+            assert!(done.err.starts_with("wallet: refused 1: "), "{}", done.err);
             assert!(done.out.is_empty());
         }
     }
@@ -261,9 +254,111 @@ fn wallets_without_a_query() {
     for command in ["encode", "list", "explain", "verify", "draw"] {
         let told = wrong(&[command, &name], b"");
         assert!(
-            told.ends_with(": the wallet has no query; write a line like `D in A.r within 2`\n")
+            told.ends_with(
+                ": the wallet has no query; write a line like `D in A.r within 2`, \
+                 or the same behind `--query`\n"
+            ),
+            "{told}"
         );
     }
+}
+
+/// The shop's credentials, without numbers and without a query.
+const UNASKED: &[u8] = b"Shop.discount <- Shop.accredited.student\nShop.accredited <- School\n\
+    School.student <- Ann\nShop.discount <- Ann\n";
+
+#[test]
+fn a_query_on_the_command_line() {
+    let own = run(&["encode", SHOP], b"").out;
+    let asked = |command, more: &[&str], input: &[u8]| {
+        let query = "Ann in Shop.discount within 1";
+        run(&[&[command, SHOP, "--query", query], more].concat(), input)
+    };
+    let input = asked("encode", &[], b"").out;
+    assert_eq!(input[..8], [4, 0, 1, 0, 1, 0, 1, 0]);
+    assert_eq!(input[8..], own[8..]);
+    let words = "1 minimal set proves Ann in Shop.discount within 1\n\nset 8\n   \
+        4  Shop.discount <- Ann  line 8\n  shows Ann in Shop.discount\n";
+    let listed = asked("list", &[], b"");
+    assert_eq!((listed.code, listed.text().as_str()), (Some(0), words));
+    let output = run_program(PROGRAM, &[], &input).out;
+    let explained = asked("explain", &[], &output);
+    assert_eq!(
+        (explained.code, explained.text().as_str()),
+        (Some(0), words)
+    );
+    // What is asked stands on no line of the wallet.
+    let refused = asked("explain", &[], b"refused 8 4\n").text();
+    assert_eq!(
+        refused,
+        "refused 8 at 4: the query's depth is out of range\n"
+    );
+    let judged = asked("verify", &["1", "2", "2", "0", "3", "0"], b"");
+    assert_eq!(judged.code, Some(1));
+    let last = "\nrefused 13 at 2: level 2 is deeper than the depth limit, 1\n";
+    assert!(judged.text().ends_with(last), "{}", judged.text());
+    let drawn = asked("draw", &["4 0"], b"");
+    assert_eq!(drawn.code, Some(0));
+    let title = "<title>Ann in Shop.discount within 1: accepted";
+    assert!(drawn.text().contains(title), "{}", drawn.text());
+}
+
+#[test]
+fn a_query_for_a_wallet_without_one() {
+    let asked = |query| run(&["encode", "-", "--query", query], UNASKED).out;
+    let one = asked("Ann in Shop.discount within 2");
+    assert_eq!(one[..8], [3, 0, 1, 0, 1, 0, 2, 0]);
+    let other = asked("School in Ann.student within 16");
+    assert_eq!(other[..8], [2, 0, 3, 0, 3, 0, 16, 0]);
+    // Names have their numbers from the wallet alone.
+    assert_eq!(one[8..], other[8..]);
+    let listed = run(
+        &["list", "-", "--query", "Ann in Shop.discount within 2"],
+        UNASKED,
+    );
+    assert_eq!(listed.code, Some(0));
+    let heading = "2 minimal sets prove Ann in Shop.discount within 2\n";
+    assert!(listed.text().starts_with(heading), "{}", listed.text());
+}
+
+#[test]
+fn queries_with_a_mistake() {
+    let name = file("unasked-shop.wallet", UNASKED);
+    for wallet in [SHOP, &name] {
+        for command in ["encode", "list", "explain", "verify", "draw"] {
+            let told = |query| wrong(&[command, wallet, "--query", query], b"8\nsets 1\n");
+            let unknown = told("Bob in Shop.discount within 2");
+            let words = "wallet: --query: column 1: `Bob` is not a principal of the wallet; ";
+            assert!(unknown.starts_with(words), "{unknown}");
+            let short = "wallet: --query: column 21: the query ends where `within` is expected; \
+                write a query like `D in A.r within 2`\n";
+            assert_eq!(told("Ann in Shop.discount"), short);
+            let empty = told("");
+            assert!(empty.starts_with("wallet: --query: column 1: "), "{empty}");
+        }
+    }
+    // A mistake of the wallet comes first.
+    let told = wrong(&["list", "-", "--query", "Bob"], b"A.r <-\n");
+    assert!(
+        told.starts_with("wallet: standard input: line 1, "),
+        "{told}"
+    );
+}
+
+#[cfg(unix)]
+#[test]
+fn a_query_that_is_not_utf_8() {
+    use std::os::unix::ffi::OsStrExt;
+    let query = std::ffi::OsStr::from_bytes(b"Ann in Caf\xe9.discount within 2");
+    let output = Command::new(env!("CARGO_BIN_EXE_wallet"))
+        .args(["list", SHOP, "--query"])
+        .arg(query)
+        .output()
+        .expect("the tool");
+    assert_eq!((output.status.code(), output.stdout.len()), (Some(2), 0));
+    let told = String::from_utf8_lossy(&output.stderr);
+    let words = "wallet: --query: column 11: the byte 0xE9 is not UTF-8; ";
+    assert!(told.starts_with(words), "{told}");
 }
 
 #[test]
@@ -300,7 +395,7 @@ fn files_that_cannot_be_read() {
 
 #[test]
 fn calls_that_are_wrong() {
-    let calls: [&[&str]; 12] = [
+    let calls: [&[&str]; 15] = [
         &[],
         &["lists", SHOP],
         &["list"],
@@ -313,6 +408,9 @@ fn calls_that_are_wrong() {
         &["decode", "--names", "-"],
         &["decode", "--names", SHOP, "--names", SHOP],
         &["list", SHOP, "-o"],
+        &["list", SHOP, "--query"],
+        &["list", SHOP, "--query", "", "--query", ""],
+        &["decode", "--query", "Ann in Shop.discount within 2"],
     ];
     for arguments in calls {
         let done = run(arguments, b"");
@@ -327,6 +425,9 @@ fn calls_that_are_wrong() {
     let help = run(&["--help"], b"");
     assert_eq!(help.code, Some(0));
     assert!(help.text().starts_with("usage: wallet encode WALLET"));
+    assert!(help
+        .text()
+        .contains("\n`--query \"D in A.r within 2\"` asks "));
 }
 
 #[test]

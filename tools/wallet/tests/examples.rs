@@ -100,16 +100,18 @@ fn pages_say_what_the_programs_print() {
 }
 
 #[test]
-fn every_story_runs_something_and_every_wallet_is_in_one() {
+fn every_page_runs_something_and_every_wallet_is_on_one() {
     let mut named = BTreeSet::new();
     for name in pages() {
         let commands = page::commands(&text(&name)).unwrap_or_else(|error| panic!("{error}"));
-        // The root's README is a page about more than the wallets.
-        let story = name.starts_with("examples/");
-        assert!(!story || !commands.is_empty(), "{name} has no command");
+        assert!(!commands.is_empty(), "{name} has no command");
         for command in &commands {
             let words = console::pipeline::words(&command.text);
-            named.extend(words.map(|word| word.trim_start_matches("examples/").to_string()));
+            let words = words.unwrap_or_else(|error| panic!("{name}: {error}"));
+            let words = words
+                .iter()
+                .map(|word| word.trim_start_matches("examples/"));
+            named.extend(words.map(str::to_string));
         }
     }
     for name in examples(".wallet") {
@@ -118,16 +120,18 @@ fn every_story_runs_something_and_every_wallet_is_in_one() {
 }
 
 #[test]
-fn every_picture_that_a_story_shows_is_stored() {
-    let stored = examples(".svg");
-    for name in examples(".md") {
-        let text = text(&format!("examples/{name}"));
-        for shown in text.split("![").skip(1) {
-            let picture = shown.split(['(', ')']).nth(1).unwrap_or_default();
-            let found = stored.iter().any(|name| name == picture);
-            assert!(found, "examples/{name} shows {picture}, which is not there");
+fn every_file_that_a_page_links_or_shows_is_there() {
+    let mut links = 0;
+    for name in pages() {
+        let page = root().join(&name);
+        for behind in text(&name).split("](").skip(1) {
+            let target = behind.split(')').next().unwrap_or_default();
+            let found = page.with_file_name(target).is_file();
+            assert!(found, "{name} links to {target}, which is not there");
+            links += 1;
         }
     }
+    assert!(links > 10, "{links}");
 }
 
 /// A page whose second command does not print what it says.
@@ -135,7 +139,7 @@ const PAGE: &str = "\
 Prose with a $ in it.
 
 ```console
-$ wallet list parking-ordinary.wallet > sets
+$ wallet list parking.wallet --query \"Bob in Lot.pk within 2\" > sets
 $ minimal_sets
 refused 9 9
 ```
@@ -180,6 +184,14 @@ fn what_is_no_page_or_no_command_is_told() {
     told("```console\n$ wallet; wallet\n```\n", "; is not read here");
     told("```console\n$ wallet <\n```\n", "no file behind <");
     told("```console\n$ wallet |\n```\n", "no program");
+    told("```console\n$ wallet a|b\n```\n", "| is not read here");
+    told("```console\n$ wallet \"a\n```\n", "a quote has no end");
+    told(
+        "```console\n$ wallet \"a\"b\n```\n",
+        "no space between b and",
+    );
+    told("```console\n$ wallet b\"a\"\n```\n", "no space between");
+    told("```console\n$ wallet \"$a\"\n```\n", "$ is not read here");
     told("```console\n$ wallet < nowhere\n```\n", "nowhere: ");
 }
 
@@ -191,4 +203,15 @@ fn a_difference_is_told_by_its_lines() {
     assert_eq!(difference(&lines("a"), &lines("a")), "      a\n");
     assert_eq!(difference(&lines("a"), &[]), "    - a\n");
     assert_eq!(first_other_line(b"a\nb\nc", b"a\nb\nx"), 3);
+}
+
+#[test]
+fn words_with_spaces_stand_between_quotes() {
+    let words = |command: &str| console::pipeline::words(command);
+    let expected = ["wallet", "list", "w", "--query", "A in B.r within 2"].map(str::to_string);
+    let quoted = "wallet list  w --query \"A in B.r within 2\"";
+    assert_eq!(words(quoted), Ok(expected.to_vec()));
+    let within = words("a \"| > b\" | c \"\" < d");
+    let expected = ["a", "| > b", "c", "", "d"].map(str::to_string);
+    assert_eq!(within, Ok(expected.to_vec()));
 }

@@ -7,6 +7,7 @@ use common::{assert_same, made_up, nameless};
 use reference::random::Random;
 use wallet::parse::parse;
 use wallet::print::print;
+use wallet::tokens::KEPT;
 
 /// Reads bytes as a text, and tells whether there was no mistake.
 fn read(bytes: &[u8]) -> bool {
@@ -62,22 +63,7 @@ fn random_bytes() {
 
 #[test]
 fn random_words_of_the_lines() {
-    let words = [
-        "not",
-        "any",
-        "in",
-        "within",
-        "under",
-        "principals",
-        "names",
-        "constraint",
-        "start",
-        "accept",
-        "edges",
-        "cell",
-        "at",
-        "then",
-        "of",
+    let others = [
         "A",
         "B",
         "r",
@@ -109,6 +95,7 @@ fn random_words_of_the_lines() {
         "constraint c\n",
         "at cell 1",
     ];
+    let words = [&KEPT[..], &others].concat();
     let mut random = Random::new(2);
     let mut right = 0;
     for _ in 0..20_000 {

@@ -12,9 +12,10 @@ use common::{made_up, nameless, query};
 use reference::generate::{crossed, wallets};
 use reference::random::Random;
 use wallet::answer::{listed, printed, Answer};
-use wallet::explain::explain;
+use wallet::explain::{explain, COLUMNS};
 use wallet::parse::parse;
 use wallet::print::print;
+use wallet::table::Body;
 use wallet::{program, Wallet};
 
 /// What the listing program prints.
@@ -73,26 +74,67 @@ fn assert_words(words: &str, wallet: &Wallet, answer: &Answer) {
             let place = wallet.lines.credentials[index];
             assert!(line.ends_with(&format!("  line {place}")), "{line}");
         }
-        let last = lines.next().expect("what it shows");
-        assert!(last.starts_with("  shows "), "{last}");
-        assert_eq!(lines.next(), None);
+        let rows: Vec<&str> = lines.collect();
+        assert_shown(&rows, wallet, *set);
+    }
+}
+
+/// The rows have the members that a set's credentials of kind 1 name, each
+/// once; they are not too long, and none could have the next one's first.
+fn assert_shown(rows: &[&str], wallet: &Wallet, set: u32) {
+    let mut shown: Vec<String> = Vec::new();
+    for (index, credential) in wallet.table.credentials.iter().enumerate() {
+        if let (Body::Member(member), true) = (credential.body, set & (1 << index) != 0) {
+            let goal = wallet.names.goal(member, credential.role);
+            if !shown.contains(&goal) {
+                shown.push(goal);
+            }
+        }
+    }
+    let (first, further) = ("  shows ", "        ");
+    let before = std::iter::once(first).chain(std::iter::repeat(further));
+    let bare: Vec<&str> = rows
+        .iter()
+        .zip(before)
+        .map(|(row, before)| row.strip_prefix(before).expect("what stands before a row"))
+        .collect();
+    assert_eq!(bare.join(" "), shown.join(", "), "{rows:?}");
+    for (row, next) in rows.iter().zip(&rows[1..]) {
+        let next = next.trim_start().split(", ").next().unwrap_or_default();
+        let next = next.trim_end_matches(',');
+        assert!(row.len() <= COLUMNS && row.ends_with(','), "{rows:?}");
+        assert!(row.len() + " ,".len() + next.len() > COLUMNS, "{rows:?}");
+    }
+    let last = rows.last().expect("what it shows");
+    assert!(last.len() <= COLUMNS, "{last}");
+}
+
+/// Names that are long enough for more than one row of what a set shows.
+fn give_long_names(wallet: &mut Wallet) {
+    for number in 1..=64 {
+        let (principal, role) = (format!("Principal-{number}"), format!("role-name-{number}"));
+        wallet.names.principals.insert(number, principal);
+        wallet.names.roles.insert(number, role);
     }
 }
 
 #[test]
 fn wallets_with_lists() {
     let mut random = Random::new(2020);
-    let mut several = 0;
+    let (mut several, mut wrapped) = (0, 0);
     for round in 0..200 {
         let grown = match round % 2 {
             0 => wallets::made_up(&mut random),
             _ => crossed::made_up(&mut random),
         };
-        let wallet = nameless(&grown.records.numbers(), Some(query(grown.query)));
+        let mut wallet = nameless(&grown.records.numbers(), Some(query(grown.query)));
+        give_long_names(&mut wallet);
         let answer = compare(&wallet);
+        let words = explain(&wallet, wallet.query.expect("a query"), &answer);
+        wrapped += usize::from(words.contains(",\n"));
         several += usize::from(matches!(answer, Answer::Sets(sets) if sets.len() > 1));
     }
-    assert!(several > 30, "{several}");
+    assert!(several > 30 && wrapped > 30, "{several} {wrapped}");
 }
 
 #[test]

@@ -69,10 +69,7 @@ fn linked(
             "a linked role has an owner and two names",
             "write another credential for the first step, and link to its role",
         )),
-        Some(Sign::And) => Err(reader.place().mistake(
-            "a linked role is no part of an intersection",
-            "write another credential for it, and its role here",
-        )),
+        Some(Sign::And) => Err(linked_part(reader)),
         _ if first.owner.text != defined.owner.text => {
             let own = &defined.owner.text;
             let (name, second) = (&first.name.text, &second.text);
@@ -115,12 +112,17 @@ fn parts(reader: &mut Reader, first: RoleWords) -> Result<BodyWords, Mistake> {
 fn part(reader: &mut Reader) -> Result<RoleWords, Mistake> {
     let role = role(reader)?;
     if reader.next() == Some(&Sign::Dot) {
-        return Err(reader.place().mistake(
-            "a linked role is no part of an intersection",
-            "write another credential for it, and its role here",
-        ));
+        return Err(linked_part(reader));
     }
     Ok(role)
+}
+
+/// The mistake that a linked role stands beside `&`.
+fn linked_part(reader: &Reader) -> Mistake {
+    reader.place().mistake(
+        "a linked role is no part of an intersection",
+        "write another credential for it, and its role here",
+    )
 }
 
 /// `at cell 1`, if it is there.

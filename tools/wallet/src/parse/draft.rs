@@ -9,7 +9,7 @@ use crate::mistake::{quoted, Mistake, Place};
 use crate::parse::constraints::{Constraints, Which};
 use crate::parse::numbering::{Sort, Vocabulary};
 use crate::parse::reader::{Number, Word};
-use crate::parse::statement::{BodyWords, LabelWords, RoleWords, Statement};
+use crate::parse::statement::{BodyWords, LabelWords, QueryWords, RoleWords, Statement};
 use crate::table::{Body, Label, Role};
 
 /// What has been read so far.
@@ -81,9 +81,7 @@ impl Draft {
                 let label = self.label(label)?;
                 self.constraints.edge(from, label, to, place)
             }
-            Statement::Query(principal, role, depth) => {
-                self.set_query(principal, role, *depth, place)
-            }
+            Statement::Query(words) => self.set_query(words, place),
             Statement::Principals(all) => self.give(Sort::Principal, all),
             Statement::Names(all) => self.give(Sort::Name, all),
             Statement::Cell(number, role, next) => self.add_cell(*number, role, *next, place),
@@ -168,26 +166,20 @@ impl Draft {
         Ok(())
     }
 
-    fn set_query(
-        &mut self,
-        principal: &Word,
-        role: &RoleWords,
-        depth: Number,
-        place: Place,
-    ) -> Result<(), Mistake> {
+    fn set_query(&mut self, words: &QueryWords, place: Place) -> Result<(), Mistake> {
         if let Some((_, line)) = self.query {
             return Err(place.mistake(
                 format_args!("a query stands on line {line} already"),
                 "leave one of them out",
             ));
         }
-        let principal = self.words.rank(Sort::Principal, principal)?;
-        let Role { owner, name } = self.words.role(role)?;
+        let principal = self.words.rank(Sort::Principal, &words.principal)?;
+        let Role { owner, name } = self.words.role(&words.role)?;
         let query = Query {
             principal,
             owner,
             name,
-            depth: depth.value,
+            depth: words.depth.value,
         };
         self.query = Some((query, place.line));
         Ok(())

@@ -1,6 +1,8 @@
 //! The end of a text: part cells are put in order, and every rank becomes a
 //! number.
 
+use bwlchareg::Query;
+
 use crate::mistake::{quoted, Mistake};
 use crate::names::Names;
 use crate::parse::draft::{BodyDraft, CellDraft, Draft};
@@ -126,57 +128,84 @@ fn check_chain(draft: &Draft, roles: &[Role], cell: Number) -> Result<(), Mistak
 
 /// The wallet, with numbers in the place of ranks.
 fn numbered(draft: &Draft, mut table: Table, lines: Lines) -> Wallet {
-    let principals = draft.words.numbers(Sort::Principal);
-    let names = draft.words.numbers(Sort::Name);
-    let principal = |rank: u16| principals[usize::from(rank)];
-    let name = |rank: u16| names[usize::from(rank)];
-    let role = |role: Role| Role {
-        owner: principal(role.owner),
-        name: name(role.name),
+    let numbers = Numbers {
+        principals: draft.words.numbers(Sort::Principal),
+        names: draft.words.numbers(Sort::Name),
     };
     for credential in &mut table.credentials {
-        credential.role = role(credential.role);
-        credential.body = match credential.body {
-            Body::Member(member) => Body::Member(principal(member)),
-            Body::Contained(contained) => Body::Contained(role(contained)),
-            Body::Linked { first, second } => Body::Linked {
-                first: name(first),
-                second: name(second),
-            },
-            Body::Parts(cell) => Body::Parts(cell),
-        };
+        credential.role = numbers.role(credential.role);
+        credential.body = numbers.body(credential.body);
     }
     for cell in &mut table.cells {
-        cell.role = role(cell.role);
+        cell.role = numbers.role(cell.role);
     }
     for edge in &mut table.edges {
-        *edge = numbered_edge(*edge, &draft.constraints.states(edge.automaton), role);
+        *edge = numbers.edge(*edge, &draft.constraints.states(edge.automaton));
     }
-    let query = draft.query.map(|(query, _)| bwlchareg::Query {
-        principal: principal(query.principal),
-        owner: principal(query.owner),
-        name: name(query.name),
-        ..query
-    });
     Wallet {
         table,
-        query,
+        query: draft.query.map(|(query, _)| numbers.query(query)),
         names: said(draft),
         lines,
     }
 }
 
-/// An edge, with numbers in the place of ranks.
-fn numbered_edge(edge: Edge, states: &[u16], role: impl Fn(Role) -> Role) -> Edge {
-    Edge {
-        from: states[usize::from(edge.from)],
-        label: match edge.label {
-            Label::Only(own) => Label::Only(role(own)),
-            Label::Any => Label::Any,
-            Label::Not(own) => Label::Not(role(own)),
-        },
-        to: states[usize::from(edge.to)],
-        ..edge
+/// The numbers of principals and role names, in the order of their ranks.
+struct Numbers {
+    principals: Vec<u16>,
+    names: Vec<u16>,
+}
+
+impl Numbers {
+    fn principal(&self, rank: u16) -> u16 {
+        self.principals[usize::from(rank)]
+    }
+
+    fn name(&self, rank: u16) -> u16 {
+        self.names[usize::from(rank)]
+    }
+
+    fn role(&self, role: Role) -> Role {
+        Role {
+            owner: self.principal(role.owner),
+            name: self.name(role.name),
+        }
+    }
+
+    fn body(&self, body: Body) -> Body {
+        match body {
+            Body::Member(member) => Body::Member(self.principal(member)),
+            Body::Contained(role) => Body::Contained(self.role(role)),
+            Body::Linked { first, second } => Body::Linked {
+                first: self.name(first),
+                second: self.name(second),
+            },
+            Body::Parts(cell) => Body::Parts(cell),
+        }
+    }
+
+    /// An edge of an automaton whose states have these numbers.
+    fn edge(&self, edge: Edge, states: &[u16]) -> Edge {
+        Edge {
+            from: states[usize::from(edge.from)],
+            label: match edge.label {
+                Label::Only(role) => Label::Only(self.role(role)),
+                Label::Any => Label::Any,
+                Label::Not(role) => Label::Not(self.role(role)),
+            },
+            to: states[usize::from(edge.to)],
+            ..edge
+        }
+    }
+
+    fn query(&self, query: Query) -> Query {
+        let Role { owner, name } = self.role(Role::asked(query));
+        Query {
+            principal: self.principal(query.principal),
+            owner,
+            name,
+            ..query
+        }
     }
 }
 

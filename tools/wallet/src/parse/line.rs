@@ -5,13 +5,13 @@ use crate::limits::{CELLS, DEPTH, NAMES, STATES};
 use crate::mistake::{quoted, Mistake, Place};
 use crate::parse::credential;
 use crate::parse::reader::{kept, Number, Reader, Word};
-use crate::parse::statement::{LabelWords, RoleWords, StateWord, Statement};
+use crate::parse::statement::{LabelWords, QueryWords, RoleWords, StateWord, Statement};
 use crate::tokens::{Sign, Token};
 
 /// What each kind of line looks like.
 const CREDENTIAL: &str = "`A.r <- D`, `A.r <- B.s`, `A.r <- A.s.t` or `A.r <- B.s & C.t`";
 const EDGE: &str = "`0 -- A.r --> 1`, `0 -- not A.r --> 1` or `0 -- any --> 1`";
-const QUERY: &str = "`D in A.r within 2`";
+pub const QUERY: &str = "`D in A.r within 2`";
 
 /// Reads a line that has at least one token.
 pub fn statement(line: usize, tokens: &[Token]) -> Result<Statement, Mistake> {
@@ -30,7 +30,7 @@ pub fn statement(line: usize, tokens: &[Token]) -> Result<Statement, Mistake> {
         "edges" => edges_of(reader("`edges of c`")),
         _ if has(&Sign::Arrow) => credential::read(reader(CREDENTIAL)),
         _ if has(&Sign::Dashes) || has(&Sign::Onward) => edge(reader(EDGE)),
-        _ if has_word("in") || has_word("within") => query(reader(QUERY)),
+        _ if has_word("in") || has_word("within") => query(reader(QUERY)).map(Statement::Query),
         _ => Err(unknown(line, tokens)),
     }
 }
@@ -154,14 +154,18 @@ fn edge(mut reader: Reader) -> Result<Statement, Mistake> {
 }
 
 /// `D in A.r within 2`
-fn query(mut reader: Reader) -> Result<Statement, Mistake> {
+pub fn query(mut reader: Reader) -> Result<QueryWords, Mistake> {
     let principal = reader.name("a principal")?;
     reader.kept("in")?;
     let role = role(&mut reader)?;
     reader.kept("within")?;
     let depth = reader.number("a depth", 1..=DEPTH)?;
     reader.end()?;
-    Ok(Statement::Query(principal, role, depth))
+    Ok(QueryWords {
+        principal,
+        role,
+        depth,
+    })
 }
 
 /// `cell 1 = B.s then 2`

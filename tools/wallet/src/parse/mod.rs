@@ -2,7 +2,8 @@
 //!
 //! Each line is read by itself first (`line`, `credential`), then added to what
 //! the lines above say (`draft`, `constraints`, `states`, `numbering`). What may
-//! stand further below, and the numbers, are found at the end (`finish`).
+//! stand further below, and the numbers, are found at the end (`finish`). A
+//! query may also be given apart from the text (`query`).
 
 mod constraints;
 mod credential;
@@ -10,6 +11,7 @@ mod draft;
 mod finish;
 mod line;
 mod numbering;
+mod query;
 mod reader;
 mod statement;
 mod states;
@@ -17,6 +19,8 @@ mod states;
 use crate::mistake::{Mistake, Place};
 use crate::tokens::tokens;
 use crate::Wallet;
+
+pub use query::query;
 
 /// Reads a wallet's text, or tells its first mistake.
 pub fn parse(text: &[u8]) -> Result<Wallet, Mistake> {
@@ -43,7 +47,7 @@ fn decoded(line: usize, bytes: &[u8]) -> Result<&str, Mistake> {
         let byte = wrong.first().copied().unwrap_or_default();
         Place { line, column }.mistake(
             format_args!("the byte {byte:#04X} is not UTF-8"),
-            "save the text as UTF-8",
+            "write the text as UTF-8",
         )
     })
 }

@@ -19,17 +19,27 @@ pub enum Sort {
 }
 
 impl Sort {
-    fn one(self) -> &'static str {
+    /// One such word, in words.
+    pub fn one(self) -> &'static str {
         match self {
             Sort::Principal => "a principal",
             Sort::Name => "a role name",
         }
     }
 
-    fn many(self) -> &'static str {
+    /// Several such words, in words.
+    pub fn many(self) -> &'static str {
         match self {
             Sort::Principal => "principals",
             Sort::Name => "role names",
+        }
+    }
+
+    /// What a word is that is not this.
+    pub fn other(self) -> Sort {
+        match self {
+            Sort::Principal => Sort::Name,
+            Sort::Name => Sort::Principal,
         }
     }
 }

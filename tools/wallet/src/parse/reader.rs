@@ -29,7 +29,9 @@ pub struct Reader<'a> {
     /// The column behind the last token that has been read.
     behind: usize,
     rest: &'a [Token],
-    /// What lines of this kind look like, for messages.
+    /// What is read, for messages: a line, or a query by itself.
+    whole: &'static str,
+    /// What such lines or queries look like, for messages.
     shape: &'static str,
 }
 
@@ -40,7 +42,17 @@ impl<'a> Reader<'a> {
             line,
             behind: 1,
             rest: tokens,
+            whole: "line",
             shape,
+        }
+    }
+
+    /// At the beginning of a query that stands by itself, not on a line of a
+    /// text.
+    pub fn of_query(tokens: &'a [Token], shape: &'static str) -> Reader<'a> {
+        Reader {
+            whole: "query",
+            ..Reader::new(1, tokens, shape)
         }
     }
 
@@ -137,7 +149,7 @@ impl<'a> Reader<'a> {
         match self.next() {
             None => Ok(()),
             Some(sign) => Err(self.place().mistake(
-                format_args!("{} is too much on this line", quoted(sign.text())),
+                format_args!("{} is too much in this {}", quoted(sign.text()), self.whole),
                 self.instead(),
             )),
         }
@@ -148,7 +160,7 @@ impl<'a> Reader<'a> {
         let place = self.place();
         match self.next() {
             None => place.mistake(
-                format_args!("the line ends where {what} is expected"),
+                format_args!("the {} ends where {what} is expected", self.whole),
                 self.instead(),
             ),
             Some(sign) => place.mistake(
@@ -158,9 +170,9 @@ impl<'a> Reader<'a> {
         }
     }
 
-    /// What to write instead: a line of this shape.
+    /// What to write instead: something of this shape.
     fn instead(&self) -> String {
-        format!("write a line like {}", self.shape)
+        format!("write a {} like {}", self.whole, self.shape)
     }
 }
 

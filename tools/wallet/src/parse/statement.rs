@@ -44,6 +44,17 @@ pub enum LabelWords {
     Not(RoleWords),
 }
 
+/// A query in words.
+#[derive(Clone, Debug, PartialEq, Eq)]
+pub struct QueryWords {
+    /// The principal.
+    pub principal: Word,
+    /// The role.
+    pub role: RoleWords,
+    /// The depth limit.
+    pub depth: Number,
+}
+
 /// What a line says.
 #[derive(Clone, Debug, PartialEq, Eq)]
 pub enum Statement {
@@ -58,7 +69,7 @@ pub enum Statement {
     /// `0 -- A.r --> 1`
     Edge(StateWord, LabelWords, StateWord),
     /// `D in A.r within 2`
-    Query(Word, RoleWords, Number),
+    Query(QueryWords),
     /// `principals A = 1, B = 2`
     Principals(Vec<(Word, Number)>),
     /// `names r = 1, s = 2`

@@ -7,8 +7,9 @@ use std::collections::{BTreeMap, BTreeSet};
 use crate::limits::STATES;
 use crate::names::Names;
 use crate::print::naming::kept;
-use crate::print::states::{members, written};
+use crate::print::states::written;
 use crate::table::{Edge, Table};
+use crate::words;
 
 /// The blocks of lines about constraints, in order. The names of states that
 /// cannot be kept are left out of the names.
@@ -68,7 +69,7 @@ fn state_words(names: &Names, automaton: u16) -> BTreeMap<u16, String> {
 
 /// The line of a set of states; an empty set has none.
 fn set(word: &str, states: u16, names: &Names, automaton: u16) -> Option<String> {
-    let states = members(states).map(|state| format!(" {}", names.state(automaton, state)));
+    let states = words::states(states).map(|state| format!(" {}", names.state(automaton, state)));
     let states: String = states.collect();
     (!states.is_empty()).then(|| format!("  {word}{states}"))
 }

@@ -8,10 +8,9 @@ mod states;
 
 use std::collections::BTreeMap;
 
-use bwlchareg::Query;
-
 use crate::names::Names;
-use crate::table::{Body, Cell, Credential, Role, Table};
+use crate::rows::rows;
+use crate::table::{Body, Cell, Credential, Table};
 use crate::Wallet;
 
 /// The columns that a line of numbers has at most, where words allow it.
@@ -39,7 +38,7 @@ pub fn print(wallet: &Wallet) -> String {
     );
     sections.extend(constraints::blocks(table, &mut names));
     let query = wallet.query.iter();
-    sections.push(query.map(|query| asked(&names, *query)).collect());
+    sections.push(query.map(|query| names.query(*query)).collect());
 
     sections.retain(|lines| !lines.is_empty());
     let sections = sections.iter().map(|lines| lines.join("\n") + "\n");
@@ -53,26 +52,13 @@ fn numbers(names: &Names) -> Vec<String> {
     lines
 }
 
-/// Lines that begin with a word and give names their numbers, none of them too
-/// long if it has more than one name.
+/// Lines that begin with a word and give names their numbers.
 fn wrapped(word: &str, names: &BTreeMap<u16, String>) -> Vec<String> {
-    let mut lines: Vec<String> = Vec::new();
-    for (number, name) in names {
-        let item = format!("{name} = {number}");
-        match lines.last_mut() {
-            Some(line) if width(line) + ", ".len() + width(&item) <= COLUMNS => {
-                line.push_str(", ");
-                line.push_str(&item);
-            }
-            _ => lines.push(format!("{word} {item}")),
-        }
-    }
-    lines
-}
-
-/// How many characters a text has.
-fn width(text: &str) -> usize {
-    text.chars().count()
+    let items = names
+        .iter()
+        .map(|(number, name)| format!("{name} = {number}"));
+    let rows = rows(items, COLUMNS - word.len() - 1).into_iter();
+    rows.map(|row| format!("{word} {row}")).collect()
 }
 
 /// `cell 1 = B.s then 2`
@@ -97,11 +83,4 @@ fn credential(table: &Table, names: &Names, credential: &Credential, given: usiz
         line += &format!(" under {}", names.constraint(credential.automaton));
     }
     line
-}
-
-/// `D in A.r within 2`
-fn asked(names: &Names, query: Query) -> String {
-    let (owner, name) = (query.owner, query.name);
-    let goal = names.goal(query.principal, Role { owner, name });
-    format!("{goal} within {}", query.depth)
 }

@@ -85,8 +85,7 @@ impl Used {
         used.add_table(&wallet.table);
         if let Some(query) = wallet.query {
             used.principals.insert(query.principal);
-            let (owner, name) = (query.owner, query.name);
-            used.add(Role { owner, name });
+            used.add(Role::asked(query));
         }
         used
     }

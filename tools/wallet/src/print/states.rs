@@ -5,6 +5,7 @@ use std::collections::BTreeMap;
 
 use crate::limits::STATES;
 use crate::table::Table;
+use crate::words::states;
 
 /// How the states of a constraint are written.
 pub struct Written {
@@ -51,17 +52,12 @@ fn standing(table: &Table, automaton: u16, accept_first: bool) -> Vec<u16> {
         .filter(|edge| edge.automaton == automaton);
     let ends = own.flat_map(|edge| [edge.from, edge.to]);
     let mut all = Vec::new();
-    for state in members(first).chain(members(second)).chain(ends) {
+    for state in states(first).chain(states(second)).chain(ends) {
         if !all.contains(&state) {
             all.push(state);
         }
     }
     all
-}
-
-/// The states of a set, ascending.
-pub fn members(set: u16) -> impl Iterator<Item = u16> {
-    (0..STATES).filter(move |state| set & (1 << state) != 0)
 }
 
 /// The first state whose word would get another number: words get the least

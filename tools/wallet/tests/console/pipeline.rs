@@ -1,14 +1,25 @@
 //! Runs a command of a page without a shell: programs and their words, joined
-//! by `|`, with `<` and `>` for files. It knows the programs that the pages
-//! are about, and no others.
+//! by `|`, with `<` and `>` for files. Words with spaces stand between double
+//! quotes. It knows the programs that the pages are about, and no others.
 
 use std::fs;
 use std::io::Write;
 use std::path::{Path, PathBuf};
 use std::process::{Command, Output, Stdio};
 
-/// Signs that a shell would read in its own way. No command needs them.
-const SIGNS_OF_A_SHELL: &str = "\"'\\`$&;*?()[]{}~#!";
+/// Signs that a shell would read in its own way within a word, and those that
+/// it would read so even between double quotes. No command needs them.
+const SIGNS_OF_A_SHELL: &str = "'\\`$&;*?()[]{}~#!|<>";
+const SIGNS_IN_QUOTES: &str = "\\`$!";
+
+/// A piece of a command.
+#[derive(Debug, PartialEq, Eq)]
+enum Piece {
+    /// A word, as the program gets it.
+    Word(String),
+    /// `|`, `<` or `>`, which stands by itself.
+    Sign(char),
+}
 
 /// One program of a pipeline.
 #[derive(Debug, Default, PartialEq, Eq)]
@@ -21,11 +32,14 @@ struct Stage {
     output: Option<String>,
 }
 
-/// The words of a command that name something: all but `|`, `<` and `>`.
-pub fn words(command: &str) -> impl Iterator<Item = &str> {
-    command
-        .split_whitespace()
-        .filter(|word| !["|", "<", ">"].contains(word))
+/// The words of a command: all but `|`, `<` and `>`.
+pub fn words(command: &str) -> Result<Vec<String>, String> {
+    let pieces = pieces(command)?.into_iter();
+    let words = pieces.filter_map(|piece| match piece {
+        Piece::Word(word) => Some(word),
+        Piece::Sign(_) => None,
+    });
+    Ok(words.collect())
 }
 
 /// What a command prints in a folder: the lines of its standard output, those
@@ -57,32 +71,71 @@ pub fn run(command: &str, folder: &Path) -> Result<Vec<String>, String> {
     Ok(lines)
 }
 
+/// The pieces of a command, in order.
+fn pieces(command: &str) -> Result<Vec<Piece>, String> {
+    let parts: Vec<&str> = command.split('"').collect();
+    let last = parts.len() - 1;
+    if last % 2 == 1 {
+        return Err("a quote has no end".to_string());
+    }
+    let mut pieces = Vec::new();
+    for (index, part) in parts.into_iter().enumerate() {
+        // Every other part stands between quotes.
+        if index % 2 == 1 {
+            pieces.push(Piece::Word(without(part, SIGNS_IN_QUOTES)?));
+            continue;
+        }
+        let before = index == 0 || part.is_empty() || part.starts_with(' ');
+        let behind = index == last || part.ends_with(' ');
+        if !before || !behind {
+            return Err(format!("no space between {part} and a quote"));
+        }
+        for word in part.split_whitespace() {
+            pieces.push(match word {
+                "|" => Piece::Sign('|'),
+                "<" => Piece::Sign('<'),
+                ">" => Piece::Sign('>'),
+                _ => Piece::Word(without(word, SIGNS_OF_A_SHELL)?),
+            });
+        }
+    }
+    Ok(pieces)
+}
+
+/// A word that has none of these signs.
+fn without(word: &str, signs: &str) -> Result<String, String> {
+    match word.chars().find(|sign| signs.contains(*sign)) {
+        Some(sign) => Err(format!("{sign} is not read here")),
+        None => Ok(word.to_string()),
+    }
+}
+
 /// The programs of a command, in order.
 fn stages(command: &str) -> Result<Vec<Stage>, String> {
-    if let Some(sign) = command
-        .chars()
-        .find(|sign| SIGNS_OF_A_SHELL.contains(*sign))
-    {
-        return Err(format!("{sign} is not read here"));
-    }
-    command.split('|').map(stage).collect()
+    let pieces = pieces(command)?;
+    pieces
+        .split(|piece| *piece == Piece::Sign('|'))
+        .map(stage)
+        .collect()
 }
 
 /// One program: its words, and the files behind `<` and `>`.
-fn stage(text: &str) -> Result<Stage, String> {
+fn stage(pieces: &[Piece]) -> Result<Stage, String> {
     let mut stage = Stage::default();
-    let mut words = text.split_whitespace();
-    while let Some(word) = words.next() {
-        let place = match word {
-            "<" => &mut stage.input,
-            ">" => &mut stage.output,
-            _ => {
-                stage.words.push(word.to_string());
+    let mut pieces = pieces.iter();
+    while let Some(piece) = pieces.next() {
+        let (sign, place) = match piece {
+            Piece::Word(word) => {
+                stage.words.push(word.clone());
                 continue;
             }
+            Piece::Sign('<') => ('<', &mut stage.input),
+            Piece::Sign(sign) => (*sign, &mut stage.output),
         };
-        let file = words.next().ok_or(format!("no file behind {word}"))?;
-        *place = Some(file.to_string());
+        match pieces.next() {
+            Some(Piece::Word(file)) => *place = Some(file.clone()),
+            _ => return Err(format!("no file behind {sign}")),
+        }
     }
     Ok(stage)
 }

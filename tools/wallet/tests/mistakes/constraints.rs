@@ -26,7 +26,7 @@ fn constraints_and_their_lines() {
             "constraint c d",
             &at(
                 14,
-                "`d` is too much on this line",
+                "`d` is too much in this line",
                 "write a line like `constraint c`",
             ),
         ),
@@ -128,7 +128,7 @@ fn edges() {
     assert_eq!(in_constraint("0 --> 1"), stands(3, "-->", "`--`"));
     assert_eq!(in_constraint("0 1 -- any --> 1"), stands(3, "1", "`--`"));
     assert_eq!(in_constraint("-- any --> 1"), stands(1, "--", "a state"));
-    let much = format!("line 2, column 16: `2` is too much on this line; {EDGE}");
+    let much = format!("line 2, column 16: `2` is too much in this line; {EDGE}");
     assert_eq!(in_constraint("0 -- any --> 1 2"), much);
     let range = "line 2, column 1: `16` is out of range for a state; write a number from 0 to 15";
     assert_eq!(in_constraint("16 -- any --> 1"), range);

@@ -6,7 +6,7 @@ use crate::{assert_told, at, told, CELL, CREDENTIAL};
 fn credentials_that_are_incomplete() {
     let expected = |what: &str| format!("the line ends where {what} is expected");
     let stands = |sign: &str, what: &str| format!("`{sign}` stands where {what} is expected");
-    let too_much = |sign: &str| format!("`{sign}` is too much on this line");
+    let too_much = |sign: &str| format!("`{sign}` is too much in this line");
     let owner = "a role's owner";
     let member = "a principal or a role's owner";
     assert_told(&[
@@ -106,7 +106,7 @@ fn part_cells() {
         ("cell 1 = B.s then", &at(18, &expected("a part cell"), CELL)),
         (
             "cell 1 = B.s 2",
-            &at(14, "`2` is too much on this line", CELL),
+            &at(14, "`2` is too much in this line", CELL),
         ),
         (
             "cell 0 = B.s",

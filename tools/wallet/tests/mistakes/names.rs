@@ -39,7 +39,7 @@ fn queries() {
         ),
         (
             "A in B.r within 2 levels",
-            &at(19, "`levels` is too much on this line", QUERY),
+            &at(19, "`levels` is too much in this line", QUERY),
         ),
         (
             "A in B.r within 2\n\n C in B.r within 2",
@@ -66,7 +66,7 @@ fn numbers_of_principals_and_names() {
         ),
         (
             "principals A = 1 B = 2",
-            &at(18, "`B` is too much on this line", PRINCIPALS),
+            &at(18, "`B` is too much in this line", PRINCIPALS),
         ),
         (
             "principals 1 = A",

@@ -47,7 +47,7 @@ fn signs_that_no_text_has() {
 #[test]
 fn bytes_that_are_not_utf_8() {
     let told = |text: &[u8]| parse(text).expect_err("a mistake").to_string();
-    let instead = "save the text as UTF-8";
+    let instead = "write the text as UTF-8";
     let wrong = "the byte 0xE9 is not UTF-8";
     assert_eq!(told(b"A.r <- Ren\xe9"), at(11, wrong, instead));
     let second = format!("line 2, column 4: {wrong}; {instead}");
@@ -174,7 +174,7 @@ fn long_words_are_told_shortly() {
         told(&format!("A.r <- B {long}")),
         at(
             10,
-            &format!("`{shown}...` is too much on this line"),
+            &format!("`{shown}...` is too much in this line"),
             CREDENTIAL
         )
     );
