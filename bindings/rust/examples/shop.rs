@@ -44,7 +44,7 @@ fn tell<Value: Debug>(what: &str, answer: Result<Value, Refusal>) {
     match answer {
         Ok(value) => println!("{what}: accepted {value:?}"),
         Err(refusal) => println!(
-            "{what}: refused {} {}: {refusal}",
+            "{what}: refused {} at {}: {refusal}",
             refusal.number, refusal.position
         ),
     }
