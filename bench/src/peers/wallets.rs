@@ -1,8 +1,7 @@
 //! The wallets on which the ways of listing are compared: grown ones of a given
 //! number of credentials, with constraints.
 
-use reference::generate::constraints;
-use reference::generate::wallets::{planned, Place, Plan};
+use reference::generate::wallets;
 use reference::random::Random;
 
 use crate::listing::Listing;
@@ -27,14 +26,7 @@ pub fn of_size(size: u16) -> Vec<Listing> {
 /// on the query, and at least one has an automaton.
 fn constrained(random: &mut Random, size: u16) -> Listing {
     loop {
-        let bearing = random.between(size.div_ceil(3), size);
-        let plan = Plan {
-            bearing,
-            others: size - bearing,
-            place: Place::Anywhere,
-        };
-        let mut wallet = planned(random, plan);
-        constraints::attach(random, &mut wallet.records);
+        let wallet = wallets::of_size(random, size);
         let mut credentials = wallet.records.credentials.iter();
         if credentials.any(|credential| credential[5] != 0) {
             return Listing::of(&wallet);

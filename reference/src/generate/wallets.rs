@@ -55,6 +55,12 @@ pub fn made_up(random: &mut Random) -> Wallet {
     } else {
         random.between(1, limit)
     };
+    of_size(random, size)
+}
+
+/// A wallet of so many credentials, a third to all of which bear on the query,
+/// often with automata.
+pub fn of_size(random: &mut Random, size: u16) -> Wallet {
     let bearing = random.between(size.div_ceil(3), size);
     let plan = Plan {
         bearing,
