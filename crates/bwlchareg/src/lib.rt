@@ -11,10 +11,10 @@ use table::TableCheck;
 ghost use mathlib.Core.Path.{_≡_};
 ghost use lib.ListN.{length};
 ghost use Rattle.table.specs.Outcome.{Outcome};
-ghost use Rattle.table.specs.Checks.{tableOutcome, requestOutcome, told};
+ghost use Rattle.table.specs.Checks.{asQuery, requestOutcome, tableOutcome, told};
 ghost use Rattle.derivation.specs.Verdict.{verdict};
 ghost use Rattle.listing.specs.Minimal.{bufferAfter, listing};
-ghost use Rattle.bwlchareg.specs.Answer.{answered, asQuery};
+ghost use Rattle.bwlchareg.specs.Answer.{answered};
 
 // Rows 1 to 7: whether the table is accepted.
 #[no_mangle]

@@ -5,8 +5,8 @@ use Prim.Native.Nat.{ℕ}
 use Rattle.table.specs.Logic.{_and_, _or_, pick}
 use Rattle.table.specs.Outcome.{Outcome, _andThen_, demand, demandEach}
 use Rattle.table.specs.Outcome.Outcome.{accepted, refused}
-use Rattle.table.specs.Layout.{automaton, cell, cellsFrom, credential, edge, name, parts, principal, sameRole}
-use Rattle.table.specs.Checks.{cellOk, cellsOutcome, chainOk, chainsOutcome, countsOk, credentialOk, credentialsOutcome, edgeOk}
+use Rattle.table.specs.Layout.{automaton, cell, cellsFrom, credential, edge, parts, sameRole}
+use Rattle.table.specs.Checks.{asQuery, cellOk, cellsOutcome, chainOk, chainsOutcome, countsOk, credentialOk, credentialsOutcome, edgeOk}
 use Rattle.table.specs.Checks.{edgesOutcome, goodCell, goodChain, goodCredential, goodEdge, headOutcome, isName, isPrincipal}
 use Rattle.table.specs.Checks.{isRole, labelOk, meaningOk, queryOutcome, requestOutcome, tableOutcome, within}
 use Rattle.table.specs.declared.Query.{Query}
@@ -24,9 +24,6 @@ pub record Row : Type 0 where
   pub rec : List ℕ
   pub outcome : Outcome
 
-unfoldable pub query : ℕ → ℕ → ℕ → ℕ → Query
-query p o n d = record { principal = principal p; owner = principal o; name = name n; depth = d }
-
 -- principals Shop 1, School 2, Ann 4; names discount 1, student 2, accredited 3
 unfoldable pub membersT : List ℕ
 membersT = 1 ∷ 1 ∷ 3 ∷ 3 ∷ 2 ∷ 0 ∷ 1 ∷ 3 ∷ 1 ∷ 2 ∷ 0 ∷ 0 ∷ []
@@ -41,7 +38,7 @@ tableU =
     ∷ (membersT ++ (2 ∷ 2 ∷ 1 ∷ 4 ∷ 0 ∷ 1 ∷ 1 ∷ 1 ∷ 1 ∷ 4 ∷ 0 ∷ 0 ∷ 1 ∷ 2 ∷ 1 ∷ 0 ∷ 3 ∷ 1 ∷ 1 ∷ 1 ∷ 1 ∷ 1 ∷ 2 ∷ 0 ∷ 0 ∷ 1 ∷ []))
 
 row : List ℕ → ℕ → List ℕ → Outcome → Row
-row t depth rec outcome = record { table = t; query = query 4 1 1 depth; rec = rec; outcome = outcome }
+row t depth rec outcome = record { table = t; query = asQuery 4 1 1 depth; rec = rec; outcome = outcome }
 
 pub recordRows : List Row
 recordRows =
@@ -58,7 +55,7 @@ Holds [] = Unit {0}
 Holds (r ∷ rows) = (verdict (r .table) (r .query) (r .rec) ≡ r .outcome) × Holds rows
 
 pub record-rows : Holds recordRows
-unfolding Holds recordRows row query tableT tableU membersT verdict judged reader readAll entered followed joined entry admitted
+unfolding Holds recordRows row tableT tableU membersT verdict judged reader readAll entered followed joined entry admitted
     words usesAutomaton acceptsAll met countFrom usedFrom usedSet premises asks fresh accepts acceptsFrom leads matches moved
     movedBy run starting inSet meets requestOutcome tableOutcome queryOutcome headOutcome credentialsOutcome cellsOutcome
     chainsOutcome edgesOutcome goodCredential goodCell goodChain goodEdge countsOk credentialOk cellOk chainOk edgeOk labelOk

@@ -7,8 +7,8 @@ use mathlib.Core.Bool.{true, false}
 use native.Mathlib.Omega.{arith}
 use native.Mathlib.Numerals.{add-one}
 use lib.Dec.{leb}
-use lib.ListN.{drop, getD, length, length-drop, length-take, set, take}
-use lib.Seq.{drop-cons, length-take-le, take-all, take-suc-set}
+use lib.ListN.{drop, getD, length, length-drop, length-take, set, take, take-append-drop}
+use lib.Seq.{drop-cons, drop-drop, drop-set-lt, length-take-le, take-all, take-at, take-suc-set}
 use borrow.Author.Tests.{eq-eqb, le-leb, lt-leb, ne-eqb}
 use Rattle.table.specs.Logic.{_and_, pick}
 use Rattle.table.specs.Outcome.{_andThen_, demand}
@@ -35,30 +35,43 @@ numbers-end [] h = refl
 numbers-end (low ∷ []) h = refl
 numbers-end (low ∷ high ∷ s) h = absurd (omega arith)
 
--- the first i numbers are in their places, and the rest are still in the bytes
-unfoldable pub decodedUpTo : List ℕ → List ℕ → ℕ → List ℕ
-decodedUpTo bytes places i = take i places ++ numbersOf (drop (2 * i) bytes)
+pub numbers-length : (s : List ℕ) → length (numbersOf s) ≡ length s / 2
+unfolding numbersOf
+numbers-length [] = omega arith
+numbers-length (low ∷ []) = omega arith
+numbers-length (low ∷ high ∷ s) = let rest = numbers-length s in omega arith
 
-pub decoded-none : (bytes places : List ℕ) → decodedUpTo bytes places 0 ≡ numbersOf bytes
-unfolding decodedUpTo
-decoded-none bytes places = refl
+-- the first i numbers are in their places, the rest are still in the bytes, and the places from i on are as before
+pub record Decoded (bytes before places : List ℕ) (i : ℕ) : Type 0 where
+  pub numbers : take i places ++ numbersOf (drop (2 * i) bytes) ≡ numbersOf bytes
+  pub beyond : drop i places ≡ drop i before
 
-pub decoded-next : (bytes places : List ℕ) (i : ℕ) (x : ℕ) → i < length bytes / 2 → i < length places
-    → x ≡ numberOf (getD bytes (2 * i) 0) (getD bytes (2 * i + 1) 0)
-    → decodedUpTo bytes (set places i x) (i + 1) ≡ decodedUpTo bytes places i
-unfolding decodedUpTo
-decoded-next bytes places i x h room e =
-    let twice : 2 * (i + 1) ≡ suc (suc (2 * i)) = omega arith in
-    let after : 2 * i + 1 ≡ suc (2 * i) = omega arith in
-    rw (twice, add-one i, take-suc-set places i x room, append-assoc, e, after, numbers-two bytes (2 * i) (omega arith))
+pub decoded-none : (bytes before : List ℕ) → Decoded bytes before before 0
+decoded-none bytes before = record { numbers = refl; beyond = refl }
 
-pub decoded-all : (bytes places : List ℕ) (i : ℕ) → i ≤ length bytes / 2 → length bytes / 2 ≤ i
-    → decodedUpTo bytes places i ≡ numbersOf bytes → take (length bytes / 2) places ≡ numbersOf bytes
-unfolding decodedUpTo
-decoded-all bytes places i h through e =
-    let same : length bytes / 2 ≡ i = omega arith in
-    let none = numbers-end (drop (2 * i) bytes) (rw (length-drop (2 * i) bytes) (omega arith)) in
-    rw same (sym (append-nil (take i places)) ∙ sym (ap (λ (rest : List ℕ). take i places ++ rest) none) ∙ e)
+module _ {bytes before places : List ℕ} {i : ℕ} (d : Decoded bytes before places i) where
+  pub decoded-next : (x : ℕ) → i < length bytes / 2 → i < length places → x ≡ numberOf (getD bytes (2 * i) 0) (getD bytes (2 * i + 1) 0)
+      → Decoded bytes before (set places i x) (i + 1)
+  decoded-next x h room e =
+      let twice : 2 * (i + 1) ≡ suc (suc (2 * i)) = omega arith in
+      let after : 2 * i + 1 ≡ suc (2 * i) = omega arith in
+      let two = numbers-two bytes (2 * i) (omega arith) in
+      record {
+        numbers = rw (twice, add-one i, take-suc-set places i x room, append-assoc, e, after, ← two) (d .numbers);
+        beyond = drop-set-lt (i + 1) places i x (omega arith) ∙ sym (drop-drop 1 i places) ∙ ap (drop 1) (d .beyond) ∙ drop-drop 1 i before;
+      }
+
+  pub decoded-all : i ≤ length bytes / 2 → length bytes / 2 ≤ i → places ≡ numbersOf bytes ++ drop (length bytes / 2) before
+  decoded-all h through =
+      let same : length bytes / 2 ≡ i = omega arith in
+      let none = numbers-end (drop (2 * i) bytes) (rw (length-drop (2 * i) bytes) (omega arith)) in
+      let first = sym (append-nil (take i places)) ∙ sym (ap (λ (rest : List ℕ). take i places ++ rest) none) ∙ d .numbers in
+      rw (same, ← first, ← d .beyond) (sym (take-append-drop i places))
+
+-- so the first places hold the numbers
+pub decoded-first : (bytes before places : List ℕ) → places ≡ numbersOf bytes ++ drop (length bytes / 2) before
+    → take (length bytes / 2) places ≡ numbersOf bytes
+decoded-first bytes before places e = rw e (take-at (numbersOf bytes) _ (length bytes / 2) (numbers-length bytes))
 
 -- which bytes are an input
 pub odd-unwhole : (s : List ℕ) → (length s ≡ 2 * (length s / 2) → ⊥) → isWhole s ≡ false

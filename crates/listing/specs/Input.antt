@@ -7,7 +7,8 @@ use lib.ListN.{drop, length, take}
 use lib.Dec.{eqb, leb}
 use Rattle.table.specs.Logic.{_and_, pick}
 use Rattle.table.specs.Outcome.{Outcome, _andThen_, demand}
-use Rattle.table.specs.Layout.{name, number, principal}
+use Rattle.table.specs.Layout.{number}
+use Rattle.table.specs.Checks.{asQuery}
 use Rattle.table.specs.declared.Query.{Query}
 use Rattle.listing.specs.Minimal.{bufferAfter, listing}
 
@@ -28,13 +29,7 @@ abbrev pub querySize : ℕ
 querySize = 4
 
 abbrev pub queryOf : List ℕ → Query
-queryOf s =
-    record {
-      principal = principal (number s 0);
-      owner = principal (number s 1);
-      name = name (number s 2);
-      depth = number s 3;
-    }
+queryOf s = asQuery (number s 0) (number s 1) (number s 2) (number s 3)
 
 abbrev pub tableOf : List ℕ → List ℕ
 tableOf s = drop querySize s

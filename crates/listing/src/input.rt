@@ -8,8 +8,9 @@ use table::Principal;
 use table::Query;
 use table::Refusal;
 ghost use mathlib.Core.Path.{_≡_};
+ghost use mathlib.Core.List.{_++_};
 ghost use Prim.Native.Nat.{_/_, _≤_};
-ghost use lib.ListN.{length, take};
+ghost use lib.ListN.{drop, length};
 ghost use Rattle.listing.specs.Minimal.{bufferAfter, listing, listingTold};
 ghost use Rattle.listing.specs.Input.{countedBytes, inputBuffer, inputOutcome, numberOf, numbersOf, queryOf, querySize, tableOf};
 
@@ -48,10 +49,11 @@ fn counted(bytes: &[u8]) -> &[u8]
     &bytes[..MOST_BYTES]
 }
 
-// Puts the numbers that the bytes hold in the first places; a single byte at the end is left.
+// Puts the numbers that the bytes hold in the first places, and leaves the others; a single byte at the end is left too.
 pub fn decode(bytes: &[u8], numbers: &mut [Number])
     requires { ⌜ length (now bytes) / 2 ≤ length (now numbers) ⌝ }
-    ensures { λ r. ⌜ take (length (now (bytes .entry)) / 2) (now (numbers .exit)) ≡ numbersOf (now (bytes .entry)) ⌝ }
+    ensures { λ r. ⌜ now (numbers .exit)
+        ≡ numbersOf (now (bytes .entry)) ++ drop (length (now (bytes .entry)) / 2) (now (numbers .entry)) ⌝ }
 {
     let half = bytes.len() / 2;
     let mut i = 0;

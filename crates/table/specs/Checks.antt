@@ -115,6 +115,10 @@ unfoldable pub tableOutcome : List ℕ → Outcome
 tableOutcome t =
     headOutcome t andThen credentialsOutcome t andThen cellsOutcome t andThen chainsOutcome t andThen edgesOutcome t
 
+-- a query is four numbers, in this order: a principal, a role's owner and name, and a depth limit
+abbrev pub asQuery : ℕ → ℕ → ℕ → ℕ → Query
+asQuery p o n depth = record { principal = principal p; owner = principal o; name = name n; depth = depth }
+
 -- row 8: a depth limit is 1 to 16
 unfoldable pub queryOutcome : Query → Outcome
 queryOutcome q =

@@ -1,18 +1,17 @@
--- `listing::input::decode` meets its contract. The invariant: the first i numbers are in their places, and the rest are still in
--- the bytes. The measure is what is left of them. Assumes nothing.
+-- `listing::input::decode` meets its contract. The invariant: the first i numbers are in their places, the rest are still in the
+-- bytes, and the places from i on are as before. The measure is what is left of the bytes. Assumes nothing.
 use Prim.Native.Nat.{_≤_, _-_, _/_}
-use mathlib.Core.Path.{_≡_, refl, _∙_}
+use mathlib.Core.Path.{_≡_, refl}
 use native.Mathlib.Omega.{arith}
 use lib.ListN.{length, length-set}
-use Rattle.listing.specs.Input.{numbersOf}
-use Rattle.listing.proofs.Inputs.{decoded-all, decoded-next, decoded-none, decodedUpTo}
+use Rattle.listing.proofs.Inputs.{Decoded, decoded-all, decoded-next, decoded-none}
 use Rattle.listing.proofs.input.decode.Statement.{statement}
 use Rattle.listing.proofs.input.decode.Tie as tie
 
 abbrev Inv-loop : tie.InvT-loop
 Inv-loop bytes numbers₀ half i₀ numbers i =
     (i ≤ half) × (half ≡ length bytes / 2) × (half ≤ length numbers₀) × (length numbers ≡ length numbers₀)
-    × (decodedUpTo bytes numbers i ≡ numbersOf bytes)
+    × Decoded bytes numbers₀ numbers i
 
 abbrev μ-loop : tie.MeasureT-loop
 μ-loop bytes numbers₀ half i₀ numbers i = half - i
@@ -57,14 +56,14 @@ loop-again c =
       refl,
       loop .inv .2,
       simp length-set (loop .inv .3),
-      decoded-next _ _ _ _ (c .before .before .before .loop-test .taken) (omega arith) (c .number-of .ensures) ∙ loop .inv .4,
+      decoded-next (loop .inv .4) _ (c .before .before .before .loop-test .taken) (omega arith) (c .number-of .ensures),
     )
 
 same-length : tie.Need-same-length Inv-loop μ-loop
 same-length c = c .before .loop .inv .3
 
 returns : tie.Need-returns Inv-loop μ-loop
-returns c = decoded-all _ _ _ (c .before .loop .inv .0) (c .loop-test .left) (c .before .loop .inv .4)
+returns c = let loop = c .before .loop in decoded-all (loop .inv .4) (loop .inv .0) (c .loop-test .left)
 
 pub decode-spec : {M : Type 1} → statement M
 decode-spec =

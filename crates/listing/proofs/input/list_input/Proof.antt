@@ -2,7 +2,7 @@
 use borrow.Author.Needs.{needs}
 use native.Mathlib.Omega.{arith}
 use denote.Ref.{now}
-use Rattle.listing.proofs.Inputs.{answers-unwhole, answers-whole, odd-unwhole, read-few, read-length, short-unwhole, whole}
+use Rattle.listing.proofs.Inputs.{answers-unwhole, answers-whole, decoded-first, odd-unwhole, read-few, read-length, short-unwhole, whole}
 use Rattle.listing.proofs.input.list_input.Statement.{statement}
 use Rattle.listing.proofs.input.list_input.Tie as tie
 
@@ -67,7 +67,7 @@ returns-3 c =
     let decode = c .before .before .before .before .before .before .decode in
     let even = c .before .before .before .before .before .before .before .before .before .if1 .left in
     let some = c .before .before .before .before .before .before .before .before .if2 .left in
-    answers-whole (now (args .bytes)) _ (counted .ensures) _ _ _ _ (whole _ even some) (decode .ensures)
+    answers-whole (now (args .bytes)) _ (counted .ensures) _ _ _ _ (whole _ even some) (decoded-first _ _ _ (decode .ensures))
     (c .before .before .list-numbers .ensures)
 
 pub list-input-spec : {M : Type 1} → statement M
