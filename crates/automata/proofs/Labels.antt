@@ -6,16 +6,16 @@ use native.Mathlib.Omega.{arith}
 use lib.ListN.{getD, set}
 use lib.Bits.{bitOr}
 use borrow.Author.Tests.{eq-eqb, ne-eqb}
-use Rattle.table.specs.Logic.{_and_, pick}
+use Rattle.sets.specs.Logic.{_and_, pick}
 use Rattle.table.specs.Limits.{lastState}
 use Rattle.table.specs.Layout.{sameRole}
 use Rattle.table.specs.declared.Role.{Role}
 use Rattle.table.specs.declared.Edge.{Edge}
-use Rattle.automata.specs.Sets.{inSet}
+use Rattle.sets.specs.Sets.{inSet}
 use Rattle.automata.specs.Automata.{leads, matches}
 use Rattle.automata.specs.Together.{withEdge}
 use Rattle.automata.specs.declared.StateSets.{StateSets}
-use Rattle.automata.proofs.Members.{one-bit}
+use Rattle.sets.proofs.Members.{one-bit}
 
 module _ (e : Edge) (r : Role) where
   pub label-1 : e .label ≡ 1 → matches e r ≡ sameRole (e .role) r

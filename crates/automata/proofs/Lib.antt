@@ -1,6 +1,5 @@
 -- Laws that belong to no one function; crates above cite those marked `pub mod`.
 pub mod Each
-pub mod Members
 pub mod Moves
 pub mod Labels
 pub mod Together

@@ -10,15 +10,15 @@ use native.Mathlib.Nat.{eq-or-lt-of-le}
 use lib.Bits.{bitOr}
 use lib.Dec.{eqb}
 use borrow.Author.Tests.{eqb-true, eq-eqb}
-use Rattle.table.specs.Logic.{_and_, _or_, pick}
+use Rattle.sets.specs.Logic.{_and_, _or_, pick}
 use Rattle.table.specs.Layout.{Numbered, edge, edges}
 use Rattle.table.specs.declared.Role.{Role}
 use Rattle.table.specs.declared.Edge.{Edge}
-use Rattle.table.proofs.Tests.{and-both, and-false, and-or-and, and-parts, false-true}
-use Rattle.table.proofs.Tests.{or-and, or-either, or-exchange, or-first, or-second}
-use Rattle.automata.specs.Sets.{inSet}
+use Rattle.sets.proofs.Tests.{and-both, and-false, and-or-and, and-parts, false-true}
+use Rattle.sets.proofs.Tests.{or-and, or-either, or-exchange, or-first, or-second}
+use Rattle.sets.specs.Sets.{inSet}
 use Rattle.automata.specs.Automata.{leads, matches, moved, movedBy, run}
-use Rattle.automata.proofs.Members.{inSet-zero, inSet-or, inSet-pick, same-members}
+use Rattle.sets.proofs.Members.{inSet-zero, inSet-or, inSet-pick, same-members}
 
 module _ (t : List ℕ) (k : ℕ) (r : Role) where
   -- edge i leads automaton k on from the set x to state s

@@ -12,23 +12,23 @@ use lib.Seq.{getD-set-same, getD-set-other}
 use lib.Bits.{bitAnd, bitOr}
 use lib.Dec.{ltb}
 use borrow.Author.Tests.{eq-eqb, ne-eqb, lt-ltb, le-ltb, le-leb}
-use Rattle.table.specs.Logic.{_and_, pick}
+use Rattle.sets.specs.Logic.{_and_, pick}
 use Rattle.table.specs.Limits.{lastState, mostAutomata}
 use Rattle.table.specs.Layout.{Numbered, automata, automaton, edge, edges}
 use Rattle.table.specs.Checks.{WellFormed, within}
-use Rattle.table.proofs.Tests.{pick-apart, pick-same}
+use Rattle.sets.proofs.Tests.{pick-apart, pick-same}
 use Rattle.table.proofs.WellFormed.{wf-edge, wf-sized}
 use Rattle.table.specs.declared.Role.{Role}
 use Rattle.table.specs.declared.Automaton.{Automaton}
 use Rattle.table.specs.declared.Edge.{Edge}
-use Rattle.automata.specs.Sets.{meets, setOf}
+use Rattle.sets.specs.Sets.{meets, setOf}
 use Rattle.automata.specs.Automata.{acceptsFrom, leads, moved, movedBy}
 use Rattle.automata.specs.Together.{acceptingSet, movedSets, withEdge}
 use Rattle.automata.specs.Automata.{starting}
 use Rattle.automata.specs.Together.{startingSets, together}
 use Rattle.automata.specs.declared.StateSets.{StateSets}
 use Rattle.automata.proofs.Each.{each-ext}
-use Rattle.automata.proofs.Members.{ltb-next, one-bit}
+use Rattle.sets.proofs.Members.{ltb-next, one-bit}
 
 -- the sets of the first k automata are their starting sets, and the others are empty
 pub record Started (t : List ℕ) (k : ℕ) (l : List ℕ) : Type 0 where

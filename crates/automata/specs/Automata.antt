@@ -5,12 +5,12 @@ use mathlib.Core.List.{List, [], _∷_}
 use mathlib.Core.Bool.{Bool, true, false, not}
 use lib.Bits.{bitOr}
 use lib.Dec.{eqb}
-use Rattle.table.specs.Logic.{_and_, pick}
+use Rattle.sets.specs.Logic.{_and_, pick}
 use Rattle.table.specs.Layout.{automata, automaton, edge, edges, sameRole}
 use Rattle.table.specs.Checks.{within}
 use Rattle.table.specs.declared.Role.{Role}
 use Rattle.table.specs.declared.Edge.{Edge}
-use Rattle.automata.specs.Sets.{inSet, meets}
+use Rattle.sets.specs.Sets.{inSet, meets}
 
 -- label 1 matches exactly that role, label 2 every role, label 3 every role but that one
 unfoldable pub matches : Edge → Role → Bool

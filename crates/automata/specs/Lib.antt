@@ -1,3 +1,2 @@
-pub mod Sets
 pub mod Automata
 pub mod Together

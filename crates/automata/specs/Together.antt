@@ -4,12 +4,12 @@ use Prim.Native.Nat.{ℕ, zero, suc, _-_, _^_}
 use mathlib.Core.List.{List, [], _∷_, _++_}
 use lib.ListN.{getD, set}
 use lib.Bits.{bitOr}
-use Rattle.table.specs.Logic.{pick}
+use Rattle.sets.specs.Logic.{pick}
 use Rattle.table.specs.Limits.{mostAutomata}
 use Rattle.table.specs.Layout.{automata}
 use Rattle.table.specs.declared.Role.{Role}
 use Rattle.table.specs.declared.Edge.{Edge}
-use Rattle.automata.specs.Sets.{setOf}
+use Rattle.sets.specs.Sets.{setOf}
 use Rattle.automata.specs.Automata.{acceptsFrom, leads, moved, starting}
 use Rattle.automata.specs.declared.StateSets.{StateSets}
 

@@ -9,11 +9,11 @@ use native.Mathlib.Numerals.{add-one}
 use native.Mathlib.Nat.{eq-or-lt-of-le}
 use lib.ListN.{getD, set, length-set}
 use lib.Seq.{getD-set-same, getD-set-other}
-use Rattle.table.specs.Logic.{_and_}
+use Rattle.sets.specs.Logic.{_and_}
 use Rattle.table.specs.Limits.{mostDepth}
 use Rattle.table.specs.Layout.{sameRole}
 use Rattle.table.specs.declared.Goal.{Goal}
-use Rattle.table.proofs.Tests.{and-false}
+use Rattle.sets.proofs.Tests.{and-false}
 use Rattle.derivation.specs.Rules.{fresh}
 use Rattle.derivation.specs.Held.{Room, above, noGoal, upTo}
 use Rattle.derivation.specs.declared.branches.Branch.{Branch}

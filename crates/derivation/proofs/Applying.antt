@@ -8,12 +8,12 @@ use native.Mathlib.Omega.{arith}
 use native.Mathlib.Decide.{ℕ-discrete}
 use lib.ListN.{length}
 use borrow.Author.Tests.{eqb-true}
-use Rattle.table.specs.Logic.{_and_, pick}
+use Rattle.sets.specs.Logic.{_and_, pick}
 use Rattle.table.specs.Layout.{Numbered, cell, chain, credential, credentials, parts, role, sameRole}
 use Rattle.table.specs.Checks.{WellFormed, within}
 use Rattle.table.specs.declared.Role.{Role}
 use Rattle.table.specs.declared.Goal.{Goal}
-use Rattle.table.proofs.Tests.{and-first, and-second}
+use Rattle.sets.proofs.Tests.{and-first, and-second}
 use Rattle.table.proofs.Fields.{within-range}
 use Rattle.table.proofs.WellFormed.{wf-chain}
 use Rattle.derivation.specs.Rules.{asks, premises, when}

@@ -9,7 +9,7 @@ use native.Mathlib.Numerals.{add-one}
 use lib.ListN.{getD, length, set, take, length-set}
 use lib.Seq.{take-suc, take-suc-set}
 use borrow.Author.Tests.{ne-eqb, le-leb, lt-leb}
-use Rattle.table.specs.Logic.{_and_, pick}
+use Rattle.sets.specs.Logic.{_and_, pick}
 use Rattle.table.specs.Limits.{mostParts, mostPrincipals}
 use Rattle.table.specs.Layout.{Numbered, cells, credential, credentials, parts, principal, sameRole}
 use Rattle.table.specs.Checks.{WellFormed, chainOk, isPrincipal, within}
@@ -17,7 +17,7 @@ use Rattle.table.proofs.WellFormed.{wf-chain-ok, wf-credential}
 use Rattle.table.specs.declared.Role.{Role}
 use Rattle.table.specs.declared.Goal.{Goal}
 use Rattle.table.specs.declared.Credential.{Credential}
-use Rattle.table.proofs.Tests.{and-is, and-is-off}
+use Rattle.sets.proofs.Tests.{and-is, and-is-off}
 use Rattle.derivation.specs.Rules.{asks, containmentAsks, goal, intersectionAsks, linkingAsks, membershipAsks, premises, when}
 
 -- a callee's answer, which is what the caller promises

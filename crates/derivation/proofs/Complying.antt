@@ -4,7 +4,7 @@ use mathlib.Core.List.{List, []}
 use mathlib.Core.Bool.{Bool, true, false, not}
 use Prim.Native.Nat.{ℕ}
 use native.Mathlib.Omega.{arith}
-use Rattle.table.specs.Logic.{_or_}
+use Rattle.sets.specs.Logic.{_or_}
 use Rattle.table.specs.Layout.{Numbered, automata, credential}
 use Rattle.table.specs.Checks.{WellFormed}
 use Rattle.table.specs.declared.Goal.{Goal}

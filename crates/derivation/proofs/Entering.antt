@@ -7,7 +7,7 @@ use Prim.Native.Nat.{ℕ, zero, suc, _≤_, _<_}
 use native.Mathlib.Omega.{arith}
 use lib.ListN.{drop, getD, length, take}
 use borrow.Author.Tests.{ne-eqb}
-use Rattle.table.specs.Logic.{pick}
+use Rattle.sets.specs.Logic.{pick}
 use Rattle.table.specs.Limits.{mostParts}
 use Rattle.table.specs.declared.Goal.{Goal}
 use Rattle.derivation.specs.Rules.{fresh, premises}

@@ -8,7 +8,7 @@ use native.Mathlib.Numerals.{add-one}
 use lib.ListN.{length}
 use lib.Bits.{bitOr}
 use lib.Dec.{eqb}
-use Rattle.table.specs.Logic.{_and_, _or_, pick}
+use Rattle.sets.specs.Logic.{_and_, _or_, pick}
 use Rattle.table.specs.Limits.{mostAutomata, mostDepth}
 use Rattle.table.specs.Outcome.{Outcome, _andThen_, demandEach}
 use Rattle.table.specs.Outcome.Outcome.{accepted, refused}
@@ -17,11 +17,11 @@ use Rattle.table.specs.Checks.{Valid, WellFormed, queryOutcome, within}
 use Rattle.table.specs.declared.Credential.{Credential}
 use Rattle.table.specs.declared.Query.{Query}
 use Rattle.table.specs.declared.Goal.{Goal}
-use Rattle.table.proofs.Tests.{and-second}
+use Rattle.sets.proofs.Tests.{and-second}
 use Rattle.table.proofs.Stages.{demand-true, then-second}
 use Rattle.table.proofs.WellFormed.{wf-credential, wf-sized}
 use borrow.Author.Tests.{leb-true, ne-eqb}
-use Rattle.automata.specs.Sets.{inSet}
+use Rattle.sets.specs.Sets.{inSet}
 use Rattle.automata.specs.Together.{startingSets}
 use Rattle.automata.specs.declared.StateSets.{StateSets}
 use Rattle.derivation.specs.Rules.{goalOf}

@@ -9,7 +9,7 @@ use lib.ListN.{getD}
 use lib.Bits.{bitAnd}
 use lib.Dec.{eqb}
 use borrow.Author.Tests.{lt-ltb}
-use Rattle.table.specs.Logic.{_and_, pick}
+use Rattle.sets.specs.Logic.{_and_, pick}
 use Rattle.table.specs.Limits.{mostAutomata}
 use Rattle.table.specs.Outcome.{demandEach}
 use Rattle.table.specs.Layout.{Numbered, automata, credential}
@@ -17,13 +17,13 @@ use Rattle.table.specs.Checks.{WellFormed}
 use Rattle.table.specs.declared.Goal.{Goal}
 use Rattle.table.specs.declared.Role.{Role}
 use Rattle.table.proofs.WellFormed.{wf-sized}
-use Rattle.table.proofs.Tests.{and-true, and-assoc}
-use Rattle.automata.specs.Sets.{inSet, setOf}
+use Rattle.sets.proofs.Tests.{and-true, and-assoc}
+use Rattle.sets.specs.Sets.{inSet, setOf}
 use Rattle.automata.specs.Automata.{accepts, moved, run, starting}
 use Rattle.automata.specs.Together.{acceptingSet, each, movedSets, startingSets, together}
 use Rattle.automata.specs.declared.StateSets.{StateSets}
 use Rattle.automata.proofs.Each.{each-length, each-at, each-ext}
-use Rattle.automata.proofs.Members.{inSet-and, setOf-members}
+use Rattle.sets.proofs.Members.{inSet-and, setOf-members}
 use Rattle.derivation.specs.Forest.{Derives, Forest, usedSet}
 use Rattle.derivation.specs.Forest.Forest.{end, node}
 use Rattle.derivation.specs.Words.{acceptsAll, met, words}

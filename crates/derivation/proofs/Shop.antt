@@ -2,7 +2,7 @@
 use mathlib.Core.Path.{_≡_, refl}
 use mathlib.Core.List.{List, [], _∷_, _++_}
 use Prim.Native.Nat.{ℕ}
-use Rattle.table.specs.Logic.{_and_, _or_, pick}
+use Rattle.sets.specs.Logic.{_and_, _or_, pick}
 use Rattle.table.specs.Outcome.{Outcome, _andThen_, demand, demandEach}
 use Rattle.table.specs.Outcome.Outcome.{accepted, refused}
 use Rattle.table.specs.Layout.{automaton, cell, cellsFrom, credential, edge, parts, sameRole}
@@ -10,7 +10,7 @@ use Rattle.table.specs.Checks.{asQuery, cellOk, cellsOutcome, chainOk, chainsOu
 use Rattle.table.specs.Checks.{edgesOutcome, goodCell, goodChain, goodCredential, goodEdge, headOutcome, isName, isPrincipal}
 use Rattle.table.specs.Checks.{isRole, labelOk, meaningOk, queryOutcome, requestOutcome, tableOutcome, within}
 use Rattle.table.specs.declared.Query.{Query}
-use Rattle.automata.specs.Sets.{inSet, meets}
+use Rattle.sets.specs.Sets.{inSet, meets}
 use Rattle.automata.specs.Automata.{accepts, acceptsFrom, leads, matches, moved, movedBy, run, starting}
 use Rattle.derivation.specs.Rules.{asks, fresh, premises}
 use Rattle.derivation.specs.Forest.{countFrom, usedFrom, usedSet}

@@ -8,13 +8,13 @@ use native.Mathlib.Omega.{arith}
 use lib.Bits.{bitOr}
 use lib.Dec.{eqb, eqb·suc-suc}
 use borrow.Author.Tests.{eqb-true, eqb-false, eq-eqb, ne-eqb, not-true}
-use Rattle.table.specs.Logic.{_and_, _or_, anyBelow}
+use Rattle.sets.specs.Logic.{_and_, _or_, anyBelow}
 use Rattle.table.specs.Layout.{Numbered, credential, credentials}
 use Rattle.table.specs.declared.Goal.{Goal}
-use Rattle.table.proofs.Tests.{and-both, and-first, and-second, any-reached, any-shows, false-true, same-test}
-use Rattle.table.proofs.Tests.{or-assoc, or-either, or-false, or-first, or-none, or-second}
-use Rattle.automata.specs.Sets.{inSet}
-use Rattle.automata.proofs.Members.{inSet-zero, inSet-or, inSet-pow, inSet-pick}
+use Rattle.sets.proofs.Tests.{and-both, and-first, and-second, any-reached, any-shows, false-true, same-test}
+use Rattle.sets.proofs.Tests.{or-assoc, or-either, or-false, or-first, or-none, or-second}
+use Rattle.sets.specs.Sets.{inSet}
+use Rattle.sets.proofs.Members.{inSet-zero, inSet-or, inSet-pow, inSet-pick}
 use Rattle.derivation.specs.Forest.{Derives, Forest, names, usedFrom, usedSet}
 use Rattle.derivation.specs.Forest.Forest.{end, node}
 use Rattle.derivation.specs.Forest.Derives.{done, step}

@@ -7,7 +7,7 @@ use mathlib.Core.Bool.{Bool, true, false}
 use mathlib.Core.Option.{some}
 use lib.Bits.{bitOr}
 use lib.Dec.{eqb}
-use Rattle.table.specs.Logic.{_or_}
+use Rattle.sets.specs.Logic.{_or_}
 use Rattle.table.specs.declared.Goal.{Goal}
 use Rattle.derivation.specs.Rules.{fresh, premises}
 

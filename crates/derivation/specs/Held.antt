@@ -6,7 +6,7 @@ use mathlib.Core.Bool.{Bool, false}
 use mathlib.Core.Option.{Option, none, some}
 use lib.ListN.{drop, getD, length, take}
 use lib.Dec.{eqb}
-use Rattle.table.specs.Logic.{pick}
+use Rattle.sets.specs.Logic.{pick}
 use Rattle.table.specs.Limits.{mostParts}
 use Rattle.table.specs.Layout.{principal, role}
 use Rattle.table.specs.declared.Goal.{Goal}

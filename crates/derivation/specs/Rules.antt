@@ -5,7 +5,7 @@ use mathlib.Core.List.{List, [], _∷_, map}
 use mathlib.Core.Bool.{Bool, true, not}
 use mathlib.Core.Option.{Option, none, some}
 use lib.Dec.{eqb}
-use Rattle.table.specs.Logic.{_and_, pick}
+use Rattle.sets.specs.Logic.{_and_, pick}
 use Rattle.table.specs.Layout.{credential, credentials, name, parts, principal, role, sameRole}
 use Rattle.table.specs.Checks.{isPrincipal, within}
 use Rattle.table.specs.declared.Principal.{Principal}

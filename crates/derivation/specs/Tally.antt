@@ -7,10 +7,10 @@ use mathlib.Core.List.{List, [], _∷_}
 use mathlib.Core.Bool.{Bool, not}
 use lib.Bits.{bitAnd, bitOr}
 use lib.Dec.{eqb}
-use Rattle.table.specs.Logic.{_and_, _or_, pick}
+use Rattle.sets.specs.Logic.{_and_, _or_, pick}
 use Rattle.table.specs.Layout.{credential, credentials}
 use Rattle.table.specs.declared.Goal.{Goal}
-use Rattle.automata.specs.Sets.{inSet}
+use Rattle.sets.specs.Sets.{inSet}
 use Rattle.automata.specs.Together.{acceptingSet, movedSets}
 use Rattle.automata.specs.declared.StateSets.{StateSets}
 use Rattle.derivation.specs.Forest.{Forest, countFrom, usedFrom}

@@ -4,7 +4,7 @@ use mathlib.Core.Path.{_≡_}
 use mathlib.Core.List.{List, [], _∷_, _++_}
 use mathlib.Core.Bool.{Bool, true, false, not}
 use lib.Dec.{eqb}
-use Rattle.table.specs.Logic.{_and_, _or_, pick}
+use Rattle.sets.specs.Logic.{_and_, _or_, pick}
 use Rattle.table.specs.Layout.{credential}
 use Rattle.table.specs.declared.Role.{Role}
 use Rattle.automata.specs.Automata.{accepts}

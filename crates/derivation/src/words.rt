@@ -8,12 +8,12 @@ ghost use mathlib.Core.Bool.{not};
 ghost use Prim.Native.Nat.{_-_, _^_, _≤_};
 ghost use lib.Bits.{bitOr};
 ghost use lib.Dec.{eqb};
-ghost use Rattle.table.specs.Logic.{_and_, _or_, pick};
+ghost use Rattle.sets.specs.Logic.{_and_, _or_, pick};
 ghost use Rattle.table.specs.Limits.{mostAutomata};
 ghost use Rattle.table.specs.Outcome.{Outcome, _andThen_, demandEach};
 ghost use Rattle.table.specs.Layout.{Numbered, automata};
 ghost use Rattle.table.specs.Checks.{WellFormed};
-ghost use Rattle.automata.specs.Sets.{inSet};
+ghost use Rattle.sets.specs.Sets.{inSet};
 ghost use Rattle.derivation.specs.Tally.{automataOf, keeps};
 ghost use Rattle.derivation.specs.Verdict.{verdictTold};
 

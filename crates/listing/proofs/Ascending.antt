@@ -9,8 +9,8 @@ use native.Mathlib.Omega.{arith}
 use native.Mathlib.Nat.{eq-or-lt-of-le, lt-of-not-le}
 use lib.ListN.{getD, length, length-append, List·getD-append}
 use lib.Seq.{ext-getD, getD-at}
-use Rattle.table.specs.Logic.{pick}
-use Rattle.table.proofs.Tests.{false-true}
+use Rattle.sets.specs.Logic.{pick}
+use Rattle.sets.proofs.Tests.{false-true}
 use Rattle.listing.specs.Minimal.{those}
 
 -- x stands at some place of the list

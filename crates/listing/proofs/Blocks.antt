@@ -9,10 +9,10 @@ use lib.Bits.{bitAnd, bitOr, bitXor, and-mask, or-shifted, xor-shr, xor-mod}
 use lib.Pow.{ones-lt, pow-lt, split}
 use lib.Dec.{eqb}
 use borrow.Author.Tests.{eq-eqb, eqb-true, ne-eqb}
-use Rattle.table.specs.Logic.{_or_, pick}
-use Rattle.table.proofs.Tests.{and-first, and-is, and-second, false-true, or-either, refuted}
-use Rattle.automata.specs.Sets.{inSet, meets, part}
-use Rattle.automata.proofs.Members.{below-members, inSet-and, inSet-or, inSet-pow, inSet-zero, meets-common, one-among, own-bit, part-member, part-or-left, part-or-right, part-shown, same-members}
+use Rattle.sets.specs.Logic.{_or_, pick}
+use Rattle.sets.proofs.Tests.{and-first, and-is, and-second, false-true, or-either, refuted}
+use Rattle.sets.specs.Sets.{inSet, meets, part}
+use Rattle.sets.proofs.Members.{below-members, inSet-and, inSet-or, inSet-pow, inSet-zero, meets-common, one-among, own-bit, part-member, part-or-left, part-or-right, part-shown, same-members}
 
 -- `usable & bit == 0`
 pub bit-out : (x k : ℕ) → bitAnd x (2 ^ k) ≡ 0 → inSet x k ≡ false

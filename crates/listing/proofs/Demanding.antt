@@ -12,8 +12,8 @@ use Rattle.table.specs.Outcome.Outcome.{accepted, refused}
 use Rattle.table.specs.Checks.{Valid, WellFormed, requestOutcome, tableOutcome}
 use Rattle.table.specs.declared.Query.{Query}
 use Rattle.table.proofs.WellFormed.{request-accepted}
-use Rattle.automata.specs.Sets.{part}
-use Rattle.automata.proofs.Members.{part-refl}
+use Rattle.sets.specs.Sets.{part}
+use Rattle.sets.proofs.Members.{part-refl}
 use Rattle.derivation.specs.Verdict.{verdict}
 use Rattle.derivation.specs.DemandTwo.{Refuses}
 use Rattle.derivation.proofs.DemandTwo.{every-refusal}

@@ -5,10 +5,10 @@ use mathlib.Core.Bool.{true, false}
 use Prim.Native.Nat.{ℕ, suc, _+_, _<_, _≤_}
 use native.Mathlib.Omega.{arith}
 use lib.ListN.{getD, length, set, length-append}
-use Rattle.table.specs.Logic.{anyBelow}
+use Rattle.sets.specs.Logic.{anyBelow}
 use Rattle.table.specs.declared.Query.{Query}
-use Rattle.table.proofs.Tests.{any-not, any-shows}
-use Rattle.automata.specs.Sets.{part}
+use Rattle.sets.proofs.Tests.{any-not, any-shows}
+use Rattle.sets.specs.Sets.{part}
 use Rattle.listing.specs.Minimal.{isMinimal, laid, those}
 use Rattle.listing.specs.Below.{Found, FoundUpTo}
 use Rattle.listing.proofs.Lists.{laid-again, laid-at, laid-full, laid-length, laid-next, laid-none, those-begin, those-none, those-takes}

@@ -6,14 +6,14 @@ use Prim.Native.Nat.{ℕ, suc, _+_, _-_, _*_, _%_, _^_, _<_, _≤_}
 use native.Mathlib.Omega.{arith}
 use lib.Bits.{bitAnd, bitOr, bitXor}
 use lib.ListN.{getD, length, set}
-use Rattle.table.specs.Logic.{anyBelow}
+use Rattle.sets.specs.Logic.{anyBelow}
 use Rattle.table.specs.Limits.{mostCredentials}
 use Rattle.table.specs.Checks.{Valid, WellFormed}
 use Rattle.table.specs.declared.Query.{Query}
-use Rattle.table.proofs.Tests.{and-first, and-is, and-second}
+use Rattle.sets.proofs.Tests.{and-first, and-is, and-second}
 use Rattle.table.proofs.WellFormed.{wf-sized}
-use Rattle.automata.specs.Sets.{inSet, part}
-use Rattle.automata.proofs.Members.{one-bit, part-or}
+use Rattle.sets.specs.Sets.{inSet, part}
+use Rattle.sets.proofs.Members.{one-bit, part-or}
 use Rattle.search.specs.Relevance.{Relevant}
 use Rattle.search.specs.Search.{provable}
 use Rattle.derivation.specs.Tally.{automataOf}

@@ -10,12 +10,12 @@ use lib.Dec.{leb}
 use lib.ListN.{drop, getD, length, length-drop, length-take, set, take, take-append-drop}
 use lib.Seq.{drop-cons, drop-drop, drop-set-lt, length-take-le, take-all, take-at, take-suc-set}
 use borrow.Author.Tests.{eq-eqb, le-leb, lt-leb, ne-eqb}
-use Rattle.table.specs.Logic.{_and_, pick}
+use Rattle.sets.specs.Logic.{_and_, pick}
 use Rattle.table.specs.Outcome.{_andThen_, demand}
 use Rattle.table.specs.Checks.{requestOutcome, told}
 use Rattle.table.specs.declared.Query.{Query}
 use Rattle.table.specs.declared.Refusal.the-variants as reason
-use Rattle.table.proofs.Tests.{and-both, and-is, and-is-off}
+use Rattle.sets.proofs.Tests.{and-both, and-is, and-is-off}
 use Rattle.table.proofs.Stages.{then-second}
 use Rattle.listing.specs.Minimal.{bufferAfter, listing, listingTold}
 use Rattle.listing.proofs.Counting.{accepted-counted}

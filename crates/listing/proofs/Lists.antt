@@ -8,7 +8,7 @@ use native.Mathlib.Decide.{ℕ-discrete, decLt}
 use native.Mathlib.Numerals.{add-one}
 use lib.ListN.{drop, getD, length, set, take, drop-of-length-le, length-append, length-drop, length-take, List·getD-append}
 use lib.Seq.{getD-append-add, getD-drop, drop-append-add, drop-drop, set-out, set-split, take-all, take-append-le, take-at, take-nil}
-use Rattle.table.specs.Logic.{pick}
+use Rattle.sets.specs.Logic.{pick}
 use Rattle.listing.specs.Minimal.{laid, those}
 
 -- one number is less than another, or it is not

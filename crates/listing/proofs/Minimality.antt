@@ -8,13 +8,13 @@ use native.Mathlib.Decide.{ℕ-discrete}
 use lib.Bits.{bitOr, bitXor}
 use lib.Pow.{pow-lt}
 use borrow.Author.Tests.{not-true}
-use Rattle.table.specs.Logic.{_and_, anyBelow}
+use Rattle.sets.specs.Logic.{_and_, anyBelow}
 use Rattle.table.specs.Layout.{credentials}
 use Rattle.table.specs.Checks.{WellFormed}
 use Rattle.table.specs.declared.Query.{Query}
-use Rattle.table.proofs.Tests.{and-both, and-first, and-second, any-none, any-not, any-or-none, false-true, refuted}
-use Rattle.automata.specs.Sets.{inSet, part}
-use Rattle.automata.proofs.Members.{part-antisym, part-le, part-member, part-or-left, part-refl, part-shown, part-trans}
+use Rattle.sets.proofs.Tests.{and-both, and-first, and-second, any-none, any-not, any-or-none, false-true, refuted}
+use Rattle.sets.specs.Sets.{inSet, part}
+use Rattle.sets.proofs.Members.{part-antisym, part-le, part-member, part-or-left, part-refl, part-shown, part-trans}
 use Rattle.derivation.specs.Tally.{automataOf}
 use Rattle.search.specs.Relevance.{Relevant}
 use Rattle.derivation.specs.Verdict.{Accepted}

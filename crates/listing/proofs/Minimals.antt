@@ -8,8 +8,8 @@ use native.Mathlib.Omega.{arith}
 use Rattle.table.specs.Layout.{credentials}
 use Rattle.table.specs.Checks.{Valid, WellFormed}
 use Rattle.table.specs.declared.Query.{Query}
-use Rattle.automata.specs.Sets.{part}
-use Rattle.automata.proofs.Members.{part-le, part-trans}
+use Rattle.sets.specs.Sets.{part}
+use Rattle.sets.proofs.Members.{part-le, part-trans}
 use Rattle.derivation.proofs.DemandTwo.{demand-two}
 use Rattle.listing.specs.Minimal.{admits, isMinimal, minimalSets}
 use Rattle.listing.specs.Demands.{Admitted, Minimal, MinimalSets, Used}

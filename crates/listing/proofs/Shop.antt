@@ -4,13 +4,13 @@ use mathlib.Core.Path.{_≡_, refl}
 use mathlib.Core.List.{List, [], _∷_}
 use Prim.Native.Nat.{ℕ}
 use lib.ListN.{length}
-use Rattle.table.specs.Logic.{_and_, _or_, anyBelow, pick}
+use Rattle.sets.specs.Logic.{_and_, _or_, anyBelow, pick}
 use Rattle.table.specs.Outcome.{Outcome, _andThen_, demand, demandEach}
 use Rattle.table.specs.Outcome.Outcome.{accepted, refused}
 use Rattle.table.specs.Layout.{automaton, cell, cellsFrom, credential, edge, parts, sameRole}
 use Rattle.table.specs.Checks.{asQuery, cellOk, cellsOutcome, chainOk, chainsOutcome, countsOk, credentialOk, credentialsOutcome, edgeOk, edgesOutcome, goodCell, goodChain, goodCredential, goodEdge, headOutcome, isName, isPrincipal, isRole, labelOk, meaningOk, queryOutcome, requestOutcome, tableOutcome, within}
 use Rattle.table.specs.declared.Query.{Query}
-use Rattle.automata.specs.Sets.{inSet, meets, part, setOf}
+use Rattle.sets.specs.Sets.{inSet, meets, part, setOf}
 use Rattle.automata.specs.Automata.{acceptsFrom, leads, matches, moved, movedBy, starting}
 use Rattle.automata.specs.Together.{acceptingSet, each, movedSets, startingSets, together}
 use Rattle.derivation.specs.Rules.{asks, fresh, premises}

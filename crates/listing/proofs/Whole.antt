@@ -6,16 +6,16 @@ use Prim.Native.Nat.{ℕ, zero, suc, _+_, _-_, _*_, _%_, _^_, _<_, _≤_}
 use native.Mathlib.Omega.{arith}
 use lib.ListN.{length}
 use lib.Pow.{pow-pos}
-use Rattle.table.specs.Logic.{pick}
+use Rattle.sets.specs.Logic.{pick}
 use Rattle.table.specs.Outcome.{Outcome}
 use Rattle.table.specs.Outcome.Outcome.{accepted, refused}
 use Rattle.table.specs.Layout.{credentials}
 use Rattle.table.specs.Checks.{Valid, WellFormed, requestOutcome}
 use Rattle.table.specs.declared.Query.{Query}
-use Rattle.table.proofs.Tests.{and-is, and-is-off}
+use Rattle.sets.proofs.Tests.{and-is, and-is-off}
 use Rattle.table.proofs.WellFormed.{wf-sized}
-use Rattle.automata.specs.Sets.{part}
-use Rattle.automata.proofs.Members.{inSet-zero, one-bit, part-member, part-zero}
+use Rattle.sets.specs.Sets.{part}
+use Rattle.sets.proofs.Members.{inSet-zero, one-bit, part-member, part-zero}
 use Rattle.search.specs.Relevance.{Relevant}
 use Rattle.search.specs.Search.{provable}
 use Rattle.derivation.specs.Tally.{automataOf, automataUpTo}

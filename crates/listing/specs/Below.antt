@@ -5,10 +5,10 @@ use mathlib.Core.Path.{_≡_}
 use mathlib.Core.List.{List}
 use mathlib.Core.Bool.{Bool, true, false}
 use lib.ListN.{length}
-use Rattle.table.specs.Logic.{_and_}
+use Rattle.sets.specs.Logic.{_and_}
 use Rattle.table.specs.Layout.{credentials}
 use Rattle.table.specs.declared.Query.{Query}
-use Rattle.automata.specs.Sets.{inSet, part}
+use Rattle.sets.specs.Sets.{inSet, part}
 use Rattle.search.specs.Search.{provable}
 use Rattle.derivation.specs.Tally.{automataOf}
 use Rattle.listing.specs.Minimal.{isMinimal, laid, those}

@@ -11,7 +11,7 @@ use Rattle.table.specs.Outcome.Outcome.{accepted, refused}
 use Rattle.table.specs.Layout.{credentials}
 use Rattle.table.specs.Checks.{Valid, WellFormed, requestOutcome, tableOutcome}
 use Rattle.table.specs.declared.Query.{Query}
-use Rattle.automata.specs.Sets.{part}
+use Rattle.sets.specs.Sets.{part}
 use Rattle.derivation.specs.Verdict.{verdict}
 use Rattle.derivation.specs.DemandTwo.{Refuses}
 use Rattle.listing.specs.Minimal.{bufferAfter, listing}

@@ -5,7 +5,7 @@ use mathlib.Core.List.{List, [], _∷_}
 use mathlib.Core.Bool.{Bool}
 use lib.ListN.{drop, length, take}
 use lib.Dec.{eqb, leb}
-use Rattle.table.specs.Logic.{_and_, pick}
+use Rattle.sets.specs.Logic.{_and_, pick}
 use Rattle.table.specs.Outcome.{Outcome, _andThen_, demand}
 use Rattle.table.specs.Layout.{number}
 use Rattle.table.specs.Checks.{asQuery}

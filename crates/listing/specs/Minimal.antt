@@ -5,13 +5,13 @@ use mathlib.Core.List.{List, [], _∷_, _++_}
 use mathlib.Core.Bool.{Bool, not}
 use lib.ListN.{drop, length, take}
 use lib.Dec.{eqb, leb}
-use Rattle.table.specs.Logic.{_and_, anyBelow, pick}
+use Rattle.sets.specs.Logic.{_and_, anyBelow, pick}
 use Rattle.table.specs.Outcome.{Outcome, _andThen_, demand}
 use Rattle.table.specs.Outcome.Outcome.{accepted, refused}
 use Rattle.table.specs.Layout.{credentials}
 use Rattle.table.specs.Checks.{requestOutcome, told}
 use Rattle.table.specs.declared.Query.{Query}
-use Rattle.automata.specs.Sets.{part}
+use Rattle.sets.specs.Sets.{part}
 use Rattle.search.specs.Search.{provable}
 use Rattle.derivation.specs.Tally.{automataOf}
 use Rattle.listing.specs.declared.Listing.{Listing}

@@ -5,13 +5,13 @@ use mathlib.Core.List.{List, []}
 use mathlib.Core.Bool.{true}
 use Prim.Native.Nat.{ℕ, suc, _-_, _^_, _<_}
 use native.Mathlib.Omega.{arith}
-use Rattle.table.specs.Logic.{_and_}
+use Rattle.sets.specs.Logic.{_and_}
 use Rattle.table.specs.Layout.{credential, credentials}
 use Rattle.table.specs.Checks.{WellFormed}
 use Rattle.table.specs.declared.Goal.{Goal}
 use Rattle.table.specs.declared.Query.{Query}
-use Rattle.automata.specs.Sets.{inSet, part}
-use Rattle.automata.proofs.Members.{members-below, part-member, part-refl, part-shown}
+use Rattle.sets.specs.Sets.{inSet, part}
+use Rattle.sets.proofs.Members.{members-below, part-member, part-refl, part-shown}
 use Rattle.derivation.specs.Forest.{Derives, Forest, names, usedSet, written}
 use Rattle.derivation.specs.Words.{Complies, words}
 use Rattle.derivation.specs.Tally.{automataOf}

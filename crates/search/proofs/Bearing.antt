@@ -9,15 +9,15 @@ use Prim.Native.Nat.{ℕ, suc, _-_}
 use native.Mathlib.Omega.{arith}
 use lib.Bits.{bitOr}
 use borrow.Author.Tests.{eq-eqb, lt-ltb, ne-eqb}
-use Rattle.table.specs.Logic.{_and_, pick}
+use Rattle.sets.specs.Logic.{_and_, pick}
 use Rattle.table.specs.Layout.{Numbered, credential, credentials, parts, role}
 use Rattle.table.specs.declared.Role.{Role}
 use Rattle.table.specs.declared.Goal.{Goal}
 use Rattle.table.specs.declared.Query.{Query}
 use Rattle.table.specs.declared.Credential.{Credential}
-use Rattle.table.proofs.Tests.{and-both, and-first, and-second, false-true, or-first, or-second}
-use Rattle.automata.specs.Sets.{inSet, part}
-use Rattle.automata.proofs.Members.{inSet-zero, part-member, part-or, part-or-left, part-or-right, part-refl, part-shown, part-trans, part-zero, setOf-members}
+use Rattle.sets.proofs.Tests.{and-both, and-first, and-second, false-true, or-first, or-second}
+use Rattle.sets.specs.Sets.{inSet, part}
+use Rattle.sets.proofs.Members.{inSet-zero, part-member, part-or, part-or-left, part-or-right, part-refl, part-shown, part-trans, part-zero, setOf-members}
 use Rattle.derivation.specs.Rules.{asks, goal, goalOf, premises}
 use Rattle.derivation.specs.Forest.{Derives, Forest}
 use Rattle.derivation.specs.Forest.Forest.{node}

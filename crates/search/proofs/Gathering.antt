@@ -12,7 +12,7 @@ use lib.Bits.{bitOr}
 use lib.Dec.{eqb}
 use lib.ListN.{length, take}
 use borrow.Author.Tests.{eq-eqb, eqb-true, ne-eqb, not-false, not-true}
-use Rattle.table.specs.Logic.{_and_, _or_, pick}
+use Rattle.sets.specs.Logic.{_and_, _or_, pick}
 use Rattle.table.specs.Limits.{mostCredentials, mostParts}
 use Rattle.table.specs.Checks.{WellFormed}
 use Rattle.table.specs.Layout.{Numbered, credential, credentials}
@@ -20,10 +20,10 @@ use Rattle.table.specs.Holding.{Holds}
 use Rattle.table.specs.declared.Role.{Role}
 use Rattle.table.specs.declared.Chain.{Chain}
 use Rattle.table.specs.declared.Credential.{Credential}
-use Rattle.table.proofs.Tests.{and-both, and-first, and-is, and-is-off, and-on, and-second, false-true, or-first, or-second}
+use Rattle.sets.proofs.Tests.{and-both, and-first, and-is, and-is-off, and-on, and-second, false-true, or-first, or-second}
 use Rattle.table.proofs.WellFormed.{wf-sized}
-use Rattle.automata.specs.Sets.{inSet, part, setOf}
-use Rattle.automata.proofs.Members.{inSet-or, one-among, one-bit, own-bit, part-antisym, part-le, part-or, part-or-left, part-refl, part-trans, part-zero}
+use Rattle.sets.specs.Sets.{inSet, part, setOf}
+use Rattle.sets.proofs.Members.{inSet-or, one-among, one-bit, own-bit, part-antisym, part-le, part-or, part-or-left, part-refl, part-trans, part-zero}
 use Rattle.search.specs.Relevance.{Asking, ChainThere, Round, allDefined, definers, meant, rolesAsked, withDefiners}
 use Rattle.derivation.proofs.Asking.{chain-there}
 use Rattle.search.proofs.Bearing.{roles-4, with-among, with-grows, with-more}

@@ -11,17 +11,17 @@ use lib.Dec.{eqb, ltb}
 use lib.ListN.{getD, length, length-map, set, take}
 use lib.Seq.{getD-set-other, getD-set-same, getD-take, length-take-le, take-length, take-suc}
 use borrow.Author.Tests.{le-ltb, leb-true, lt-ltb, ltb-true}
-use Rattle.table.specs.Logic.{_and_, _or_, anyBelow, pick}
+use Rattle.sets.specs.Logic.{_and_, _or_, anyBelow, pick}
 use Rattle.table.specs.Limits.{mostCredentials, mostParts}
 use Rattle.table.specs.Checks.{WellFormed, chainOk, within}
 use Rattle.table.specs.Layout.{cell, chain, credential, credentials, parts, role}
 use Rattle.table.specs.declared.Role.{Role}
 use Rattle.table.specs.declared.Chain.{Chain}
 use Rattle.table.specs.declared.Credential.{Credential}
-use Rattle.table.proofs.Tests.{and-assoc, and-both, and-on, and-second}
+use Rattle.sets.proofs.Tests.{and-assoc, and-both, and-on, and-second}
 use Rattle.table.proofs.WellFormed.{wf-sized}
-use Rattle.automata.specs.Sets.{inSet, setOf}
-use Rattle.automata.proofs.Members.{inSet-and, same-members, setOf-members}
+use Rattle.sets.specs.Sets.{inSet, setOf}
+use Rattle.sets.proofs.Members.{inSet-and, same-members, setOf-members}
 use Rattle.search.specs.Relevance.{Asking, ChainThere, Indexed, Place, allDefined, allMet, definers, everyCredential, indexed, met, meant, rolesAsked, withDefiners, withMet, withMetTo}
 use Rattle.search.proofs.Bearing.{roles-1, roles-2, roles-3, roles-4, roles-none}
 use Rattle.search.proofs.Gathering.{chain-whole}

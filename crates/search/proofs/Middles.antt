@@ -9,13 +9,13 @@ use native.Mathlib.Numerals.{add-one}
 use lib.ListN.{take}
 use lib.Dec.{eqb, leb, ltb}
 use borrow.Author.Tests.{eq-eqb, eqb-true, le-leb, leb-true, lt-leb, lt-ltb, le-ltb, ltb-true, ne-eqb}
-use Rattle.table.specs.Logic.{_and_, _or_, anyBelow, pick}
+use Rattle.sets.specs.Logic.{_and_, _or_, anyBelow, pick}
 use Rattle.table.specs.Limits.{mostPrincipals}
 use Rattle.table.specs.Layout.{credential, credentials}
 use Rattle.table.specs.declared.Credential.{Credential}
 use Rattle.table.specs.declared.Goal.{Goal}
-use Rattle.table.proofs.Tests.{and-both, and-first, and-is, and-is-off, and-none, and-second, any-next, any-none, any-on, any-reached, false-true, or-first, or-second, refuted}
-use Rattle.automata.specs.Sets.{inSet}
+use Rattle.sets.proofs.Tests.{and-both, and-first, and-is, and-is-off, and-none, and-second, any-next, any-none, any-on, any-reached, false-true, or-first, or-second, refuted}
+use Rattle.sets.specs.Sets.{inSet}
 use Rattle.derivation.specs.Rules.{premises}
 use Rattle.derivation.specs.Held.{given}
 use Rattle.derivation.specs.declared.Premises.{Premises}

@@ -8,16 +8,16 @@ use Prim.Native.Nat.{ℕ, suc, _-_, _≤_}
 use native.Mathlib.Omega.{arith}
 use lib.Dec.{eqb}
 use borrow.Author.Tests.{eq-eqb, eqb-true}
-use Rattle.table.specs.Logic.{_or_, pick}
+use Rattle.sets.specs.Logic.{_or_, pick}
 use Rattle.table.specs.Limits.{mostPrincipals}
 use Rattle.table.specs.Layout.{Numbered, credential, credentials, parts}
 use Rattle.table.specs.Checks.{WellFormed}
 use Rattle.table.specs.declared.Principal.{Principal}
 use Rattle.table.specs.declared.Role.{Role}
 use Rattle.table.specs.declared.Goal.{Goal}
-use Rattle.table.proofs.Tests.{and-both, any-reached, false-true, or-either, or-first, or-second}
+use Rattle.sets.proofs.Tests.{and-both, any-reached, false-true, or-either, or-first, or-second}
 use Rattle.table.proofs.WellFormed.{wf-chain}
-use Rattle.automata.specs.Sets.{inSet}
+use Rattle.sets.specs.Sets.{inSet}
 use Rattle.derivation.specs.Rules.{goal, premises}
 use Rattle.derivation.specs.Forest.{Derives, Forest}
 use Rattle.derivation.specs.Forest.Derives.{done, step}

@@ -11,7 +11,7 @@ use Rattle.table.specs.Layout.{Numbered, credential, name, parts, principal, ro
 use Rattle.table.specs.declared.Role.{Role}
 use Rattle.table.specs.declared.Credential.{Credential}
 use Rattle.table.specs.declared.Goal.{Goal}
-use Rattle.table.proofs.Tests.{and-first, and-second}
+use Rattle.sets.proofs.Tests.{and-first, and-second}
 use Rattle.table.proofs.Fields.{principal-range}
 use Rattle.derivation.specs.Rules.{asks, goal, premises}
 use Rattle.derivation.proofs.Asking.{asks-1, asks-2, asks-3, asks-4, asks-none}

@@ -11,20 +11,20 @@ use native.Mathlib.Decide.{decLt}
 use lib.ListN.{length}
 use lib.Dec.{eqb}
 use borrow.Author.Tests.{ne-eqb, lt-leb, le-leb, le-ltb}
-use Rattle.table.specs.Logic.{_and_, pick}
+use Rattle.sets.specs.Logic.{_and_, pick}
 use Rattle.table.specs.Limits.{mostPrincipals}
 use Rattle.table.specs.Layout.{automata, credential, credentials, role}
 use Rattle.table.specs.Checks.{WellFormed, within}
 use Rattle.table.specs.declared.Role.{Role}
 use Rattle.table.specs.declared.Goal.{Goal}
 use Rattle.table.specs.declared.Query.{Query}
-use Rattle.table.proofs.Tests.{and-both, and-first, and-second, and-true, any-reached, any-shows, false-true}
+use Rattle.sets.proofs.Tests.{and-both, and-first, and-second, and-true, any-reached, any-shows, false-true}
 use Rattle.table.proofs.WellFormed.{wf-sized}
-use Rattle.automata.specs.Sets.{inSet, meets, part}
+use Rattle.sets.specs.Sets.{inSet, meets, part}
 use Rattle.automata.specs.Automata.{accepts, acceptsFrom, starting}
 use Rattle.automata.specs.Together.{acceptingSet, movedSets}
 use Rattle.automata.specs.declared.StateSets.{StateSets}
-use Rattle.automata.proofs.Members.{part-member, part-shown, setOf-members}
+use Rattle.sets.proofs.Members.{part-member, part-shown, setOf-members}
 use Rattle.automata.proofs.Moves.{run-empty}
 use Rattle.derivation.specs.Rules.{asks, fresh, goal, goalOf, premises}
 use Rattle.derivation.specs.Forest.{Derives, Forest, names}

@@ -11,14 +11,14 @@ use lib.Seq.{length-take-le}
 use lib.Bits.{bitAnd}
 use lib.Dec.{eqb}
 use borrow.Author.Tests.{eq-eqb, eqb-true, ne-eqb}
-use Rattle.table.specs.Logic.{_and_, anyBelow, pick}
+use Rattle.sets.specs.Logic.{_and_, anyBelow, pick}
 use Rattle.table.specs.Limits.{mostDepth}
 use Rattle.table.specs.Layout.{Numbered, credential, credentials, principal, sameRole}
 use Rattle.table.specs.declared.Credential.{Credential}
 use Rattle.table.specs.declared.Goal.{Goal}
 use Rattle.table.specs.declared.Query.{Query}
-use Rattle.table.proofs.Tests.{and-both, and-first, and-is, and-is-off, and-none, and-second, any-all, any-next, any-reached, any-shows, false-true, refuted}
-use Rattle.automata.specs.Sets.{inSet, part}
+use Rattle.sets.proofs.Tests.{and-both, and-first, and-is, and-is-off, and-none, and-second, any-all, any-next, any-reached, any-shows, false-true, refuted}
+use Rattle.sets.specs.Sets.{inSet, part}
 use Rattle.automata.specs.Together.{acceptingSet, movedSets, startingSets}
 use Rattle.automata.specs.declared.StateSets.{StateSets}
 use Rattle.derivation.specs.Rules.{fresh, goal, goalOf}

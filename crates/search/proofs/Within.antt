@@ -3,8 +3,8 @@ use mathlib.Core.Path.{_≡_, refl}
 use mathlib.Core.Bool.{true}
 use Prim.Native.Nat.{ℕ, _-_}
 use borrow.Author.Tests.{eq-eqb, eqb-true}
-use Rattle.table.proofs.Tests.{false-true, or-either, or-first, or-second}
-use Rattle.automata.specs.Sets.{inSet}
+use Rattle.sets.proofs.Tests.{false-true, or-either, or-first, or-second}
+use Rattle.sets.specs.Sets.{inSet}
 use Rattle.derivation.specs.Forest.{Forest, names}
 use Rattle.derivation.specs.Forest.Forest.{end, node}
 use Rattle.search.specs.Search.{UsesOnly}

@@ -7,7 +7,7 @@ use mathlib.Core.Bool.{Bool, true, not}
 use lib.ListN.{getD, length, take}
 use lib.Bits.{bitAnd, bitOr}
 use lib.Dec.{eqb, ltb}
-use Rattle.table.specs.Logic.{_and_, _or_, anyBelow, pick}
+use Rattle.sets.specs.Logic.{_and_, _or_, anyBelow, pick}
 use Rattle.table.specs.Limits.{mostCredentials, mostParts}
 use Rattle.table.specs.Layout.{Numbered, cells, credential, credentials, name, parts, role}
 use Rattle.table.specs.Checks.{chainOk}
@@ -15,7 +15,7 @@ use Rattle.table.specs.declared.Role.{Role}
 use Rattle.table.specs.declared.Query.{Query}
 use Rattle.table.specs.declared.Chain.{Chain}
 use Rattle.table.specs.declared.Credential.{Credential}
-use Rattle.automata.specs.Sets.{inSet, part, setOf}
+use Rattle.sets.specs.Sets.{inSet, part, setOf}
 use Rattle.derivation.specs.Rules.{goalOf}
 use Rattle.derivation.specs.Forest.{Derives, Forest}
 use Rattle.search.specs.Search.{UsesOnly}

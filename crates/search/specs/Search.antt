@@ -8,13 +8,13 @@ use mathlib.Core.Bool.{Bool, true, false}
 use mathlib.Core.Option.{Option, none, some}
 use lib.ListN.{getD, length}
 use lib.Dec.{eqb, leb, ltb}
-use Rattle.table.specs.Logic.{_and_, anyBelow, pick}
+use Rattle.sets.specs.Logic.{_and_, anyBelow, pick}
 use Rattle.table.specs.Limits.{mostPrincipals}
 use Rattle.table.specs.Layout.{credential, credentials, sameRole}
 use Rattle.table.specs.declared.Credential.{Credential}
 use Rattle.table.specs.declared.Goal.{Goal}
 use Rattle.table.specs.declared.Query.{Query}
-use Rattle.automata.specs.Sets.{inSet, part}
+use Rattle.sets.specs.Sets.{inSet, part}
 use Rattle.automata.specs.Together.{acceptingSet, movedSets, startingSets}
 use Rattle.automata.specs.declared.StateSets.{StateSets}
 use Rattle.derivation.specs.Rules.{fresh, goalOf, premises}

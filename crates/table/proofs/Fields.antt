@@ -7,7 +7,7 @@ use native.Mathlib.Omega.{arith}
 use native.Mathlib.Decide.{ℕ-discrete, decLe}
 use lib.Dec.{eqb, leb, ltb}
 use borrow.Author.Tests.{leb-true, ltb-true, eqb-true}
-use Rattle.table.specs.Logic.{_and_, _or_}
+use Rattle.sets.specs.Logic.{_and_, _or_}
 use Rattle.table.specs.Limits.{mostPrincipals, mostNames, lastState}
 use Rattle.table.specs.Layout.{Numbered, principal, name}
 use Rattle.table.specs.Checks.{within, isPrincipal, isName, isRole, meaningOk, credentialOk, cellOk, labelOk, edgeOk}
@@ -15,7 +15,7 @@ use Rattle.table.specs.declared.Role.{Role}
 use Rattle.table.specs.declared.Credential.{Credential}
 use Rattle.table.specs.declared.Cell.{Cell}
 use Rattle.table.specs.declared.Edge.{Edge}
-use Rattle.table.proofs.Tests.{and-parts, or-either, false-true}
+use Rattle.sets.proofs.Tests.{and-parts, or-either, false-true}
 use Rattle.table.proofs.Meanings.{kind-1, kind-2, kind-3, kind-4, kind-none, label-1, label-2, label-3, label-none}
 
 pub record RoleRange (r : Role) : Type 0 where

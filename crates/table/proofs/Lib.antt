@@ -1,5 +1,4 @@
 -- Laws that belong to no one function; crates above cite those marked `pub mod`.
-pub mod Tests
 pub mod Meanings
 pub mod Fields
 pub mod Stages

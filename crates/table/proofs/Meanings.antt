@@ -4,7 +4,7 @@ use mathlib.Core.Bool.{false}
 use Prim.Native.Nat.{ℕ}
 use lib.Dec.{eqb}
 use borrow.Author.Tests.{ne-eqb}
-use Rattle.table.specs.Logic.{_and_, pick}
+use Rattle.sets.specs.Logic.{_and_, pick}
 use Rattle.table.specs.Layout.{principal, name}
 use Rattle.table.specs.Checks.{isPrincipal, isName, isRole, within, meaningOk, labelOk}
 use Rattle.table.specs.declared.Role.{Role}

@@ -12,7 +12,7 @@ use Rattle.table.specs.Holding.{Counted, Sized}
 use Rattle.table.specs.Layout.{cellsBase, automataBase, edgesBase}
 use Rattle.table.specs.Layout.{headSize, credentialSize, cellSize, automatonSize, edgeSize}
 use Rattle.table.specs.Checks.{countsOk, headOutcome}
-use Rattle.table.proofs.Tests.{and-parts}
+use Rattle.sets.proofs.Tests.{and-parts}
 use Rattle.table.proofs.Stages.{then-first, then-second, demand-true}
 
 pub counted : (t : List ℕ) → headSize ≤ length t → countsOk t ≡ true → Counted t

@@ -6,7 +6,7 @@ use mathlib.Core.List.{List}
 use mathlib.Core.Bool.{Bool, true, false}
 use lib.ListN.{length}
 use lib.Dec.{eqb, leb, ltb}
-use Rattle.table.specs.Logic.{_and_, _or_, pick}
+use Rattle.sets.specs.Logic.{_and_, _or_, pick}
 use Rattle.table.specs.Outcome.{Outcome, _andThen_, demand, demandEach}
 use Rattle.table.specs.Outcome.Outcome.{accepted, refused}
 use Rattle.table.specs.Limits.{mostCredentials, mostCells, mostAutomata, mostEdges, mostPrincipals, mostNames, lastState, leastParts, mostParts, mostDepth}

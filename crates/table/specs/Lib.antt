@@ -1,4 +1,3 @@
-pub mod Logic
 pub mod Outcome
 pub mod Limits
 pub mod Layout

@@ -3,7 +3,7 @@
 use mathlib.Core.Logic.{⊎-elim}
 use native.Mathlib.Omega.{arith}
 use denote.Ref.{now}
-use Rattle.table.proofs.Tests.{failed, passed}
+use Rattle.sets.proofs.Tests.{failed, passed}
 use Rattle.search.specs.Relevance.{Indexed}
 use Rattle.listing.proofs.Finding.{upto-length}
 use Rattle.listing.proofs.Halving.{Halfway, Split, block-ends, few, halfway-met, in-asked, in-included, in-through, in-unmet, out-asked, out-full, out-none, unusable-asked, unusable-ends}

@@ -6,9 +6,9 @@ use native.Mathlib.Omega.{arith}
 use lib.ListN.{getD}
 use borrow.Author.Needs.{needs}
 use borrow.Author.Tests.{eq-eqb, ne-eqb}
-use Rattle.table.specs.Logic.{anyBelow}
-use Rattle.table.proofs.Tests.{any-next, any-reached}
-use Rattle.automata.specs.Sets.{part}
+use Rattle.sets.specs.Logic.{anyBelow}
+use Rattle.sets.proofs.Tests.{any-next, any-reached}
+use Rattle.sets.specs.Sets.{part}
 use Rattle.listing.proofs.is_any_part.Statement.{statement}
 use Rattle.listing.proofs.is_any_part.Tie as tie
 

@@ -1,8 +1,8 @@
 -- `listing::is_promising` meets its contract: the two tests, one after the other. Assumes nothing.
 use mathlib.Core.Path.{sym, _∙_}
 use borrow.Author.Tests.{eq-eqb, ne-eqb}
-use Rattle.table.proofs.Tests.{and-is-off, and-is}
-use Rattle.automata.specs.Sets.{part}
+use Rattle.sets.proofs.Tests.{and-is-off, and-is}
+use Rattle.sets.specs.Sets.{part}
 use Rattle.listing.specs.Below.{promising}
 use borrow.Author.Needs.{needs}
 use Rattle.listing.proofs.is_promising.Statement.{statement}

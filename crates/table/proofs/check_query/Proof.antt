@@ -3,7 +3,7 @@ use mathlib.Core.Bool.{true}
 use mathlib.Core.Path.{_≡_}
 use borrow.Author.Needs.{needs}
 use Rattle.table.proofs.Queries.{depth-refused, name-refused, owner-refused, principal-refused, query-valid}
-use Rattle.table.proofs.Tests.{failed, passed}
+use Rattle.sets.proofs.Tests.{failed, passed}
 use Rattle.table.specs.Checks.{isName, isPrincipal, queryTold}
 use Rattle.table.proofs.check_query.Statement.{statement}
 use Rattle.table.proofs.check_query.Tie as tie

@@ -6,7 +6,7 @@ use Prim.Native.Nat.{_-_, _≤_}
 use native.Mathlib.Omega.{arith}
 use borrow.Author.Needs.{needs}
 use Rattle.automata.proofs.Together.{accepting-all, accepting-more, accepting-same, acceptsAt}
-use Rattle.automata.specs.Sets.{setOf}
+use Rattle.sets.specs.Sets.{setOf}
 use Rattle.table.proofs.WellFormed.{wf-sized}
 use Rattle.table.specs.Limits.{mostAutomata}
 use Rattle.automata.proofs.StateSets.accepting.Statement.{statement}

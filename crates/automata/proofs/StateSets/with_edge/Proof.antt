@@ -2,7 +2,7 @@
 -- matches. Assumes nothing.
 use borrow.Author.Needs.{needs}
 use Rattle.automata.proofs.Labels.{edge-elsewhere, edge-leads, edge-unmatched}
-use Rattle.table.proofs.Tests.{failed, passed}
+use Rattle.sets.proofs.Tests.{failed, passed}
 use Rattle.automata.proofs.StateSets.with_edge.Statement.{statement}
 use Rattle.automata.proofs.StateSets.with_edge.Tie as tie
 

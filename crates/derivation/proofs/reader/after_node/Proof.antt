@@ -1,7 +1,7 @@
 -- `derivation::reader::after_node` meets its contract: a node that asks nothing ends a word. Assumes nothing.
 use borrow.Author.Needs.{needs}
 use borrow.Author.Tests.{eq-eqb, ne-eqb}
-use Rattle.table.specs.Logic.{pick}
+use Rattle.sets.specs.Logic.{pick}
 use Rattle.derivation.proofs.reader.after_node.Statement.{statement}
 use Rattle.derivation.proofs.reader.after_node.Tie as tie
 

@@ -6,8 +6,8 @@ use lib.ListN.{getD, take}
 use borrow.Author.Needs.{needs}
 use borrow.Author.Tests.{not-false, not-true}
 use denote.Ref.{now}
-use Rattle.table.specs.Logic.{pick}
-use Rattle.table.proofs.Tests.{failed, passed}
+use Rattle.sets.specs.Logic.{pick}
+use Rattle.sets.proofs.Tests.{failed, passed}
 use Rattle.derivation.specs.Held.{stepped}
 use Rattle.derivation.specs.Rules.{premises}
 use Rattle.derivation.proofs.Entering.{entry-asks, entry-closed, entry-short, entry-unfit}

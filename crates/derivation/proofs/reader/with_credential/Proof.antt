@@ -2,7 +2,7 @@
 use Prim.Native.Nat.{_-_}
 use native.Mathlib.Omega.{arith}
 use borrow.Author.Needs.{needs}
-use Rattle.automata.proofs.Members.{one-bit}
+use Rattle.sets.proofs.Members.{one-bit}
 use Rattle.derivation.proofs.reader.with_credential.Statement.{statement}
 use Rattle.derivation.proofs.reader.with_credential.Tie as tie
 

@@ -3,7 +3,7 @@ use mathlib.Core.Path.{refl}
 use native.Mathlib.Omega.{arith}
 use borrow.Author.Needs.{needs}
 use borrow.Author.Tests.{eq-eqb, ne-eqb}
-use Rattle.table.specs.Logic.{pick}
+use Rattle.sets.specs.Logic.{pick}
 use Rattle.derivation.specs.Held.{given}
 use Rattle.derivation.proofs.Asking.{answer-is, when-off, when-on}
 use Rattle.derivation.proofs.rules.containment.Statement.{statement}

@@ -5,7 +5,7 @@ use Prim.Native.Nat.{_-_, _≤_}
 use native.Mathlib.Omega.{arith}
 use borrow.Author.Needs.{needs}
 use borrow.Author.Tests.{eq-eqb, ne-eqb}
-use Rattle.table.specs.Logic.{pick}
+use Rattle.sets.specs.Logic.{pick}
 use Rattle.derivation.specs.Held.{given}
 use Rattle.derivation.proofs.Asking.{Asked, answer-is, asked-all, asked-more, asked-none, when-off, when-on}
 use Rattle.derivation.proofs.rules.intersection.Statement.{statement}

@@ -2,7 +2,7 @@
 use mathlib.Core.Path.{refl}
 use native.Mathlib.Omega.{arith}
 use borrow.Author.Needs.{needs}
-use Rattle.table.specs.Logic.{pick}
+use Rattle.sets.specs.Logic.{pick}
 use Rattle.derivation.specs.Held.{given}
 use Rattle.derivation.proofs.Asking.{answer-is, principal-none, principal-over, principal-there, when-off, when-on}
 use Rattle.derivation.proofs.rules.linking.Statement.{statement}

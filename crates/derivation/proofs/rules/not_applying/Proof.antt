@@ -1,7 +1,7 @@
 -- `derivation::rules::not_applying` meets its contract: it says that nothing applies. Assumes nothing.
 use mathlib.Core.Path.{refl}
 use native.Mathlib.Omega.{arith}
-use Rattle.table.specs.Logic.{pick}
+use Rattle.sets.specs.Logic.{pick}
 use Rattle.derivation.specs.Held.{given}
 use Rattle.derivation.proofs.rules.not_applying.Statement.{statement}
 use Rattle.derivation.proofs.rules.not_applying.Tie as tie

@@ -6,7 +6,7 @@ use borrow.Author.Needs.{needs}
 use denote.Ref.{now}
 use Rattle.table.specs.Layout.{Numbered, credential, credentials}
 use Rattle.table.specs.declared.Role.{Role}
-use Rattle.table.proofs.Tests.{failed, passed}
+use Rattle.sets.proofs.Tests.{failed, passed}
 use Rattle.table.proofs.WellFormed.{wf-sized}
 use Rattle.derivation.specs.Rules.{asks, intersectionAsks, premises}
 use Rattle.derivation.proofs.Asking.{answer-is, asks-1, asks-2, asks-3, asks-4, asks-none}

@@ -1,8 +1,8 @@
 -- `derivation::words::is_kept` meets its contract: the two sets are asked for the automaton. Assumes nothing.
 use borrow.Author.Needs.{needs}
 use borrow.Author.Tests.{eq-eqb, ne-eqb}
-use Rattle.table.specs.Logic.{_or_}
-use Rattle.automata.specs.Sets.{inSet}
+use Rattle.sets.specs.Logic.{_or_}
+use Rattle.sets.specs.Sets.{inSet}
 use Rattle.derivation.proofs.words.is_kept.Statement.{statement}
 use Rattle.derivation.proofs.words.is_kept.Tie as tie
 

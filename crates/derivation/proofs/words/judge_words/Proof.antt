@@ -10,7 +10,7 @@ use Rattle.table.specs.Layout.{automata}
 use Rattle.table.specs.Outcome.{demandEach}
 use Rattle.table.specs.Outcome.Outcome.{accepted}
 use Rattle.table.proofs.Stages.{each-passes, each-stops, each-through, then-on}
-use Rattle.table.proofs.Tests.{failed, passed}
+use Rattle.sets.proofs.Tests.{failed, passed}
 use Rattle.table.proofs.WellFormed.{wf-sized}
 use Rattle.derivation.specs.Tally.{keeps}
 use Rattle.derivation.specs.Verdict.{verdictTold}

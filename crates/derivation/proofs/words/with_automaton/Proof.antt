@@ -3,8 +3,8 @@ use Prim.Native.Nat.{_-_}
 use native.Mathlib.Omega.{arith}
 use borrow.Author.Needs.{needs}
 use borrow.Author.Tests.{eq-eqb, ne-eqb}
-use Rattle.table.specs.Logic.{_and_, pick}
-use Rattle.automata.proofs.Members.{one-bit}
+use Rattle.sets.specs.Logic.{_and_, pick}
+use Rattle.sets.proofs.Members.{one-bit}
 use Rattle.derivation.proofs.words.with_automaton.Statement.{statement}
 use Rattle.derivation.proofs.words.with_automaton.Tie as tie
 

@@ -2,16 +2,16 @@
 -- that what it has tried so far does not prove the goal, or, over the premises, that each of them is proved. Assumes nothing.
 use Prim.Native.Nat.{_*_, _+_, _-_, _≤_}
 use Rattle.automata.specs.Together.{acceptingSet}
-use Rattle.automata.specs.Sets.{part}
+use Rattle.sets.specs.Sets.{part}
 use Rattle.search.proofs.Middles.{AtMiddle, middle-found, middle-next, middle-over, middle-starts, proved-given, proved-none}
 use Rattle.search.proofs.Trying.{Entered, every-asked, every-more, goal-again, goal-decided, level-none, next-numbered, one-deeper, proved-all, proved-not, proves-here, provesAt, room-all, room-for, unproved-next, unused-next, word-proved}
 use Rattle.derivation.specs.Held.{above}
 use Rattle.derivation.specs.Rules.{goal, premises}
 use Rattle.search.specs.Search.{everyGoal, proves}
-use Rattle.table.proofs.Tests.{any-all, failed, passed}
+use Rattle.sets.proofs.Tests.{any-all, failed, passed}
 use Rattle.table.proofs.WellFormed.{wf-sized}
 use Rattle.table.specs.Limits.{mostPrincipals}
-use Rattle.table.specs.Logic.{anyBelow}
+use Rattle.sets.specs.Logic.{anyBelow}
 use lib.ListN.{take}
 use mathlib.Core.Bool.{false, true}
 use mathlib.Core.Logic.{⊎-elim}

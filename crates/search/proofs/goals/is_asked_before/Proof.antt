@@ -1,8 +1,8 @@
 -- `search::goals::is_asked_before`: none of the goals before j is goal i. Assumes that i is the number of a goal.
 use Prim.Native.Nat.{_-_, _≤_}
 use Rattle.search.proofs.Trying.{asked-here, asked-nowhere, isNamed}
-use Rattle.table.specs.Logic.{anyBelow}
-use Rattle.table.proofs.Tests.{any-next}
+use Rattle.sets.specs.Logic.{anyBelow}
+use Rattle.sets.proofs.Tests.{any-next}
 use borrow.Author.Needs.{needs}
 use mathlib.Core.Bool.{false}
 use mathlib.Core.Path.{_∙_, _≡_, refl, sym}

@@ -1,8 +1,8 @@
 -- `search::goals::may_use`: the credential is in the set, and its role is the goal's. Assumes an accepted table and a credential of it.
-use Rattle.automata.specs.Sets.{inSet}
+use Rattle.sets.specs.Sets.{inSet}
 use Rattle.search.proofs.Trying.{uses-role}
 use Rattle.search.specs.Search.{mayUse}
-use Rattle.table.proofs.Tests.{and-is-off}
+use Rattle.sets.proofs.Tests.{and-is-off}
 use Rattle.table.proofs.WellFormed.{wf-sized}
 use borrow.Author.Tests.{ne-eqb}
 use mathlib.Core.Path.{sym}

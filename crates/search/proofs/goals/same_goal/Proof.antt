@@ -1,6 +1,6 @@
 -- `search::goals::same_goal`: equal principals and equal roles, tested one after the other. Assumes nothing.
 use Rattle.search.specs.Search.{sameGoal}
-use Rattle.table.proofs.Tests.{and-is-off, and-on}
+use Rattle.sets.proofs.Tests.{and-is-off, and-on}
 use borrow.Author.Tests.{eq-eqb, ne-eqb}
 use mathlib.Core.Path.{_∙_, sym}
 use borrow.Author.Needs.{needs}

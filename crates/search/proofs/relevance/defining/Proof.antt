@@ -3,7 +3,7 @@
 use mathlib.Core.Path.{_∙_, _≡_, refl}
 use Prim.Native.Nat.{_-_, _≤_}
 use native.Mathlib.Omega.{arith}
-use Rattle.automata.specs.Sets.{setOf}
+use Rattle.sets.specs.Sets.{setOf}
 use denote.Ref.{now}
 use Rattle.table.specs.Layout.{credentials}
 use Rattle.table.proofs.WellFormed.{wf-sized}

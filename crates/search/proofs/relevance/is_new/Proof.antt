@@ -1,8 +1,8 @@
 -- `search::relevance::is_new` meets its contract: both sets are looked at. Assumes nothing.
 use mathlib.Core.Path.{refl, sym}
 use borrow.Author.Tests.{eq-eqb, ne-eqb}
-use Rattle.table.proofs.Tests.{and-is, and-is-off}
-use Rattle.automata.specs.Sets.{inSet}
+use Rattle.sets.proofs.Tests.{and-is, and-is-off}
+use Rattle.sets.specs.Sets.{inSet}
 use borrow.Author.Needs.{needs}
 use Rattle.search.proofs.relevance.is_new.Statement.{statement}
 use Rattle.search.proofs.relevance.is_new.Tie as tie

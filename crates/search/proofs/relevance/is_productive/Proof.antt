@@ -7,8 +7,8 @@ use denote.Ref.{now}
 use lib.ListN.{getD}
 use lib.Dec.{eqb}
 use borrow.Author.Tests.{eq-eqb, ne-eqb}
-use Rattle.table.specs.Logic.{anyBelow}
-use Rattle.table.proofs.Tests.{any-next, any-reached}
+use Rattle.sets.specs.Logic.{anyBelow}
+use Rattle.sets.proofs.Tests.{any-next, any-reached}
 use Rattle.search.specs.Relevance.{allMet, met}
 use borrow.Author.Needs.{needs}
 use Rattle.search.proofs.relevance.is_productive.Statement.{statement}

@@ -1,6 +1,6 @@
 -- `table::Role::same` meets its contract: the owners are compared, then the names. Assumes nothing.
 use borrow.Author.Tests.{eq-eqb, ne-eqb}
-use Rattle.table.proofs.Tests.{and-off, and-on}
+use Rattle.sets.proofs.Tests.{and-off, and-on}
 use Rattle.table.specs.Layout.{sameRole}
 use Rattle.table.proofs.Role.same.Statement.{statement}
 use Rattle.table.proofs.Role.same.Tie as tie

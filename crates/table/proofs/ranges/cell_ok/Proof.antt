@@ -3,7 +3,7 @@ use mathlib.Core.Path.{_∙_, ap}
 use lib.Dec.{ltb}
 use borrow.Author.Needs.{needs}
 use borrow.Author.Tests.{eq-eqb, le-ltb, lt-ltb, ne-eqb}
-use Rattle.table.proofs.Tests.{flag-off, flag-on, or-off, or-on}
+use Rattle.sets.proofs.Tests.{flag-off, flag-on, or-off, or-on}
 use Rattle.table.specs.Checks.{cellOk}
 use Rattle.table.proofs.ranges.cell_ok.Statement.{statement}
 use Rattle.table.proofs.ranges.cell_ok.Tie as tie

@@ -1,7 +1,7 @@
 -- `table::ranges::credential_ok` meets its contract: the role, what the kind allows, then the automaton. Assumes nothing.
 use mathlib.Core.Path.{_∙_}
 use borrow.Author.Needs.{needs}
-use Rattle.table.proofs.Tests.{flag-off, flag-on}
+use Rattle.sets.proofs.Tests.{flag-off, flag-on}
 use Rattle.table.specs.Checks.{credentialOk}
 use Rattle.table.proofs.ranges.credential_ok.Statement.{statement}
 use Rattle.table.proofs.ranges.credential_ok.Tie as tie

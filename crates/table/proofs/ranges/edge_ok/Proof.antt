@@ -2,7 +2,7 @@
 use mathlib.Core.Path.{_∙_}
 use borrow.Author.Needs.{needs}
 use borrow.Author.Tests.{le-leb, lt-leb}
-use Rattle.table.proofs.Tests.{and-off, and-on, flag-off, flag-on}
+use Rattle.sets.proofs.Tests.{and-off, and-on, flag-off, flag-on}
 use Rattle.table.specs.Checks.{edgeOk}
 use Rattle.table.proofs.ranges.edge_ok.Statement.{statement}
 use Rattle.table.proofs.ranges.edge_ok.Tie as tie

@@ -1,7 +1,7 @@
 -- `table::ranges::is_role` meets its contract: the owner is tested, then the name. Assumes nothing.
 use mathlib.Core.Path.{_∙_}
 use borrow.Author.Needs.{needs}
-use Rattle.table.proofs.Tests.{flag-off, flag-on}
+use Rattle.sets.proofs.Tests.{flag-off, flag-on}
 use Rattle.table.specs.Checks.{isName, isRole}
 use Rattle.table.proofs.ranges.is_role.Statement.{statement}
 use Rattle.table.proofs.ranges.is_role.Tie as tie

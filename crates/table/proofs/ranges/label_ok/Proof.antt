@@ -3,7 +3,7 @@ use mathlib.Core.Path.{_∙_, sym}
 use borrow.Author.Needs.{needs}
 use borrow.Author.Tests.{eq-eqb, ne-eqb}
 use Rattle.table.proofs.Meanings.{label-1, label-2, label-3, label-none}
-use Rattle.table.proofs.Tests.{and-off, and-on}
+use Rattle.sets.proofs.Tests.{and-off, and-on}
 use Rattle.table.proofs.ranges.label_ok.Statement.{statement}
 use Rattle.table.proofs.ranges.label_ok.Tie as tie
 

@@ -2,7 +2,7 @@
 use mathlib.Core.Path.{_∙_, sym}
 use borrow.Author.Needs.{needs}
 use Rattle.table.proofs.Meanings.{kind-1, kind-2, kind-3, kind-4, kind-none}
-use Rattle.table.proofs.Tests.{flag-off, flag-on}
+use Rattle.sets.proofs.Tests.{flag-off, flag-on}
 use Rattle.table.proofs.ranges.meaning_ok.Statement.{statement}
 use Rattle.table.proofs.ranges.meaning_ok.Tie as tie
 

@@ -1,7 +1,7 @@
 -- `table::ranges::within` meets its contract: each test decides its part. Assumes nothing.
 use borrow.Author.Tests.{le-leb, lt-leb}
 use Rattle.table.specs.Checks.{within}
-use Rattle.table.specs.Logic.{_and_}
+use Rattle.sets.specs.Logic.{_and_}
 use Rattle.table.proofs.ranges.within.Statement.{statement}
 use Rattle.table.proofs.ranges.within.Tie as tie
 

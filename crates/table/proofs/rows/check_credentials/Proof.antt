@@ -6,7 +6,7 @@ use native.Mathlib.Omega.{arith}
 use borrow.Author.Needs.{needs}
 use Rattle.table.proofs.Accepted.{credential-judged}
 use Rattle.table.proofs.Stages.{each-passes, each-stops, each-through}
-use Rattle.table.proofs.Tests.{failed, passed}
+use Rattle.sets.proofs.Tests.{failed, passed}
 use Rattle.table.specs.Checks.{credentialsOutcome, goodCredential, tableTold, told}
 use Rattle.table.specs.Outcome.{demandEach}
 use Rattle.table.specs.Outcome.Outcome.{accepted}

@@ -4,7 +4,7 @@ use borrow.Author.Needs.{needs}
 use borrow.Author.Tests.{eq-eqb, le-leb, lt-leb, ne-eqb}
 use Rattle.table.proofs.Sizes.{counted}
 use Rattle.table.proofs.Stages.{demand-off, demand-on, demand-passes, demand-stops}
-use Rattle.table.proofs.Tests.{failed, passed}
+use Rattle.sets.proofs.Tests.{failed, passed}
 use Rattle.table.specs.Checks.{headOutcome, tableTold}
 use Rattle.table.proofs.rows.check_head.Statement.{statement}
 use Rattle.table.proofs.rows.check_head.Tie as tie

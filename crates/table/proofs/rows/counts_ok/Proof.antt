@@ -2,7 +2,7 @@
 use mathlib.Core.Path.{_∙_}
 use borrow.Author.Needs.{needs}
 use borrow.Author.Tests.{le-leb, lt-leb}
-use Rattle.table.proofs.Tests.{and-off, and-on}
+use Rattle.sets.proofs.Tests.{and-off, and-on}
 use Rattle.table.specs.Checks.{countsOk}
 use Rattle.table.proofs.rows.counts_ok.Statement.{statement}
 use Rattle.table.proofs.rows.counts_ok.Tie as tie

@@ -6,7 +6,7 @@ use native.Mathlib.Omega.{arith}
 use native.Mathlib.Decide.{ℕ-discrete}
 use lib.Dec.{ltb}
 use borrow.Author.Tests.{ltb-false, ltb-true, not-true, not-false}
-use Rattle.table.specs.Logic.{_and_, _or_, anyBelow, pick}
+use Rattle.sets.specs.Logic.{_and_, _or_, anyBelow, pick}
 
 -- what `if !flag { .. }` tells of p, in its body and after it
 pub failed : {flag p : Bool} → flag ≡ p → not flag ≡ true → p ≡ false

@@ -11,10 +11,10 @@ use lib.Bits.{bitAnd, bitOr, and-le-r, and-shr, and-mod, or-lt, or-shr, or-mod}
 use lib.Pow.{pow-lt, pow-mono}
 use lib.Dec.{eqb, ltb, eqb·zero-suc, eqb·suc-zero, eqb·suc-suc}
 use borrow.Author.Tests.{ne-eqb, eq-eqb, eqb-true, eqb-false, not-true, ltb-true, ltb-false, lt-ltb, le-ltb}
-use Rattle.table.specs.Logic.{_and_, _or_, pick}
-use Rattle.table.proofs.Tests.{and-false, and-first, and-is, and-is-off, and-second, and-true, false-true}
-use Rattle.table.proofs.Tests.{or-either, or-false, or-first, or-second}
-use Rattle.automata.specs.Sets.{inSet, meets, part, setOf}
+use Rattle.sets.specs.Logic.{_and_, _or_, pick}
+use Rattle.sets.proofs.Tests.{and-false, and-first, and-is, and-is-off, and-second, and-true, false-true}
+use Rattle.sets.proofs.Tests.{or-either, or-false, or-first, or-second}
+use Rattle.sets.specs.Sets.{inSet, meets, part, setOf}
 
 -- state 0 is the lowest digit, and the states after it are the other digits
 member-first : (x : ℕ) → inSet x 0 ≡ eqb (x % 2) 1
