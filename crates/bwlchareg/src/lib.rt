@@ -1,6 +1,5 @@
 // The C interface. A slice is a pointer and a length. Each call returns 0 or document 01's refusal number, and writes the
 // position, or on 0 the value that the call returns: 0 where there is none. bindings/c/bwlchareg.h has the promises in words.
-use derivation::Verdict;
 use listing::Listing;
 use table::Name;
 use table::Principal;
@@ -8,11 +7,12 @@ use table::Query;
 use table::QueryCheck;
 use table::Refusal;
 use table::TableCheck;
+use verifier::Verdict;
 ghost use mathlib.Core.Path.{_≡_};
 ghost use lib.ListN.{length};
 ghost use Rattle.table.specs.Outcome.{Outcome};
 ghost use Rattle.table.specs.Checks.{asQuery, requestOutcome, tableOutcome, told};
-ghost use Rattle.derivation.specs.Verdict.{verdict};
+ghost use Rattle.verifier.specs.Verdict.{verdict};
 ghost use Rattle.listing.specs.Minimal.{bufferAfter, listing};
 ghost use Rattle.bwlchareg.specs.Answer.{answered};
 
@@ -82,7 +82,7 @@ pub extern "C" fn bwlchareg_verify(
         ≡ verdict (now (table .entry)) (asQuery principal owner name depth) (now (rec .entry)) ⌝ }
 {
     let query = query_of(principal, owner, name, depth);
-    match derivation::verify(table, query, rec) {
+    match verifier::verify(table, query, rec) {
         Verdict::Accepted(used) => accept(used as u64, value),
         Verdict::Refused(why) => refuse(why, value),
     }

@@ -7,13 +7,17 @@ use Prim.Native.Nat.{ℕ, zero, suc, _+_, _≤_, _<_}
 use native.Mathlib.Omega.{arith}
 use native.Mathlib.Numerals.{add-one}
 use native.Mathlib.Nat.{eq-or-lt-of-le}
+use borrow.Author.Tests.{leb-true}
 use lib.ListN.{getD, set, length-set}
 use lib.Seq.{getD-set-same, getD-set-other}
 use Rattle.sets.specs.Logic.{_and_}
 use Rattle.table.specs.Limits.{mostDepth}
 use Rattle.table.specs.Layout.{sameRole}
+use Rattle.table.specs.Checks.{Valid, queryOutcome, within}
+use Rattle.table.specs.declared.Query.{Query}
 use Rattle.table.specs.declared.Goal.{Goal}
-use Rattle.sets.proofs.Tests.{and-false}
+use Rattle.sets.proofs.Tests.{and-false, and-second}
+use Rattle.table.proofs.Stages.{demand-true, then-second}
 use Rattle.derivation.specs.Rules.{fresh}
 use Rattle.derivation.specs.Held.{Room, above, noGoal, upTo}
 use Rattle.derivation.specs.declared.branches.Branch.{Branch}
@@ -52,3 +56,12 @@ fresh-not goals g i (suc n) h same =
     (λ last. let e : n ≡ i = omega arith in rw (e, same))
     (λ less. rw (fresh-not goals g i n (omega arith) same) (and-false (not (sameRole (getD goals n noGoal .role) (g .role)))))
     (eq-or-lt-of-le h)
+
+-- a branch has room for as many levels as a valid query allows
+pub depth-fits : (q : Query) → Valid q → q .depth ≤ mostDepth
+unfolding queryOutcome within
+depth-fits q valid =
+    let e1 = then-second _ _ 0 valid in
+    let e2 = then-second _ _ 0 e1 in
+    let e3 = then-second _ _ 0 e2 in
+    leb-true _ _ (and-second _ _ (demand-true _ 8 4 0 e3))

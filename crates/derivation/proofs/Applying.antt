@@ -6,7 +6,7 @@ use mathlib.Core.Option.{Option, none, some}
 use Prim.Native.Nat.{ℕ, _≤_}
 use native.Mathlib.Omega.{arith}
 use native.Mathlib.Decide.{ℕ-discrete}
-use lib.ListN.{length}
+use lib.ListN.{length, take}
 use borrow.Author.Tests.{eqb-true}
 use Rattle.sets.specs.Logic.{_and_, pick}
 use Rattle.table.specs.Layout.{Numbered, cell, chain, credential, credentials, parts, role, sameRole}
@@ -17,6 +17,8 @@ use Rattle.sets.proofs.Tests.{and-first, and-second}
 use Rattle.table.proofs.Fields.{within-range}
 use Rattle.table.proofs.WellFormed.{wf-chain}
 use Rattle.derivation.specs.Rules.{asks, premises, when}
+use Rattle.derivation.specs.Held.{given}
+use Rattle.derivation.specs.declared.Premises.{Premises}
 use Rattle.derivation.proofs.Asking.{asks-1, asks-2, asks-3, asks-4, asks-none}
 
 pub same-role : (r s : Role) → sameRole r s ≡ true → r ≡ s
@@ -90,3 +92,12 @@ asks-nothing t wf g c m applies = go (ℕ-discrete kind 1) (ℕ-discrete kind 2)
         let none-asked = when-some _ _ [] (asks-4 t g (credential t c) m h ∙ asked) in
         absurd (some-parts t _ (credential t c .first) (wf-chain t wf c there h .least) none-asked)
     go (no n1) (no n2) (no n3) (no n4) = absurd (none-some (asks-none t g (credential t c) m n1 n2 n3 n4 ∙ asked))
+
+-- what the code holds of the premises
+pub given-none : (p : Premises) → p .applies ≡ false → given p ≡ none
+unfolding given pick
+given-none p h = rw h
+
+pub given-some : (p : Premises) → p .applies ≡ true → given p ≡ some (take (p .len) (p .goals))
+unfolding given pick
+given-some p h = rw h

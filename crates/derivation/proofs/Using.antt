@@ -19,7 +19,7 @@ use Rattle.derivation.specs.Forest.{Derives, Forest, names, usedFrom, us
 use Rattle.derivation.specs.Forest.Forest.{end, node}
 use Rattle.derivation.specs.Forest.Derives.{done, step}
 use Rattle.derivation.specs.Words.{usesAutomaton}
-use Rattle.derivation.specs.Tally.{automataOf, automataUpTo}
+use Rattle.derivation.specs.Attached.{automataOf, automataUpTo}
 use Rattle.derivation.proofs.Applying.{applies-numbered}
 
 -- the bit of a credential from 1 on

@@ -1,8 +1,6 @@
 pub mod Rules
 pub mod Forest
 pub mod Words
-pub mod Reading
-pub mod Tally
+pub mod Accepted
+pub mod Attached
 pub mod Held
-pub mod Verdict
-pub mod DemandTwo

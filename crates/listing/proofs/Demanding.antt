@@ -14,9 +14,9 @@ use Rattle.table.specs.declared.Query.{Query}
 use Rattle.table.proofs.WellFormed.{request-accepted}
 use Rattle.sets.specs.Sets.{part}
 use Rattle.sets.proofs.Members.{part-refl}
-use Rattle.derivation.specs.Verdict.{verdict}
-use Rattle.derivation.specs.DemandTwo.{Refuses}
-use Rattle.derivation.proofs.DemandTwo.{every-refusal}
+use Rattle.verifier.specs.Verdict.{verdict}
+use Rattle.verifier.specs.DemandTwo.{Refuses}
+use Rattle.verifier.proofs.DemandTwo.{every-refusal}
 use Rattle.listing.specs.Minimal.{afterwards, bufferAfter, counted, laid, listing, minimalSets}
 use Rattle.listing.specs.Demands.{Admitted, DemandOne, DemandThree, Demands, Listed, MinimalSets, OneOf, Used}
 use Rattle.listing.specs.Demands.OneOf.{first, second}

@@ -16,7 +16,7 @@ use Rattle.sets.specs.Sets.{inSet, part}
 use Rattle.sets.proofs.Members.{one-bit, part-or}
 use Rattle.search.specs.Relevance.{Relevant}
 use Rattle.search.specs.Search.{provable}
-use Rattle.derivation.specs.Tally.{automataOf}
+use Rattle.derivation.specs.Attached.{automataOf}
 use Rattle.listing.specs.Minimal.{isMinimal}
 use Rattle.listing.specs.Below.{Decided, Found, FoundUpTo, Promising, promising}
 use Rattle.listing.proofs.Blocks.{bit-in, bit-out, bit-part, halves, upper-ends, upper-joins}

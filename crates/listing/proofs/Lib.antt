@@ -10,5 +10,4 @@ pub mod Minimals
 pub mod Counting
 pub mod Stopping
 pub mod Demanding
-pub mod Inputs
 pub mod Shop

@@ -15,9 +15,9 @@ use Rattle.table.specs.declared.Query.{Query}
 use Rattle.sets.proofs.Tests.{and-both, and-first, and-second, any-none, any-not, any-or-none, false-true, refuted}
 use Rattle.sets.specs.Sets.{inSet, part}
 use Rattle.sets.proofs.Members.{part-antisym, part-le, part-member, part-or-left, part-refl, part-shown, part-trans}
-use Rattle.derivation.specs.Tally.{automataOf}
+use Rattle.derivation.specs.Attached.{automataOf}
 use Rattle.search.specs.Relevance.{Relevant}
-use Rattle.derivation.specs.Verdict.{Accepted}
+use Rattle.derivation.specs.Accepted.{Accepted}
 use Rattle.listing.specs.Minimal.{admits, isMinimal}
 use Rattle.listing.specs.Below.{Decided, Promising, promising}
 use Rattle.search.proofs.Searching.{provable-mono}

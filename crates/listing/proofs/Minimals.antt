@@ -10,7 +10,7 @@ use Rattle.table.specs.Checks.{Valid, WellFormed}
 use Rattle.table.specs.declared.Query.{Query}
 use Rattle.sets.specs.Sets.{part}
 use Rattle.sets.proofs.Members.{part-le, part-trans}
-use Rattle.derivation.proofs.DemandTwo.{demand-two}
+use Rattle.verifier.proofs.DemandTwo.{demand-two}
 use Rattle.listing.specs.Minimal.{admits, isMinimal, minimalSets}
 use Rattle.listing.specs.Demands.{Admitted, Minimal, MinimalSets, Used}
 use Rattle.search.proofs.Admitting.{accepted-fits, accepted-provable, provable-accepted}

@@ -14,10 +14,10 @@ use Rattle.sets.specs.Sets.{inSet, meets, part, setOf}
 use Rattle.automata.specs.Automata.{acceptsFrom, leads, matches, moved, movedBy, starting}
 use Rattle.automata.specs.Together.{acceptingSet, each, movedSets, startingSets, together}
 use Rattle.derivation.specs.Rules.{asks, fresh, premises}
-use Rattle.derivation.specs.Tally.{automataOf, automataUpTo}
+use Rattle.derivation.specs.Attached.{automataOf, automataUpTo}
 use Rattle.search.specs.Search.{everyGoal, isMember, mayUse, provable, provedPremises, proves, provesBy, tries}
-use Rattle.derivation.specs.Verdict.{verdict}
-use Rattle.derivation.proofs.Shop as records
+use Rattle.verifier.specs.Verdict.{verdict}
+use Rattle.verifier.proofs.Shop as records
 use Rattle.listing.specs.Minimal.{admits, afterwards, bufferAfter, counted, isMinimal, laid, listing, minimalSets, those}
 
 pub data Row : Type 0 where

@@ -18,7 +18,7 @@ use Rattle.sets.specs.Sets.{part}
 use Rattle.sets.proofs.Members.{inSet-zero, one-bit, part-member, part-zero}
 use Rattle.search.specs.Relevance.{Relevant}
 use Rattle.search.specs.Search.{provable}
-use Rattle.derivation.specs.Tally.{automataOf, automataUpTo}
+use Rattle.derivation.specs.Attached.{automataOf, automataUpTo}
 use Rattle.listing.specs.Minimal.{afterwards, bufferAfter, counted, isMinimal, laid, minimalSets}
 use Rattle.listing.specs.Below.{Decided, FoundUpTo, promising}
 use Rattle.search.proofs.Admitting.{relevant-used}

@@ -10,7 +10,7 @@ use Rattle.table.specs.Layout.{credentials}
 use Rattle.table.specs.declared.Query.{Query}
 use Rattle.sets.specs.Sets.{inSet, part}
 use Rattle.search.specs.Search.{provable}
-use Rattle.derivation.specs.Tally.{automataOf}
+use Rattle.derivation.specs.Attached.{automataOf}
 use Rattle.listing.specs.Minimal.{isMinimal, laid, those}
 
 -- every credential above `next` is decided: it is chosen, or it is not in `usable`, which has all that minimal sets here may use

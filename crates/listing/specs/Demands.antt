@@ -12,8 +12,8 @@ use Rattle.table.specs.Layout.{credentials}
 use Rattle.table.specs.Checks.{Valid, WellFormed, requestOutcome, tableOutcome}
 use Rattle.table.specs.declared.Query.{Query}
 use Rattle.sets.specs.Sets.{part}
-use Rattle.derivation.specs.Verdict.{verdict}
-use Rattle.derivation.specs.DemandTwo.{Refuses}
+use Rattle.verifier.specs.Verdict.{verdict}
+use Rattle.verifier.specs.DemandTwo.{Refuses}
 use Rattle.listing.specs.Minimal.{bufferAfter, listing}
 
 -- S is the used set of a record that the verifier accepts

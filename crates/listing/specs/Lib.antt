@@ -1,4 +1,3 @@
 pub mod Minimal
 pub mod Below
 pub mod Demands
-pub mod Input

@@ -13,7 +13,7 @@ use Rattle.table.specs.Checks.{requestOutcome, told}
 use Rattle.table.specs.declared.Query.{Query}
 use Rattle.sets.specs.Sets.{part}
 use Rattle.search.specs.Search.{provable}
-use Rattle.derivation.specs.Tally.{automataOf}
+use Rattle.derivation.specs.Attached.{automataOf}
 use Rattle.listing.specs.declared.Listing.{Listing}
 use Rattle.listing.specs.declared.Listing.the-variants as listing′
 

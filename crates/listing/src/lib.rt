@@ -1,10 +1,6 @@
 // The holder's end: every minimal set of credentials that proves the queried membership, ascending (document 01, "The list").
 // It knows of derivations only what `derivation` promises. specs/Minimal.antt says what the answer and the buffer are;
 // specs/Demands.antt states that this is the list that the document means.
-mod input; // input.rt: the listing program's input
-
-pub use input::decode;
-pub use input::list_input;
 use table::Number;
 use table::Query;
 use table::QueryCheck;
@@ -19,7 +15,7 @@ ghost use Rattle.table.specs.Checks.{Valid, WellFormed};
 ghost use Rattle.sets.specs.Sets.{part};
 ghost use Rattle.search.specs.Relevance.{Indexed};
 ghost use Rattle.search.specs.Search.{provable};
-ghost use Rattle.derivation.specs.Tally.{automataOf};
+ghost use Rattle.derivation.specs.Attached.{automataOf};
 ghost use Rattle.listing.specs.Minimal.{bufferAfter, counted, laid, listing, listingTold, minimalSets};
 ghost use Rattle.listing.specs.Below.{Decided, Found, FoundUpTo, Promising, promising};
 

@@ -1,6 +1,6 @@
 // The listing program: reads at most 4,096 bytes of standard input, the query's four numbers and then the table, and prints
 // one minimal set a line, then their count; or one line with the refusal's number and position (document 01, "The shop example").
-// What is listed or refused is `listing::list_input`'s answer.
+// What is listed or refused is `input::list_input`'s answer.
 use libc::STDIN_FILENO;
 use listing::Listing;
 use table::Refusal;
@@ -15,7 +15,7 @@ fn main() {
 }
 
 fn print_answer(bytes: &[u8], sets: &mut [u32]) {
-    match listing::list_input(bytes, sets) {
+    match input::list_input(bytes, sets) {
         Listing::Listed(found) => print_list(&sets[..found]),
         Listing::Refused(why) => print_refusal(why),
     }

@@ -1,7 +1,6 @@
 // A test: runs stored cases and prints one line for each, which the gate compares with stored answers. A case is a block of 512
 // numbers of 16 bits, low byte first: kind (1 list, 2 verify), the query's four, cells of the buffer, length of the table, length
 // of the record; then the table, the record, and zeros. Each cell holds a pattern beforehand, so that an untouched one shows.
-use derivation::Verdict;
 use libc::STDIN_FILENO;
 use listing::Listing;
 use table::Name;
@@ -9,6 +8,7 @@ use table::Number;
 use table::Principal;
 use table::Query;
 use table::layout;
+use verifier::Verdict;
 ghost use Prim.Native.Nat.{_≤_};
 ghost use mathlib.Core.Path.{_≡_};
 ghost use lib.ListN.{length};
@@ -42,7 +42,7 @@ fn run_block() -> bool {
         return false;
     }
     let mut case = [0; BLOCK];
-    listing::decode(&block, &mut case);
+    input::decode(&block, &mut case);
     run(&case);
     true
 }
@@ -89,7 +89,7 @@ fn run_list_into(table: &[Number], query: Query, sets: &mut [u32]) {
 }
 
 fn run_verify(table: &[Number], query: Query, rec: &[Number]) {
-    match derivation::verify(table, query, rec) {
+    match verifier::verify(table, query, rec) {
         Verdict::Accepted(used) => print_row(0, used as usize, &[]),
         Verdict::Refused(why) => print_row(why.number(), why.position(), &[]),
     }

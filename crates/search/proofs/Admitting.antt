@@ -14,8 +14,8 @@ use Rattle.sets.specs.Sets.{inSet, part}
 use Rattle.sets.proofs.Members.{members-below, part-member, part-refl, part-shown}
 use Rattle.derivation.specs.Forest.{Derives, Forest, names, usedSet, written}
 use Rattle.derivation.specs.Words.{Complies, words}
-use Rattle.derivation.specs.Tally.{automataOf}
-use Rattle.derivation.specs.Verdict.{Accepted}
+use Rattle.derivation.specs.Attached.{automataOf}
+use Rattle.derivation.specs.Accepted.{Accepted}
 use Rattle.search.specs.Search.{UsesOnly, provable}
 use Rattle.search.specs.Relevance.{Relevant}
 use Rattle.derivation.proofs.Using.{automaton-reached, automaton-shows, named-numbered, used-named}

@@ -19,7 +19,7 @@ use Rattle.sets.specs.Sets.{inSet}
 use Rattle.derivation.specs.Rules.{premises}
 use Rattle.derivation.specs.Held.{given}
 use Rattle.derivation.specs.declared.Premises.{Premises}
-use Rattle.derivation.proofs.Entering.{given-none, given-some}
+use Rattle.derivation.proofs.Applying.{given-none, given-some}
 use Rattle.search.specs.Search.{NextMiddle, isMember, nearer, provedPremises, provesBy, tries}
 
 -- the credential is an allowed simple membership that names x

@@ -187,3 +187,9 @@ module _ {answer : TableCheck} {stage : Outcome} (meets : tableTold answer ≡ s
   pub stage-stops : {why : Refusal} (later : Outcome) → answer ≡ table.Refused why → tableTold answer ≡ (stage andThen later)
   unfolding tableTold told _andThen_
   stage-stops later h = rw (← meets, h)
+
+-- a refusal stays, whatever would follow
+pub refused-then : {o : Outcome} {number position : ℕ} (later : Outcome) → refused number position ≡ o
+    → refused number position ≡ (o andThen later)
+unfolding _andThen_
+refused-then later h = rw (← h)

@@ -3,7 +3,7 @@ use borrow.Author.Needs.{needs}
 use Rattle.bwlchareg.proofs.Answers.{told-as}
 use denote.Ref.{now}
 use Rattle.derivation.specs.Held.{given}
-use Rattle.derivation.specs.Verdict.{verdict, verdictTold}
+use Rattle.verifier.specs.Verdict.{verdict, verdictTold}
 use Rattle.bwlchareg.proofs.bwlchareg_verify.Statement.{statement}
 use Rattle.bwlchareg.proofs.bwlchareg_verify.Tie as tie
 

@@ -4,7 +4,7 @@ use borrow.Author.Needs.{needs}
 use Rattle.table.specs.Checks.{queryTold, told}
 use Rattle.table.proofs.Stages.{then-on}
 use Rattle.table.proofs.WellFormed.{request-accepted}
-use Rattle.derivation.proofs.Judged.{refused-then}
+use Rattle.table.proofs.Stages.{refused-then}
 use Rattle.listing.specs.Minimal.{listing, listingTold}
 use Rattle.listing.proofs.Whole.{buffer-accepted, buffer-refused}
 use Rattle.listing.proofs.list.Statement.{statement}

@@ -3,7 +3,7 @@ use mathlib.Core.Path.{sym}
 use borrow.Author.Needs.{needs}
 use denote.Ref.{now}
 use lib.Seq.{length-take-le}
-use Rattle.listing.proofs.Inputs.{listed-fits}
+use Rattle.input.proofs.Inputs.{listed-fits}
 use Rattle.minimal_sets.proofs.print_answer.Statement.{statement}
 use Rattle.minimal_sets.proofs.print_answer.Tie as tie
 

@@ -1,5 +1,5 @@
 -- `search::provable`: the search begins at the query's goal, with nothing above it. Assumes an accepted table and a valid query.
-use Rattle.derivation.proofs.Judged.{depth-fits}
+use Rattle.derivation.proofs.Above.{depth-fits}
 use Rattle.search.proofs.Trying.{search-starts}
 use mathlib.Core.Path.{_∙_}
 use native.Mathlib.Omega.{arith}

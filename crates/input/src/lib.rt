@@ -1,0 +1,84 @@
+// The listing program's input (document 01, "The shop example"): bytes as 16-bit numbers, low byte first, the query's four and
+// then the table. specs/Input.antt says what is told of it.
+use listing::Listing;
+use table::Name;
+use table::Number;
+use table::Principal;
+use table::Query;
+use table::Refusal;
+ghost use mathlib.Core.Path.{_≡_};
+ghost use mathlib.Core.List.{_++_};
+ghost use Prim.Native.Nat.{_/_, _≤_};
+ghost use lib.ListN.{drop, length};
+ghost use Rattle.listing.specs.Minimal.{bufferAfter, listing, listingTold};
+ghost use Rattle.input.specs.Input.{countedBytes, inputBuffer, inputOutcome, numberOf, numbersOf, queryOf, querySize, tableOf};
+
+const MOST_BYTES: usize = 4096;
+
+const MOST_NUMBERS: usize = 2048;
+
+const QUERY_SIZE: usize = 4;
+
+// Lists the minimal sets for the query and the table that the bytes hold; the buffer is as `list` leaves it. Bytes after the first
+// 4,096 are ignored and not counted. An odd count, or one too small for a query, is refused as a short head.
+pub fn list_input(bytes: &[u8], sets: &mut [u32]) -> Listing
+    ensures { λ r. ⌜ (listingTold r ≡ inputOutcome (now (bytes .entry)) (length (now (sets .entry))))
+        × (now (sets .exit) ≡ inputBuffer (now (bytes .entry)) (now (sets .entry))) ⌝ }
+{
+    let read = counted(bytes);
+    let half = read.len() / 2;
+    if read.len() != 2 * half {
+        return Listing::Refused(Refusal::ShortHead);
+    }
+    if half < QUERY_SIZE {
+        return Listing::Refused(Refusal::ShortHead);
+    }
+    let mut numbers = [0; MOST_NUMBERS];
+    decode(read, &mut numbers);
+    list_numbers(&numbers[..half], sets)
+}
+
+// The bytes that count.
+fn counted(bytes: &[u8]) -> &[u8]
+    ensures { λ r. ⌜ now r ≡ countedBytes (now (bytes .entry)) ⌝ }
+{
+    if bytes.len() <= MOST_BYTES {
+        return bytes;
+    }
+    &bytes[..MOST_BYTES]
+}
+
+// Puts the numbers that the bytes hold in the first places, and leaves the others; a single byte at the end is left too.
+pub fn decode(bytes: &[u8], numbers: &mut [Number])
+    requires { ⌜ length (now bytes) / 2 ≤ length (now numbers) ⌝ }
+    ensures { λ r. ⌜ now (numbers .exit)
+        ≡ numbersOf (now (bytes .entry)) ++ drop (length (now (bytes .entry)) / 2) (now (numbers .entry)) ⌝ }
+{
+    let half = bytes.len() / 2;
+    let mut i = 0;
+    while i < half {
+        numbers[i] = number_of(bytes[2 * i], bytes[2 * i + 1]);
+        i += 1;
+    }
+}
+
+fn number_of(low: u8, high: u8) -> Number
+    ensures { λ r. ⌜ r ≡ numberOf low high ⌝ }
+{
+    low as Number + 256 * (high as Number)
+}
+
+// The query's four numbers, then the table.
+fn list_numbers(numbers: &[Number], sets: &mut [u32]) -> Listing
+    requires { ⌜ querySize ≤ length (now numbers) ⌝ }
+    ensures { λ r. ⌜ (listingTold r ≡ listing (tableOf (now (numbers .entry))) (queryOf (now (numbers .entry))) (length (now (sets .entry))))
+        × (now (sets .exit) ≡ bufferAfter (tableOf (now (numbers .entry))) (queryOf (now (numbers .entry))) (now (sets .entry))) ⌝ }
+{
+    let query = Query {
+        principal: Principal(numbers[0]),
+        owner: Principal(numbers[1]),
+        name: Name(numbers[2]),
+        depth: numbers[3],
+    };
+    listing::list(&numbers[QUERY_SIZE..], query, sets)
+}

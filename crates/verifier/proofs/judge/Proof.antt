@@ -1,0 +1,106 @@
+-- `verifier::judge` meets its contract: what is kept after the whole record says what its forest says. Assumes nothing.
+use mathlib.Core.Path.{_∙_, refl}
+use Prim.Native.Nat.{ℕ, _+_, _≤_}
+use native.Mathlib.Omega.{arith}
+use borrow.Author.Needs.{needs}
+use denote.Ref.{now}
+use Rattle.table.specs.Checks.{told}
+use Rattle.table.specs.Limits.{mostDepth}
+use Rattle.derivation.specs.Held.{above}
+use Rattle.verifier.specs.Verdict.{verdictTold}
+use Rattle.derivation.proofs.Above.{depth-fits}
+use Rattle.verifier.proofs.Judged.{Begins, stops-number, verdict-leftover, verdict-stops, verdict-words}
+use Rattle.verifier.proofs.judge.Statement.{statement}
+use Rattle.verifier.proofs.judge.Tie as tie
+
+-- where the record is to be read, and where it has been read
+abbrev start : tie.After-empty → tie.Start
+start at = at .before .before .before .before .before .before
+
+abbrev levels : tie.After-empty → ℕ
+levels at = at .before .before .wide .result
+
+begins : (at : tie.After-empty) → let from = start at .args in
+    let asked = at .before .before .before .goal-of .result in
+    Begins (now (from .table)) (from .query) (levels at) (above (at .empty .result)) asked (at .before .start .result)
+begins at =
+    record {
+      all-levels = at .before .before .wide .ensures .0;
+      nothing-above = at .empty .ensures .1 .1;
+      asked = at .before .before .before .goal-of .ensures;
+      starting = at .before .start .ensures;
+    }
+
+levels-fit : (at : tie.After-empty) → at .empty .result .len + levels at ≤ mostDepth
+levels-fit at = omega (arith, depth-fits _ (start at .pre .1), begins at .all-levels, at .empty .ensures .1 .0)
+
+abbrev begun : tie.After-read → tie.After-empty
+begun at = at .before .before .before .before .before
+
+goal-of-requires : tie.Need-goal-of-requires
+goal-of-requires c κs = search needs
+
+wide-requires : tie.Need-wide-requires
+wide-requires c κs = search needs
+
+start-requires : tie.Need-start-requires
+start-requires c κs = search needs
+
+empty-requires : tie.Need-empty-requires
+empty-requires c κs = search needs
+
+read-requires : tie.Need-read-requires
+read-requires c κs =
+    let at = c .before .before .before .before in
+    let pre = start at .pre in
+    (pre .0, ((at .empty .ensures .0, levels-fit at), (omega (arith, start at .good .1 .1), refl)))
+
+reason-requires : tie.Need-reason-requires
+reason-requires c κs =
+    let at = begun (c .before) in
+    stops-number (start at .pre .0) (begins at) (c .before .read .ensures) (c .if1 .taken)
+
+returns : tie.Need-returns
+unfolding verdictTold
+returns c =
+    let read = c .before .before in
+    let at = begun read in
+    c .reason .ensures ∙ verdict-stops (start at .pre .0) (begins at) (read .read .ensures) (c .before .if1 .taken)
+
+add-t24 : tie.Need-add-t24
+add-t24 c =
+    let read = c .before .before in
+    omega (arith, read .read .ensures .room (c .before .if1 .left), start (begun read) .good .1 .1)
+
+returns-2 : tie.Need-returns-2
+unfolding verdictTold told
+returns-2 c =
+    let read = c .before .before in
+    let at = begun read in
+    verdict-leftover (start at .pre .0) (begins at) (read .read .ensures) (c .before .if1 .left) (c .if2 .taken)
+
+judge-words-requires : tie.Need-judge-words-requires
+judge-words-requires c κs = search needs
+
+returns-3 : tie.Need-returns-3
+returns-3 c =
+    let read = c .before .before .before in
+    let at = begun read in
+    c .judge-words .ensures
+    ∙ verdict-words (start at .pre .0) (begins at) (read .read .ensures) (c .before .before .if1 .left) (c .before .if2 .left)
+
+pub judge-spec : {M : Type 1} → statement M
+judge-spec =
+    tie.close
+    (tie.spec
+    goal-of-requires
+    wide-requires
+    start-requires
+    empty-requires
+    read-requires
+    reason-requires
+    returns
+    add-t24
+    returns-2
+    judge-words-requires
+    returns-3)

@@ -1,0 +1,29 @@
+-- Document 01: the verifier's end. Rows 1 to 8, then 11 to 13 at each node, then numbers left over, then 14.
+use Prim.Native.Nat.{ℕ}
+use mathlib.Core.List.{List, [], _∷_}
+use Rattle.table.specs.Outcome.{Outcome, _andThen_, demandEach}
+use Rattle.table.specs.Outcome.Outcome.{accepted, refused}
+use Rattle.table.specs.Layout.{automata}
+use Rattle.table.specs.Checks.{requestOutcome, told}
+use Rattle.table.specs.declared.Query.{Query}
+use Rattle.derivation.specs.Rules.{goalOf}
+use Rattle.derivation.specs.Forest.{countFrom, usedSet}
+use Rattle.derivation.specs.Words.{met}
+use Rattle.verifier.specs.Reading.{Reading, reader}
+use Rattle.verifier.specs.Reading.Reading.{read, stop}
+use Rattle.verifier.specs.declared.Verdict.{Verdict}
+use Rattle.verifier.specs.declared.Verdict.the-variants as verdict′
+
+-- numbers left over come after the last node, and 14, with the lowest used automaton that rejects some word, last
+unfoldable pub judged : List ℕ → Reading → Outcome
+judged t (stop number at) = refused number at
+judged t (read [] f) = demandEach (met t f) (automata t) 14 andThen accepted (usedSet f)
+judged t (read (x ∷ more) f) = refused 11 (countFrom 1 f)
+
+-- the goal is at level 1, node 1, with nothing above it
+unfoldable pub verdict : List ℕ → Query → List ℕ → Outcome
+verdict t q rec = requestOutcome t q andThen judged t (reader t (q .depth) [] (goalOf q ∷ []) rec 1)
+
+unfoldable pub verdictTold : Verdict → Outcome
+verdictTold (verdict′.Accepted used) = accepted used
+verdictTold (verdict′.Refused why) = told why

@@ -1,0 +1,86 @@
+// The verifier's end: whether a proof record derives the queried membership by the rules of RT0 and complies with every
+// automaton attached to a credential that it uses (document 01, "Derivations and words"). specs/Verdict.antt says what the
+// answer means; specs/DemandTwo.antt states that it is right.
+mod reader; // reader.rt: a record, node by node
+mod words; // words.rt: row 14
+
+use automata::StateSets;
+use derivation::Branch;
+use table::Number;
+use table::Query;
+use table::QueryCheck;
+use table::Refusal;
+use table::layout;
+ghost use mathlib.Core.Path.{_≡_};
+ghost use mathlib.Core.List.{[], _∷_};
+ghost use Prim.Native.Nat.{_≤_};
+ghost use Rattle.table.specs.Outcome.{Outcome};
+ghost use Rattle.table.specs.Checks.{Valid, WellFormed, told};
+ghost use Rattle.derivation.specs.Rules.{goalOf};
+ghost use Rattle.verifier.specs.Reading.{reader};
+ghost use Rattle.verifier.specs.Verdict.{judged, verdict, verdictTold};
+
+// Accepted, with the used set: credential i counts 2^(i-1).
+pub enum Verdict {
+    Accepted(u32),
+    Refused(Refusal),
+}
+
+// Whether the record derives the queried membership and complies: rows 1 to 8, then 11 to 14, for any three inputs.
+pub fn verify(table: &[Number], query: Query, rec: &[Number]) -> Verdict
+    ensures { λ r. ⌜ verdictTold r ≡ verdict (now (table .entry)) query (now (rec .entry)) ⌝ }
+{
+    match table::check_request(table, query) {
+        QueryCheck::Valid => judge(table, query, rec),
+        QueryCheck::Refused(why) => Verdict::Refused(why),
+    }
+}
+
+// Rows 11 to 14. The goal is at level 1, with nothing above it.
+fn judge(table: &[Number], query: Query, rec: &[Number]) -> Verdict
+    requires { ⌜ WellFormed (now table) ⌝ }
+    requires { ⌜ Valid query ⌝ }
+    ensures { λ r. ⌜ verdictTold r
+        ≡ judged (now (table .entry)) (reader (now (table .entry)) (query .depth) [] (goalOf query ∷ []) (now (rec .entry)) 1) ⌝ }
+{
+    let mut used = 0;
+    let mut nodes = 0;
+    let mut every = words::ALL_AUTOMATA;
+    let mut refusal = 0;
+    let goal = derivation::goal_of(query);
+    let levels = layout::wide(query.depth);
+    let start = StateSets::start(table);
+    let rest = reader::read(
+        table,
+        rec,
+        goal,
+        levels,
+        start,
+        Branch::empty(),
+        &mut used,
+        &mut nodes,
+        &mut every,
+        &mut refusal,
+    );
+    if refusal != 0 {
+        return Verdict::Refused(reason(refusal, nodes));
+    }
+    if rest.len() != 0 {
+        return Verdict::Refused(Refusal::RecordLength(nodes + 1));
+    }
+    words::judge_words(table, used, every)
+}
+
+// The reason with which reading stops at a node.
+fn reason(refusal: u32, node: usize) -> Refusal
+    requires { ⌜ (11 ≤ refusal) × (refusal ≤ 13) ⌝ }
+    ensures { λ r. ⌜ told r ≡ Outcome.refused refusal node ⌝ }
+{
+    if refusal == 11 {
+        return Refusal::RecordLength(node);
+    }
+    if refusal == 12 {
+        return Refusal::Node(node);
+    }
+    Refusal::Branch(node)
+}

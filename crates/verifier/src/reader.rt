@@ -1,0 +1,153 @@
+// A record, read node by node in preorder: rows 11 to 13. The reader of a sub-derivation hands back the rest of the caller's
+// record, from the next node on; what it keeps on the way it keeps in numbers that the caller lends.
+use automata::StateSets;
+use derivation::Branch;
+use derivation::rules;
+use sets::AutomatonSet;
+use sets::CredentialSet;
+use table::Goal;
+use table::Number;
+use table::layout;
+ghost use mathlib.Core.Path.{_≡_};
+ghost use Prim.Native.Nat.{_+_, _-_, _^_, _<_, _≤_};
+ghost use lib.ListN.{length};
+ghost use lib.Bits.{bitAnd, bitOr};
+ghost use lib.Dec.{eqb};
+ghost use Rattle.sets.specs.Logic.{pick};
+ghost use Rattle.table.specs.Limits.{mostCredentials, mostDepth, mostParts};
+ghost use Rattle.table.specs.Layout.{Numbered};
+ghost use Rattle.table.specs.Checks.{WellFormed};
+ghost use Rattle.automata.specs.Together.{acceptingSet};
+ghost use Rattle.verifier.specs.Reading.{entry};
+ghost use Rattle.derivation.specs.Held.{Room, above};
+ghost use Rattle.verifier.specs.Steps.{Halted, may, stepped};
+ghost use Rattle.verifier.specs.Tally.{ReadOn};
+
+// A node's entry: a refusal's number, or 0 and what the node asks.
+struct Step {
+    pub refusal: u32,
+    pub credential: Number,
+    pub middle: Number,
+    pub len: usize,
+    pub goals: [Goal; layout::MOST_PARTS],
+}
+
+// Rows 11, 12 and 13 of one node, in that order.
+fn enter(table: &[Number], rec: &[Number], goal: Goal, levels: usize, branch: Branch) -> Step
+    requires { ⌜ WellFormed (now table) ⌝ }
+    requires { ⌜ Room mostDepth (branch .len) (branch .goals) × (branch .len + levels ≤ mostDepth) ⌝ }
+    ensures { λ r. ⌜ Room mostParts (r .len) (r .goals)
+        × (stepped r (now (rec .entry)) ≡ entry (now (table .entry)) (may levels (above branch) goal) goal (now (rec .entry))) ⌝ }
+{
+    if rec.len() < 2 {
+        return halted(11, goal);
+    }
+    let premises = rules::premises(table, goal, rec[0], rec[1]);
+    if !premises.applies {
+        return halted(12, goal);
+    }
+    if levels == 0 {
+        return halted(13, goal);
+    }
+    if !branch.is_fresh(goal) {
+        return halted(13, goal);
+    }
+    let goals = premises.goals;
+    Step {
+        refusal: 0,
+        credential: rec[0],
+        middle: rec[1],
+        len: premises.len,
+        goals: goals,
+    }
+}
+
+fn halted(refusal: u32, goal: Goal) -> Step
+    requires { ⌜ 0 < refusal ⌝ }
+    ensures { λ r. ⌜ Halted r refusal ⌝ }
+{
+    Step {
+        refusal: refusal,
+        credential: 0,
+        middle: 0,
+        len: 0,
+        goals: [goal; layout::MOST_PARTS],
+    }
+}
+
+// The used set with credential c.
+fn with_credential(used: CredentialSet, c: Number) -> CredentialSet
+    requires { ⌜ Numbered mostCredentials c ⌝ }
+    ensures { λ r. ⌜ r ≡ bitOr used (2 ^ (c - 1)) ⌝ }
+{
+    used | (1 << (c - 1))
+}
+
+// The automata that have accepted every word, once a node is entered: a node that asks nothing ends a word.
+fn after_node(table: &[Number], every: AutomatonSet, states: StateSets, len: usize) -> AutomatonSet
+    requires { ⌜ WellFormed (now table) ⌝ }
+    ensures { λ r. ⌜ r ≡ pick (eqb len 0) (bitAnd every (acceptingSet (now (table .entry)) states)) every ⌝ }
+{
+    if len == 0 {
+        return every & states.accepting(table);
+    }
+    every
+}
+
+// Reads the derivation of a goal from the front of the record. A refusal that is not 0 stops it, at node number `nodes`.
+pub fn read<'a>(
+    table: &[Number],
+    rec: &'a [Number],
+    goal: Goal,
+    levels: usize,
+    states: StateSets,
+    branch: Branch,
+    used: &mut CredentialSet,
+    nodes: &mut usize,
+    every: &mut AutomatonSet,
+    refusal: &mut u32,
+) -> &'a [Number]
+    requires { ⌜ WellFormed (now table) ⌝ }
+    requires { ⌜ Room mostDepth (branch .len) (branch .goals) × (branch .len + levels ≤ mostDepth) ⌝ }
+    requires { ⌜ now nodes + length (now rec) < 2 ^ 63 ⌝ }
+    requires { ⌜ now refusal ≡ 0 ⌝ }
+    ensures { λ r. ⌜ ReadOn (now (table .entry)) levels (above branch) goal states
+        (now (rec .entry)) (now (used .entry)) (now (nodes .entry)) (now (every .entry))
+        (now r) (now (used .exit)) (now (nodes .exit)) (now (every .exit)) (now (refusal .exit)) ⌝ }
+{
+    *nodes += 1;
+    let step = enter(table, rec, goal, levels, branch);
+    let stopped = step.refusal;
+    if stopped != 0 {
+        *refusal = stopped;
+        return rec;
+    }
+    let below = states.moved(table, goal.role);
+    let len = step.len;
+    let goals = step.goals;
+    *used = with_credential(*used, step.credential);
+    *every = after_node(table, *every, below, len);
+    let deeper = branch.with(goal);
+    let mut rest = &rec[2..];
+    let mut i = 0;
+    while i < len {
+        let next = read(
+            table,
+            rest,
+            goals[i],
+            levels - 1,
+            below,
+            deeper,
+            used,
+            nodes,
+            every,
+            refusal,
+        );
+        if *refusal != 0 {
+            return rec;
+        }
+        rest = next;
+        i += 1;
+    }
+    rest
+}
