@@ -3,5 +3,6 @@ pub mod Above
 pub mod Asking
 pub mod Applying
 pub mod Using
+pub mod Bounding
 pub mod Attaching
 pub mod Running

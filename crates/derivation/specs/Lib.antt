@@ -1,6 +1,7 @@
 pub mod Rules
 pub mod Forest
 pub mod Words
+pub mod Bounds
 pub mod Accepted
 pub mod Attached
 pub mod Held
