@@ -1,6 +1,6 @@
 -- Demands 1 and 3, proved clause by clause: the minimal sets are `minimalSets t q`, and the buffer's first cells hold them.
 use mathlib.Core.Path.{_≡_, refl, sym, ap, _∙_}
-use mathlib.Core.List.{List}
+use mathlib.Core.List.{List, []}
 use mathlib.Core.Bool.{true}
 use mathlib.Core.Logic.{_↔_, Iff·trans, ⊎-elim}
 use Prim.Native.Nat.{ℕ, _<_, _≤_}
@@ -14,11 +14,15 @@ use Rattle.table.specs.declared.Query.{Query}
 use Rattle.table.proofs.WellFormed.{request-accepted}
 use Rattle.sets.specs.Sets.{part}
 use Rattle.sets.proofs.Members.{part-refl}
+use Rattle.derivation.specs.Rules.{goalOf}
+use Rattle.derivation.specs.Bounds.{Holdable}
 use Rattle.verifier.specs.Verdict.{verdict}
 use Rattle.verifier.specs.DemandTwo.{Refuses}
-use Rattle.verifier.proofs.DemandTwo.{every-refusal}
+use Rattle.derivation.proofs.Bounding.{none-excluded}
+use Rattle.derivation.proofs.Above.{depth-fits}
+use Rattle.verifier.proofs.DemandTwo.{demand-two, every-refusal}
 use Rattle.listing.specs.Minimal.{afterwards, bufferAfter, counted, laid, listing, minimalSets}
-use Rattle.listing.specs.Demands.{Admitted, DemandOne, DemandThree, Demands, Listed, MinimalSets, OneOf, Used}
+use Rattle.listing.specs.Demands.{Admitted, DemandOne, DemandThree, Demands, Listed, MinimalSets, OneOf, Used, UsedBySlice}
 use Rattle.listing.specs.Demands.OneOf.{first, second}
 use Rattle.listing.proofs.Ascending.{one-place}
 use Rattle.listing.proofs.Minimals.{admitted-includes, minimal-sets, one-minimal-list}
@@ -40,6 +44,15 @@ module _ (t : List ℕ) (wf : WellFormed t) (q : Query) (valid : Valid q) where
   buffer-laid : (buffer : List ℕ) → bufferAfter t q buffer ≡ laid (minimalSets t q) buffer
   buffer-laid buffer = buffer-accepted t q buffer passes
 
+  -- an accepted record is that of a derivation, within the query's depth
+  accepted-holdable : (rec : List ℕ) (S : ℕ) → verdict t q rec ≡ accepted S → Holdable rec
+  accepted-holdable rec S e =
+      let a = demand-two t q rec S wf valid .0 e in
+      rw (a .whole) at (none-excluded t (q .depth) [] (goalOf q) (a .forest) wf (depth-fits q valid) (a .derives))
+
+  by-slice : (S : ℕ) → Used t q S → UsedBySlice t q S
+  by-slice S (rec, e) = (rec, e, accepted-holdable rec S e)
+
   module _ (sets : List ℕ) (m : MinimalSets t q sets) where
     -- there is no minimal set exactly where no record is accepted
     none-exactly : (length sets ≡ 0) ↔ ((rec : List ℕ) (S : ℕ) → verdict t q rec ≡ accepted S → ⊥)
@@ -60,7 +73,7 @@ module _ (t : List ℕ) (wf : WellFormed t) (q : Query) (valid : Valid q) where
     laid-listed buffer room =
         record {
           full = λ S small. ((λ (i, l, within). (getD (laid sets buffer) i 0, used-cell i l, within)), includes S);
-          used = used-cell;
+          used = λ i l. by-slice _ (used-cell i l);
           apart = apart;
           ascending = λ i j less l. rw (cell i (omega arith), cell j l) (m .ascending i j less l);
           fits = omega (arith, laid-length sets buffer);
@@ -91,6 +104,7 @@ demand-three t q buffer wf valid =
     record {
       sets = sets;
       minimal = m;
+      holdable = accepted-holdable t wf q valid;
       none = rw told (Iff·trans (none-counted cells count) (none-exactly t wf q valid sets m));
       longer = rw told (more-counted cells count);
       otherwise = rw told (otherwise-counted cells count);

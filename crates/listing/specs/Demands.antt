@@ -12,6 +12,7 @@ use Rattle.table.specs.Layout.{credentials}
 use Rattle.table.specs.Checks.{Valid, WellFormed, requestOutcome, tableOutcome}
 use Rattle.table.specs.declared.Query.{Query}
 use Rattle.sets.specs.Sets.{part}
+use Rattle.derivation.specs.Bounds.{Holdable}
 use Rattle.verifier.specs.Verdict.{verdict}
 use Rattle.verifier.specs.DemandTwo.{Refuses}
 use Rattle.listing.specs.Minimal.{bufferAfter, listing}
@@ -19,6 +20,10 @@ use Rattle.listing.specs.Minimal.{bufferAfter, listing}
 -- S is the used set of a record that the verifier accepts
 abbrev pub Used : List ℕ → Query → ℕ → Type 0
 Used t q S = (rec : List ℕ) × (verdict t q rec ≡ accepted S)
+
+-- and of one that can be lent to it
+abbrev pub UsedBySlice : List ℕ → Query → ℕ → Type 0
+UsedBySlice t q S = (rec : List ℕ) × (verdict t q rec ≡ accepted S) × Holdable rec
 
 -- some record using only credentials of S is accepted by the verifier
 abbrev pub Admitted : List ℕ → Query → ℕ → Type 0
@@ -40,8 +45,8 @@ pub record Listed (t : List ℕ) (q : Query) (before after : List ℕ) (count : 
   -- a set of the table's credentials includes a listed set exactly when some record using only its credentials is accepted
   pub full : (S : ℕ) → S < 2 ^ credentials t
       → (((i : ℕ) × (i < count) × (part (getD after i 0) S ≡ true)) ↔ Admitted t q S)
-  -- each listed set is the used set of an accepted record
-  pub used : (i : ℕ) → i < count → Used t q (getD after i 0)
+  -- each listed set is the used set of an accepted record that a slice can hold
+  pub used : (i : ℕ) → i < count → UsedBySlice t q (getD after i 0)
   -- none includes another
   pub apart : (i j : ℕ) → i < count → j < count → part (getD after i 0) (getD after j 0) ≡ true → i ≡ j
   -- each stands once, ascending
@@ -56,6 +61,8 @@ pub record DemandThree (t : List ℕ) (q : Query) (buffer : List ℕ) : Type 0 w
   -- the minimal sets
   pub sets : List ℕ
   pub minimal : MinimalSets t q sets
+  -- a slice can hold every accepted record: "no record of any length" is no record that can be lent
+  pub holdable : (rec : List ℕ) (S : ℕ) → verdict t q rec ≡ accepted S → Holdable rec
   -- "none" exactly when no record of any length is accepted
   pub none : (listing t q (length buffer) ≡ refused 9 0) ↔ ((rec : List ℕ) (S : ℕ) → verdict t q rec ≡ accepted S → ⊥)
   -- "list longer than buffer" exactly when there are fewer cells than minimal sets
