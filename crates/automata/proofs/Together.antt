@@ -15,9 +15,10 @@ use borrow.Author.Tests.{eq-eqb, ne-eqb, lt-ltb, le-ltb, le-leb}
 use Rattle.sets.specs.Logic.{_and_, pick}
 use Rattle.table.specs.Limits.{lastState, mostAutomata}
 use Rattle.table.specs.Layout.{Numbered, automata, automaton, edge, edges}
-use Rattle.table.specs.Checks.{WellFormed, within}
+use Rattle.table.specs.Holding.{WellFormed}
+use Rattle.table.specs.Checks.{within}
 use Rattle.sets.proofs.Tests.{pick-apart, pick-same}
-use Rattle.table.proofs.WellFormed.{wf-edge, wf-sized}
+use Rattle.table.proofs.WellFormed.{wf-edge}
 use Rattle.table.specs.declared.Role.{Role}
 use Rattle.table.specs.declared.Automaton.{Automaton}
 use Rattle.table.specs.declared.Edge.{Edge}
@@ -169,5 +170,5 @@ pub edge-there : (t : List ℕ) → WellFormed t → (i : ℕ) → Numbered (edg
     → Numbered mostAutomata (e .automaton) × ((e .from ≤ lastState) × (e .to ≤ lastState))
 edge-there t wf i h read =
     let range = wf-edge t wf i h in
-    let few = wf-sized t wf .counted .fewAutomata in
+    let few = wf .sized .counted .fewAutomata in
     rw read (omega arith, (range .from, range .to))

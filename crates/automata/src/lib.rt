@@ -11,7 +11,7 @@ ghost use mathlib.Core.Path.{_≡_};
 ghost use Prim.Native.Nat.{_≤_};
 ghost use Rattle.table.specs.Limits.{lastState, mostAutomata};
 ghost use Rattle.table.specs.Layout.{Numbered};
-ghost use Rattle.table.specs.Checks.{WellFormed};
+ghost use Rattle.table.specs.Holding.{WellFormed};
 ghost use Rattle.automata.specs.Automata;
 ghost use Rattle.automata.specs.Together.{acceptingSet, movedSets, startingSets, withEdge};
 

@@ -12,7 +12,8 @@ use borrow.Author.Tests.{ne-eqb, le-leb, lt-leb}
 use Rattle.sets.specs.Logic.{_and_, pick}
 use Rattle.table.specs.Limits.{mostParts, mostPrincipals}
 use Rattle.table.specs.Layout.{Numbered, cells, credential, credentials, parts, principal, sameRole}
-use Rattle.table.specs.Checks.{WellFormed, chainOk, isPrincipal, within}
+use Rattle.table.specs.Holding.{WellFormed}
+use Rattle.table.specs.Checks.{chainOk, isPrincipal, within}
 use Rattle.table.proofs.WellFormed.{wf-chain-ok, wf-credential}
 use Rattle.table.specs.declared.Role.{Role}
 use Rattle.table.specs.declared.Goal.{Goal}

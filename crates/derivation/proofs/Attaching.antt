@@ -11,16 +11,16 @@ use Rattle.sets.specs.Logic.{_and_, pick}
 use Rattle.sets.specs.Sets.{inSet}
 use Rattle.table.specs.Limits.{mostAutomata}
 use Rattle.table.specs.Layout.{Numbered, credential, credentials}
-use Rattle.table.specs.Checks.{WellFormed}
+use Rattle.table.specs.Holding.{WellFormed}
 use Rattle.table.specs.declared.Credential.{Credential}
-use Rattle.table.proofs.WellFormed.{wf-credential, wf-sized}
+use Rattle.table.proofs.WellFormed.{wf-credential}
 use Rattle.derivation.specs.Attached.{automataUpTo}
 
 pub automaton-few : (t : List ℕ) → WellFormed t → (i : ℕ) → Numbered (credentials t) i → (x : Credential) → x ≡ credential t i
     → x .automaton ≤ mostAutomata
 automaton-few t wf i there x found =
     let own = wf-credential t wf i there .automaton in
-    let few = wf-sized t wf .counted .fewAutomata in
+    let few = wf .sized .counted .fewAutomata in
     rw found (omega arith)
 
 -- one credential more, which the code has read as x

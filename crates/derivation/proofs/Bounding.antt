@@ -13,12 +13,12 @@ use lib.Dec.{eqb}
 use borrow.Author.Tests.{eqb-true}
 use Rattle.table.specs.Limits.{mostCredentials, mostDepth, mostParts, mostPrincipals}
 use Rattle.table.specs.Layout.{Numbered, credential, credentials, parts}
-use Rattle.table.specs.Checks.{WellFormed}
+use Rattle.table.specs.Holding.{WellFormed}
 use Rattle.table.specs.declared.Role.{Role}
 use Rattle.table.specs.declared.Goal.{Goal}
 use Rattle.sets.proofs.Tests.{and-second}
 use Rattle.table.proofs.Fields.{principal-range}
-use Rattle.table.proofs.WellFormed.{wf-chain, wf-sized}
+use Rattle.table.proofs.WellFormed.{wf-chain}
 use Rattle.derivation.specs.Rules.{asks, premises, when}
 use Rattle.derivation.specs.Forest.{Derives, Forest, countFrom, written}
 use Rattle.derivation.specs.Forest.Forest.{end, node}
@@ -63,7 +63,7 @@ module _ (t : List ℕ) (wf : WellFormed t) (g : Goal) (c m : ℕ) (goals : List
       → when test asked ≡ some goals → Small c m goals
   small-asked test asked middle few e =
       record {
-        credential = omega (arith, there .last, wf-sized t wf .counted .fewCredentials);
+        credential = omega (arith, there .last, wf .sized .counted .fewCredentials);
         middle = middle (picked test _ goals e .0);
         few = rw (when-some test asked goals e) at few;
       }

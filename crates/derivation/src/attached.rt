@@ -10,7 +10,7 @@ ghost use lib.Bits.{bitOr};
 ghost use lib.Dec.{eqb};
 ghost use Rattle.sets.specs.Logic.{_and_, pick};
 ghost use Rattle.table.specs.Limits.{mostAutomata};
-ghost use Rattle.table.specs.Checks.{WellFormed};
+ghost use Rattle.table.specs.Holding.{WellFormed};
 ghost use Rattle.derivation.specs.Attached.{automataOf};
 
 pub fn automata_of(table: &[Number], set: CredentialSet) -> AutomatonSet

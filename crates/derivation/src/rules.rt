@@ -17,7 +17,7 @@ ghost use mathlib.Core.Option.{none};
 ghost use Prim.Native.Nat.{_≤_};
 ghost use lib.ListN.{length, take};
 ghost use Rattle.table.specs.Limits.{mostParts};
-ghost use Rattle.table.specs.Checks.{WellFormed};
+ghost use Rattle.table.specs.Holding.{WellFormed};
 ghost use Rattle.derivation.specs.Rules;
 ghost use Rattle.derivation.specs.Rules.{containmentAsks, intersectionAsks, linkingAsks, membershipAsks};
 ghost use Rattle.derivation.specs.Held.{Room, given};

@@ -9,7 +9,8 @@ use native.Mathlib.Nat.{eq-zero-or-pos}
 use lib.ListN.{getD, length, take}
 use Rattle.table.specs.Outcome.{Outcome, _andThen_}
 use Rattle.table.specs.Outcome.Outcome.{accepted, refused}
-use Rattle.table.specs.Checks.{Valid, WellFormed, requestOutcome, tableOutcome}
+use Rattle.table.specs.Holding.{WellFormed}
+use Rattle.table.specs.Checks.{Valid, requestOutcome, tableOutcome}
 use Rattle.table.specs.declared.Query.{Query}
 use Rattle.table.proofs.WellFormed.{request-accepted}
 use Rattle.sets.specs.Sets.{part}

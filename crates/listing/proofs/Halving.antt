@@ -8,10 +8,10 @@ use lib.Bits.{bitAnd, bitOr, bitXor}
 use lib.ListN.{getD, length, set}
 use Rattle.sets.specs.Logic.{anyBelow}
 use Rattle.table.specs.Limits.{mostCredentials}
-use Rattle.table.specs.Checks.{Valid, WellFormed}
+use Rattle.table.specs.Holding.{WellFormed}
+use Rattle.table.specs.Checks.{Valid}
 use Rattle.table.specs.declared.Query.{Query}
 use Rattle.sets.proofs.Tests.{and-first, and-is, and-second}
-use Rattle.table.proofs.WellFormed.{wf-sized}
 use Rattle.sets.specs.Sets.{inSet, part}
 use Rattle.sets.proofs.Members.{one-bit, part-or}
 use Rattle.search.specs.Relevance.{Relevant}
@@ -55,7 +55,7 @@ module _ {t : List ℕ} {q : Query} {chosen usable next : ℕ} {before : List �
   so-far = asked .1 .1 .1 .1
 
   pub few : next ≤ mostCredentials
-  few = omega (arith, decided-few t q chosen usable next decided, wf-sized t wf .counted .fewCredentials)
+  few = omega (arith, decided-few t q chosen usable next decided, wf .sized .counted .fewCredentials)
 
   -- nothing is undecided: what is chosen is the one set
   pub block-ends : next ≡ 0 → (after : List ℕ) (found′ : ℕ) → found′ ≡ found + 1 → after ≡ set before found chosen

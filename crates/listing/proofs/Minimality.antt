@@ -10,7 +10,7 @@ use lib.Pow.{pow-lt}
 use borrow.Author.Tests.{not-true}
 use Rattle.sets.specs.Logic.{_and_, anyBelow}
 use Rattle.table.specs.Layout.{credentials}
-use Rattle.table.specs.Checks.{WellFormed}
+use Rattle.table.specs.Holding.{WellFormed}
 use Rattle.table.specs.declared.Query.{Query}
 use Rattle.sets.proofs.Tests.{and-both, and-first, and-second, any-none, any-not, any-or-none, false-true, refuted}
 use Rattle.sets.specs.Sets.{inSet, part}

@@ -6,7 +6,8 @@ use mathlib.Core.Bool.{true}
 use Prim.Native.Nat.{ℕ, _^_, _<_}
 use native.Mathlib.Omega.{arith}
 use Rattle.table.specs.Layout.{credentials}
-use Rattle.table.specs.Checks.{Valid, WellFormed}
+use Rattle.table.specs.Holding.{WellFormed}
+use Rattle.table.specs.Checks.{Valid}
 use Rattle.table.specs.declared.Query.{Query}
 use Rattle.sets.specs.Sets.{part}
 use Rattle.sets.proofs.Members.{part-le, part-trans}

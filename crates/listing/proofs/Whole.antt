@@ -10,10 +10,10 @@ use Rattle.sets.specs.Logic.{pick}
 use Rattle.table.specs.Outcome.{Outcome}
 use Rattle.table.specs.Outcome.Outcome.{accepted, refused}
 use Rattle.table.specs.Layout.{credentials}
-use Rattle.table.specs.Checks.{Valid, WellFormed, requestOutcome}
+use Rattle.table.specs.Holding.{WellFormed}
+use Rattle.table.specs.Checks.{Valid, requestOutcome}
 use Rattle.table.specs.declared.Query.{Query}
 use Rattle.sets.proofs.Tests.{and-is, and-is-off}
-use Rattle.table.proofs.WellFormed.{wf-sized}
 use Rattle.sets.specs.Sets.{part}
 use Rattle.sets.proofs.Members.{inSet-zero, one-bit, part-member, part-zero}
 use Rattle.search.specs.Relevance.{Relevant}
@@ -44,7 +44,7 @@ unconstrained t = unconstrained-upto t (credentials t)
 
 module _ (t : List ℕ) (wf : WellFormed t) (n : ℕ) (head : n ≡ credentials t) where
   pub head-few : n < 32
-  head-few = omega (arith, wf-sized t wf .counted .fewCredentials)
+  head-few = omega (arith, wf .sized .counted .fewCredentials)
 
   pub head-some : 1 ≤ (1 * 2 ^ n) % 2 ^ 32
   head-some = rw (one-bit 32 n head-few) (omega (arith, pow-pos n))

@@ -9,7 +9,8 @@ use lib.ListN.{getD, length, take}
 use Rattle.table.specs.Outcome.{Outcome}
 use Rattle.table.specs.Outcome.Outcome.{accepted, refused}
 use Rattle.table.specs.Layout.{credentials}
-use Rattle.table.specs.Checks.{Valid, WellFormed, requestOutcome, tableOutcome}
+use Rattle.table.specs.Holding.{WellFormed}
+use Rattle.table.specs.Checks.{Valid, requestOutcome, tableOutcome}
 use Rattle.table.specs.declared.Query.{Query}
 use Rattle.sets.specs.Sets.{part}
 use Rattle.derivation.specs.Bounds.{Holdable}

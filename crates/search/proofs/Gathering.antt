@@ -14,14 +14,13 @@ use lib.ListN.{length, take}
 use borrow.Author.Tests.{eq-eqb, eqb-true, ne-eqb, not-false, not-true}
 use Rattle.sets.specs.Logic.{_and_, _or_, pick}
 use Rattle.table.specs.Limits.{mostCredentials, mostParts}
-use Rattle.table.specs.Checks.{WellFormed}
+use Rattle.table.specs.Holding.{WellFormed}
 use Rattle.table.specs.Layout.{Numbered, credential, credentials}
 use Rattle.table.specs.Holding.{Holds}
 use Rattle.table.specs.declared.Role.{Role}
 use Rattle.table.specs.declared.Chain.{Chain}
 use Rattle.table.specs.declared.Credential.{Credential}
 use Rattle.sets.proofs.Tests.{and-both, and-first, and-is, and-is-off, and-on, and-second, false-true, or-first, or-second}
-use Rattle.table.proofs.WellFormed.{wf-sized}
 use Rattle.sets.specs.Sets.{inSet, part, setOf}
 use Rattle.sets.proofs.Members.{inSet-or, one-among, one-bit, own-bit, part-antisym, part-le, part-or, part-or-left, part-refl, part-trans, part-zero}
 use Rattle.search.specs.Relevance.{Asking, ChainThere, Round, allDefined, definers, meant, rolesAsked, withDefiners}
@@ -33,7 +32,7 @@ pub three-ways : {A B C D : Type 0} → (A → D) → (B → D) → (C → D) �
 three-ways one two three = ⊎-elim one (⊎-elim two three)
 
 pub credential-few : (t : List ℕ) → WellFormed t → {i : ℕ} → i < credentials t → i < mostCredentials
-credential-few t wf l = omega (arith, wf-sized t wf .counted .fewCredentials)
+credential-few t wf l = omega (arith, wf .sized .counted .fewCredentials)
 
 -- a role is meant by its owner, or by its name alone where every owner is asked
 module _ (asked r : Role) where

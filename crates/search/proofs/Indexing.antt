@@ -13,13 +13,13 @@ use lib.Seq.{getD-set-other, getD-set-same, getD-take, length-take-le, take-leng
 use borrow.Author.Tests.{le-ltb, leb-true, lt-ltb, ltb-true}
 use Rattle.sets.specs.Logic.{_and_, _or_, anyBelow, pick}
 use Rattle.table.specs.Limits.{mostCredentials, mostParts}
-use Rattle.table.specs.Checks.{WellFormed, chainOk, within}
+use Rattle.table.specs.Holding.{WellFormed}
+use Rattle.table.specs.Checks.{chainOk, within}
 use Rattle.table.specs.Layout.{cell, chain, credential, credentials, parts, role}
 use Rattle.table.specs.declared.Role.{Role}
 use Rattle.table.specs.declared.Chain.{Chain}
 use Rattle.table.specs.declared.Credential.{Credential}
 use Rattle.sets.proofs.Tests.{and-assoc, and-both, and-on, and-second}
-use Rattle.table.proofs.WellFormed.{wf-sized}
 use Rattle.sets.specs.Sets.{inSet, setOf}
 use Rattle.sets.proofs.Members.{inSet-and, same-members, setOf-members}
 use Rattle.search.specs.Relevance.{Asking, ChainThere, Indexed, Place, allDefined, allMet, definers, everyCredential, indexed, met, meant, rolesAsked, withDefiners, withMet, withMetTo}
@@ -175,7 +175,7 @@ module _ (t index : List ℕ) (wf : WellFormed t) (made : Indexed t index) (c : 
       let r : (5 * c + 1 + k) % 5 ≡ suc k = omega (arith, few) in
       let own = rw (q, r, lt-ltb k (length (rolesOf t c)) l) at at in
       ap (λ (m : ℕ). bitAnd m P) own
-      ∙ definers-within t P (getD (rolesOf t c) k (role 0 0)) (wf-sized t wf .counted .fewCredentials)
+      ∙ definers-within t P (getD (rolesOf t c) k (role 0 0)) (wf .sized .counted .fewCredentials)
 
   met-to : (P n : ℕ) → n ≤ length (rolesOf t c)
       → not (anyBelow (λ k. eqb (met index c P k) 0) n) ≡ allDefined t P (take n (rolesOf t c))
@@ -217,6 +217,6 @@ module _ (t index : List ℕ) (wf : WellFormed t) (made : Indexed t index) (c : 
   place =
       record {
         room = made .room;
-        there = omega (arith, wf-sized t wf .counted .fewCredentials);
+        there = omega (arith, wf .sized .counted .fewCredentials);
         few = rw count-at few;
       }

@@ -11,7 +11,7 @@ use borrow.Author.Tests.{eq-eqb, eqb-true}
 use Rattle.sets.specs.Logic.{_or_, pick}
 use Rattle.table.specs.Limits.{mostPrincipals}
 use Rattle.table.specs.Layout.{Numbered, credential, credentials, parts}
-use Rattle.table.specs.Checks.{WellFormed}
+use Rattle.table.specs.Holding.{WellFormed}
 use Rattle.table.specs.declared.Principal.{Principal}
 use Rattle.table.specs.declared.Role.{Role}
 use Rattle.table.specs.declared.Goal.{Goal}

@@ -14,12 +14,12 @@ use borrow.Author.Tests.{ne-eqb, lt-leb, le-leb, le-ltb}
 use Rattle.sets.specs.Logic.{_and_, pick}
 use Rattle.table.specs.Limits.{mostPrincipals}
 use Rattle.table.specs.Layout.{automata, credential, credentials, role}
-use Rattle.table.specs.Checks.{WellFormed, within}
+use Rattle.table.specs.Holding.{WellFormed}
+use Rattle.table.specs.Checks.{within}
 use Rattle.table.specs.declared.Role.{Role}
 use Rattle.table.specs.declared.Goal.{Goal}
 use Rattle.table.specs.declared.Query.{Query}
 use Rattle.sets.proofs.Tests.{and-both, and-first, and-second, and-true, any-reached, any-shows, false-true}
-use Rattle.table.proofs.WellFormed.{wf-sized}
 use Rattle.sets.specs.Sets.{inSet, meets, part}
 use Rattle.automata.specs.Automata.{accepts, acceptsFrom, starting}
 use Rattle.automata.specs.Together.{acceptingSet, movedSets}
@@ -52,7 +52,7 @@ accepting-exact t wf word k = go (decLt k (automata t))
     go : Dec (k < automata t) → inSet (acceptingSet t (setsAfter t word)) k ≡ accepts t (suc k) word
     go (yes there) =
         let place : suc k - 1 ≡ k = omega arith in
-        rw place at (accepting-member t (suc k) (record { first = omega arith; last = there }) (wf-sized t wf .counted .fewAutomata) word)
+        rw place at (accepting-member t (suc k) (record { first = omega arith; last = there }) (wf .sized .counted .fewAutomata) word)
     go (no beyond) =
         setOf-members _ (automata t) k ∙ rw (le-ltb k (automata t) (omega arith), rejects-all t k word (omega arith))
 

@@ -19,7 +19,7 @@ ghost use lib.ListN.{take};
 ghost use lib.Dec.{eqb};
 ghost use Rattle.table.specs.Limits.{mostDepth, mostParts, mostPrincipals};
 ghost use Rattle.table.specs.Layout.{Numbered, credentials};
-ghost use Rattle.table.specs.Checks.{WellFormed};
+ghost use Rattle.table.specs.Holding.{WellFormed};
 ghost use Rattle.sets.specs.Sets.{part};
 ghost use Rattle.automata.specs.Together.{acceptingSet};
 ghost use Rattle.derivation.specs.Held.{Room, above};

@@ -10,7 +10,8 @@ use table::Number;
 use table::Query;
 use table::layout;
 ghost use mathlib.Core.Path.{_≡_};
-ghost use Rattle.table.specs.Checks.{Valid, WellFormed};
+ghost use Rattle.table.specs.Holding.{WellFormed};
+ghost use Rattle.table.specs.Checks.{Valid};
 ghost use Rattle.search.specs.Search;
 ghost use Rattle.search.specs.Relevance.{Indexed, Relevant};
 

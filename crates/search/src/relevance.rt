@@ -18,7 +18,7 @@ ghost use Prim.Native.Nat.{_<_};
 ghost use lib.ListN.{length, take};
 ghost use Rattle.table.specs.Limits.{mostCredentials, mostParts};
 ghost use Rattle.sets.specs.Logic.{_and_};
-ghost use Rattle.table.specs.Checks.{WellFormed};
+ghost use Rattle.table.specs.Holding.{WellFormed};
 ghost use Rattle.sets.specs.Sets.{inSet, part};
 ghost use Rattle.search.specs.Relevance.{Asking, ChainThere, Indexed, Place, Productive, Reached, Round, allMet, definers, indexed, linkedRoles, meant, rolesAsked, withMet};
 

@@ -1,25 +1,27 @@
 -- Walking a chain: `met` cells have been met from cell `first` on, and j is the next cell, or 0.
 use mathlib.Core.Path.{_≡_, refl}
 use mathlib.Core.List.{List, [], _∷_}
-use mathlib.Core.Bool.{true, false}
-use Prim.Native.Nat.{ℕ, zero, suc, _+_, _-_, _≤_, _<_}
+use mathlib.Core.Bool.{true}
+use Prim.Native.Nat.{ℕ, zero, suc, _+_, _-_, _≤_}
 use native.Mathlib.Omega.{arith}
 use lib.ListN.{length}
-use borrow.Author.Tests.{ne-eqb, le-leb, lt-leb}
-use Rattle.sets.specs.Logic.{_and_, pick}
+use borrow.Author.Tests.{ne-eqb}
+use Rattle.sets.specs.Logic.{pick}
 use Rattle.table.specs.Limits.{mostParts, leastParts}
-use Rattle.table.specs.Layout.{cell, cells, cellsFrom, chain, credential}
-use Rattle.table.specs.declared.Credential.{Credential}
-use Rattle.table.specs.Outcome.Outcome.{accepted}
-use Rattle.table.specs.Checks.{within, chainOk, goodChain, cellsOutcome}
+use Rattle.table.specs.Layout.{cell, cells, cellsFrom, chain}
+use Rattle.table.specs.Checks.{chainOk}
 use Rattle.table.proofs.Fields.{within-bounds}
-use Rattle.table.proofs.Accepted.{next-inside}
 
 -- a chain that is ok has 2 to 4 cells
-pub chain-bounds : (t : List ℕ) (first : ℕ) → chainOk t first ≡ true
-    → (leastParts ≤ length (chain t first)) × (length (chain t first) ≤ mostParts)
+pub record ChainRange (t : List ℕ) (first : ℕ) : Type 0 where
+  pub least : leastParts ≤ length (chain t first)
+  pub most : length (chain t first) ≤ mostParts
+
+pub chain-range : (t : List ℕ) (first : ℕ) → chainOk t first ≡ true → ChainRange t first
 unfolding chainOk
-chain-bounds t first ok = within-bounds leastParts mostParts _ ok
+chain-range t first ok =
+    let (least, most) = within-bounds leastParts mostParts _ ok in
+    record { least = least; most = most }
 
 pub record Walked (t : List ℕ) (first met j : ℕ) : Type 0 where
   pub few : met ≤ mostParts
@@ -49,37 +51,11 @@ module _ (t : List ℕ) (first met j : ℕ) (walked : Walked t first met j) wher
   pub walk-more : (j ≡ 0 → ⊥) → met + 1 ≤ length (chain t first)
   walk-more h = omega (arith, cells-left (mostParts - met) (omega (arith, walked .few)) h)
 
-  pub walk-goes-on : {v : ℕ} → cellsOutcome t ≡ accepted v → (j ≡ 0 → ⊥) → met + 1 ≤ mostParts
-      → Walked t first (met + 1) (cell t j .next)
-  walk-goes-on good h few =
+  pub walk-goes-on : cell t j .next ≤ cells t → (j ≡ 0 → ⊥) → met + 1 ≤ mostParts → Walked t first (met + 1) (cell t j .next)
+  walk-goes-on inside h few =
       let l = cells-left (suc mostParts - (met + 1)) (omega arith) h in
-      record { few = few; inside = next-inside t _ good j (omega arith); whole = omega arith }
-
-  -- a fifth cell is met
-  pub walk-too-long : (j ≡ 0 → ⊥) → mostParts < met + 1 → chainOk t first ≡ false
-  unfolding chainOk within _and_ cellsFrom
-  walk-too-long h over =
-      let five : length (chain t first) ≡ 5 = omega (arith, cells-left 0 (omega arith) h) in
-      rw five
+      record { few = few; inside = inside; whole = omega arith }
 
   -- the chain has ended with `met` cells
-  met-all : j ≡ 0 → length (chain t first) ≡ met
-  met-all e = let z = rw (stop-at t (suc mostParts - met) j e) at (walked .whole) in omega arith
-
-  pub walk-too-short : j ≡ 0 → met < leastParts → chainOk t first ≡ false
-  unfolding chainOk within _and_
-  walk-too-short e under = rw (met-all e, lt-leb leastParts met under)
-
-  pub walk-ends : j ≡ 0 → leastParts ≤ met → chainOk t first ≡ true
-  unfolding chainOk within _and_
-  walk-ends e enough = rw (met-all e, le-leb leastParts met enough, le-leb met mostParts (walked .few))
-
--- credential i, which the code has read as c, has a chain where its kind is 4, and only there
-module _ (t : List ℕ) (i : ℕ) {c : Credential} (read : c ≡ credential t i) where
-  pub chain-of-kind-4 : c .kind ≡ 4 → goodChain t i ≡ chainOk t (c .first)
-  unfolding goodChain pick
-  chain-of-kind-4 h = rw (← read, h)
-
-  pub no-chain : (c .kind ≡ 4 → ⊥) → goodChain t i ≡ true
-  unfolding goodChain pick
-  no-chain h = rw (← read, ne-eqb (c .kind) 4 h)
+  pub walk-ends : j ≡ 0 → length (chain t first) ≡ met
+  walk-ends e = let z = rw (stop-at t (suc mostParts - met) j e) at (walked .whole) in omega arith

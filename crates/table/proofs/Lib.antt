@@ -3,8 +3,6 @@ pub mod Meanings
 pub mod Fields
 pub mod Stages
 pub mod Sizes
-pub mod Accepted
 pub mod Chains
 pub mod Parts
 pub mod WellFormed
-pub mod Queries

@@ -9,10 +9,9 @@ use lib.ListN.{length, take, set, length-set}
 use lib.Seq.{take-suc-set}
 use Rattle.table.specs.Limits.{mostParts}
 use Rattle.table.specs.Layout.{cell, cells, cellsFrom, parts}
-use Rattle.table.specs.Outcome.Outcome.{accepted}
-use Rattle.table.specs.Checks.{chainOk, cellsOutcome}
+use Rattle.table.specs.Checks.{chainOk}
 use Rattle.table.specs.declared.Role.{Role}
-use Rattle.table.proofs.Chains.{Walked, chain-bounds, walk-starts, walk-more, walk-goes-on, step-from, stop-at}
+use Rattle.table.proofs.Chains.{Walked, chain-range, walk-starts, walk-more, walk-goes-on, step-from, stop-at}
 
 abbrev partsFrom : List ℕ → ℕ → ℕ → List Role
 partsFrom t most j = map (λ (k : ℕ). cell t k .role) (cellsFrom t most j)
@@ -31,7 +30,7 @@ module _ (t : List ℕ) (first : ℕ) (roles : List Role) (len j : ℕ) (so-far 
   pub gather-room : chainOk t first ≡ true → (j ≡ 0 → ⊥) → len < mostParts
   gather-room ok h =
       let more = walk-more t first len j (so-far .walked) h in
-      omega (arith, chain-bounds t first ok .1)
+      omega (arith, chain-range t first ok .most)
 
   -- with cell j's role there is one role more among those gathered, and one less to come
   one-more : (j ≡ 0 → ⊥) → len < mostParts
@@ -41,11 +40,11 @@ module _ (t : List ℕ) (first : ℕ) (roles : List Role) (len j : ℕ) (so-far 
       rw (add-one len, take-suc-set roles len (cell t j .role) (omega (arith, so-far .room)), append-assoc)
       (rw (one-less, step-from t (suc mostParts - suc len) j h) at (so-far .whole))
 
-  pub gather-goes-on : {v : ℕ} → cellsOutcome t ≡ accepted v → (j ≡ 0 → ⊥) → len < mostParts
+  pub gather-goes-on : cell t j .next ≤ cells t → (j ≡ 0 → ⊥) → len < mostParts
       → Gathered t first (set roles len (cell t j .role)) (len + 1) (cell t j .next)
-  gather-goes-on good h room =
+  gather-goes-on inside h room =
       record {
-        walked = walk-goes-on t first len j (so-far .walked) good h (omega arith);
+        walked = walk-goes-on t first len j (so-far .walked) inside h (omega arith);
         room = simp length-set (so-far .room);
         whole = one-more h room;
       }

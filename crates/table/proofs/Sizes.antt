@@ -2,15 +2,12 @@
 use mathlib.Core.Path.{_≡_}
 use mathlib.Core.List.{List}
 use mathlib.Core.Bool.{true}
-use Prim.Native.Nat.{ℕ, _+_, _-_, _*_, _≤_}
-use native.Mathlib.Omega.{arith}
+use Prim.Native.Nat.{ℕ, _≤_}
 use lib.ListN.{length}
 use borrow.Author.Tests.{leb-true, eqb-true}
 use Rattle.table.specs.Outcome.Outcome.{accepted}
-use Rattle.table.specs.Layout.{Numbered, credentials, cells, automata, edges}
+use Rattle.table.specs.Layout.{headSize}
 use Rattle.table.specs.Holding.{Counted, Sized}
-use Rattle.table.specs.Layout.{cellsBase, automataBase, edgesBase}
-use Rattle.table.specs.Layout.{headSize, credentialSize, cellSize, automatonSize, edgeSize}
 use Rattle.table.specs.Checks.{countsOk, headOutcome}
 use Rattle.sets.proofs.Tests.{and-parts}
 use Rattle.table.proofs.Stages.{then-first, then-second, demand-true}
@@ -31,17 +28,3 @@ sized t v e =
           counted t (leb-true _ _ (demand-true _ 1 0 _ (then-first _ _ v e .1))) (demand-true _ 2 0 _ (then-first _ _ v later .1));
       exact = eqb-true _ _ (demand-true _ 3 0 _ (then-second _ _ v later));
     }
-
--- every index that an accessor forms is inside the table
-module _ (t : List ℕ) (s : Sized t) (i : ℕ) where
-  pub credential-inside : Numbered (credentials t) i → headSize + credentialSize * (i - 1) + credentialSize ≤ length t
-  credential-inside h = omega arith
-
-  pub cell-inside : Numbered (cells t) i → cellsBase t + cellSize * (i - 1) + cellSize ≤ length t
-  cell-inside h = omega arith
-
-  pub automaton-inside : Numbered (automata t) i → automataBase t + automatonSize * (i - 1) + automatonSize ≤ length t
-  automaton-inside h = omega arith
-
-  pub edge-inside : Numbered (edges t) i → edgesBase t + edgeSize * (i - 1) + edgeSize ≤ length t
-  edge-inside h = omega arith

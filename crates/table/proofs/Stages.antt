@@ -1,6 +1,6 @@
 -- Laws of stages of checks: `demand` and `demandEach` one after the other, and what is known where all of them passed,
 -- or where one stopped.
-use mathlib.Core.Path.{_≡_, refl, sym, ap, _∙_}
+use mathlib.Core.Path.{_≡_, refl, sym}
 use mathlib.Core.Bool.{Bool, true, false}
 use mathlib.Core.Logic.{_⊎_, inl, inr, ⊎-elim}
 use Prim.Native.Nat.{ℕ, zero, suc, _+_, _≤_, _<_}
@@ -10,10 +10,6 @@ use native.Mathlib.Nat.{eq-or-lt-of-le}
 use Rattle.table.specs.Outcome.{Outcome, _andThen_, demand, demandEach}
 use Rattle.table.specs.Outcome.Outcome.{accepted, refused}
 use Rattle.table.specs.Layout.{Numbered}
-use Rattle.table.specs.Checks.{told, tableTold}
-use Rattle.table.specs.declared.Refusal.{Refusal}
-use Rattle.table.specs.declared.TableCheck.{TableCheck}
-use Rattle.table.specs.declared.TableCheck.the-variants as table
 
 pub refused-accepted : {number position v : ℕ} → refused number position ≡ accepted v → ⊥
 refused-accepted e = let z : _≡_ {A = ℕ} 0 1 = cc in omega arith
@@ -176,17 +172,6 @@ pub each-value : (ok : ℕ → Bool) (n number v : ℕ) → demandEach ok n numb
 unfolding demandEach
 each-value ok zero number v e = cc
 each-value ok (suc n) number v e = demand-value (ok (suc n)) number (suc n) v (then-second (demandEach ok n number) _ v e)
-
--- a call that makes one stage: what its answer says of the stage's outcome
-module _ {answer : TableCheck} {stage : Outcome} (meets : tableTold answer ≡ stage) where
-  pub stage-passed : answer ≡ table.Accepted → stage ≡ accepted 0
-  unfolding tableTold
-  stage-passed h = sym meets ∙ ap tableTold h
-
-  -- a refused answer is the whole check's, whatever follows
-  pub stage-stops : {why : Refusal} (later : Outcome) → answer ≡ table.Refused why → tableTold answer ≡ (stage andThen later)
-  unfolding tableTold told _andThen_
-  stage-stops later h = rw (← meets, h)
 
 -- a refusal stays, whatever would follow
 pub refused-then : {o : Outcome} {number position : ℕ} (later : Outcome) → refused number position ≡ o

@@ -18,12 +18,9 @@ use Rattle.table.specs.declared.Query.{Query}
 use Rattle.table.specs.declared.Credential.{Credential}
 use Rattle.table.specs.declared.Cell.{Cell}
 use Rattle.table.specs.declared.Edge.{Edge}
+use Rattle.table.specs.declared.Reason.{Reason}
+use Rattle.table.specs.declared.Reason.the-variants as reason
 use Rattle.table.specs.declared.Refusal.{Refusal}
-use Rattle.table.specs.declared.Refusal.the-variants as reason
-use Rattle.table.specs.declared.TableCheck.{TableCheck}
-use Rattle.table.specs.declared.TableCheck.the-variants as table
-use Rattle.table.specs.declared.QueryCheck.{QueryCheck}
-use Rattle.table.specs.declared.QueryCheck.the-variants as query
 
 -- a number from low to high
 unfoldable pub within : ℕ → ℕ → ℕ → Bool
@@ -86,34 +83,26 @@ headOutcome t =
 unfoldable pub goodCredential : List ℕ → ℕ → Bool
 goodCredential t i = credentialOk (cells t) (automata t) (credential t i)
 
-unfoldable pub credentialsOutcome : List ℕ → Outcome
-credentialsOutcome t = demandEach (goodCredential t) (credentials t) 4
-
 -- row 5
 unfoldable pub goodCell : List ℕ → ℕ → Bool
 goodCell t j = cellOk (cells t) j (cell t j)
-
-unfoldable pub cellsOutcome : List ℕ → Outcome
-cellsOutcome t = demandEach (goodCell t) (cells t) 5
 
 -- row 6: a credential of kind 4 has a chain, and no other
 unfoldable pub goodChain : List ℕ → ℕ → Bool
 goodChain t i = pick (eqb (credential t i .kind) 4) (chainOk t (credential t i .first)) true
 
-unfoldable pub chainsOutcome : List ℕ → Outcome
-chainsOutcome t = demandEach (goodChain t) (credentials t) 6
-
 -- row 7
 unfoldable pub goodEdge : List ℕ → ℕ → Bool
 goodEdge t k = edgeOk (automata t) (edge t k)
 
-unfoldable pub edgesOutcome : List ℕ → Outcome
-edgesOutcome t = demandEach (goodEdge t) (edges t) 7
-
 -- the table call: rows 1 to 7
 unfoldable pub tableOutcome : List ℕ → Outcome
 tableOutcome t =
-    headOutcome t andThen credentialsOutcome t andThen cellsOutcome t andThen chainsOutcome t andThen edgesOutcome t
+    headOutcome t andThen
+    demandEach (goodCredential t) (credentials t) 4 andThen
+    demandEach (goodCell t) (cells t) 5 andThen
+    demandEach (goodChain t) (credentials t) 6 andThen
+    demandEach (goodEdge t) (edges t) 7
 
 -- a query is four numbers, in this order: a principal, a role's owner and name, and a depth limit
 abbrev pub asQuery : ℕ → ℕ → ℕ → ℕ → Query
@@ -131,40 +120,30 @@ queryOutcome q =
 unfoldable pub requestOutcome : List ℕ → Query → Outcome
 requestOutcome t q = tableOutcome t andThen queryOutcome q
 
--- an accepted table, and a valid query
-abbrev pub WellFormed : List ℕ → Type 0
-WellFormed t = tableOutcome t ≡ accepted 0
+-- a table is accepted if its checks find nothing; a query is valid if row 8 finds nothing
+abbrev pub AcceptedTable : List ℕ → Type 0
+AcceptedTable t = tableOutcome t ≡ accepted 0
 
 abbrev pub Valid : Query → Type 0
 Valid q = queryOutcome q ≡ accepted 0
 
--- document 01's number and position of each reason
-unfoldable pub place : Refusal → ℕ × ℕ
-place reason.ShortHead = (1, 0)
-place reason.CountOverLimit = (2, 0)
-place reason.WrongLength = (3, 0)
-place (reason.Credential i) = (4, i)
-place (reason.Cell j) = (5, j)
-place (reason.Chain i) = (6, i)
-place (reason.Edge k) = (7, k)
-place (reason.Query field) = (8, field)
-place reason.NoMinimalSet = (9, 0)
-place reason.LongerThanBuffer = (10, 0)
-place (reason.RecordLength node) = (11, node)
-place (reason.Node node) = (12, node)
-place (reason.Branch node) = (13, node)
-place (reason.Word automaton) = (14, automaton)
+-- document 01's number of each reason
+unfoldable pub numberOf : Reason → ℕ
+numberOf reason.ShortHead = 1
+numberOf reason.CountOverLimit = 2
+numberOf reason.WrongLength = 3
+numberOf reason.Credential = 4
+numberOf reason.Cell = 5
+numberOf reason.Chain = 6
+numberOf reason.Edge = 7
+numberOf reason.Query = 8
+numberOf reason.NoMinimalSet = 9
+numberOf reason.LongerThanBuffer = 10
+numberOf reason.RecordLength = 11
+numberOf reason.Node = 12
+numberOf reason.Branch = 13
+numberOf reason.Word = 14
 
 unfoldable pub told : Refusal → Outcome
-unfolding place
-told why = refused (place why .0) (place why .1)
-
-unfoldable pub tableTold : TableCheck → Outcome
-unfolding told
-tableTold table.Accepted = accepted 0
-tableTold (table.Refused why) = told why
-
-unfoldable pub queryTold : QueryCheck → Outcome
-unfolding told
-queryTold query.Valid = accepted 0
-queryTold (query.Refused why) = told why
+unfolding numberOf
+told why = refused (numberOf (why .reason)) (why .position)

@@ -1,5 +1,5 @@
 pub mod Outcome
 pub mod Limits
 pub mod Layout
-pub mod Holding
 pub mod Checks
+pub mod Holding

@@ -13,10 +13,11 @@ ghost use mathlib.Core.Path.{_≡_};
 ghost use Prim.Native.Nat.{_+_, _≤_};
 ghost use mathlib.Core.Bool.{true};
 ghost use lib.ListN.{length};
-ghost use Rattle.table.specs.Checks.{WellFormed, chainOk};
+ghost use Rattle.table.specs.Limits.{mostAutomata, mostCells, mostCredentials, mostEdges};
 ghost use Rattle.table.specs.Layout;
-ghost use Rattle.table.specs.Layout.{Numbered, automata, automatonSize, cellSize, cells, credentialSize, credentials, edgeSize, edges};
-ghost use Rattle.table.specs.Holding.{Counted, Holds, Sized};
+ghost use Rattle.table.specs.Layout.{Numbered, automatonSize, cellSize, credentialSize, edgeSize};
+ghost use Rattle.table.specs.Checks.{chainOk};
+ghost use Rattle.table.specs.Holding.{Counted, Counts, Holds, Sized, WellFormed};
 
 pub const MOST_CREDENTIALS: Number = 20;
 
@@ -56,26 +57,55 @@ pub fn wide(x: Number) -> usize
     x as usize
 }
 
+// The head: how many records there are of each kind.
+pub fn credentials(table: &[Number]) -> usize
+    requires { ⌜ Counted (now table) ⌝ }
+    ensures { λ r. ⌜ Counts mostCredentials (Layout.credentials (now (table .entry))) r ⌝ }
+{
+    wide(table[0])
+}
+
+pub fn cells(table: &[Number]) -> usize
+    requires { ⌜ Counted (now table) ⌝ }
+    ensures { λ r. ⌜ Counts mostCells (Layout.cells (now (table .entry))) r ⌝ }
+{
+    wide(table[1])
+}
+
+pub fn automata(table: &[Number]) -> usize
+    requires { ⌜ Counted (now table) ⌝ }
+    ensures { λ r. ⌜ Counts mostAutomata (Layout.automata (now (table .entry))) r ⌝ }
+{
+    wide(table[2])
+}
+
+pub fn edges(table: &[Number]) -> usize
+    requires { ⌜ Counted (now table) ⌝ }
+    ensures { λ r. ⌜ Counts mostEdges (Layout.edges (now (table .entry))) r ⌝ }
+{
+    wide(table[3])
+}
+
 // The part cells follow the credentials, the automata the cells, and the edges the automata.
 fn cells_base(table: &[Number]) -> usize
     requires { ⌜ Counted (now table) ⌝ }
     ensures { λ r. ⌜ r ≡ Layout.cellsBase (now (table .entry)) ⌝ }
 {
-    HEAD_SIZE + CREDENTIAL_SIZE * wide(table[0])
+    HEAD_SIZE + CREDENTIAL_SIZE * credentials(table)
 }
 
 fn automata_base(table: &[Number]) -> usize
     requires { ⌜ Counted (now table) ⌝ }
     ensures { λ r. ⌜ r ≡ Layout.automataBase (now (table .entry)) ⌝ }
 {
-    cells_base(table) + CELL_SIZE * wide(table[1])
+    cells_base(table) + CELL_SIZE * cells(table)
 }
 
 fn edges_base(table: &[Number]) -> usize
     requires { ⌜ Counted (now table) ⌝ }
     ensures { λ r. ⌜ r ≡ Layout.edgesBase (now (table .entry)) ⌝ }
 {
-    automata_base(table) + AUTOMATON_SIZE * wide(table[2])
+    automata_base(table) + AUTOMATON_SIZE * automata(table)
 }
 
 // The length that the head says.
@@ -83,12 +113,12 @@ pub fn table_length(table: &[Number]) -> usize
     requires { ⌜ Counted (now table) ⌝ }
     ensures { λ r. ⌜ r ≡ Layout.tableLength (now (table .entry)) ⌝ }
 {
-    edges_base(table) + EDGE_SIZE * wide(table[3])
+    edges_base(table) + EDGE_SIZE * edges(table)
 }
 
 pub fn credential(table: &[Number], i: usize) -> Credential
     requires { ⌜ Sized (now table) ⌝ }
-    requires { ⌜ Numbered (credentials (now table)) i ⌝ }
+    requires { ⌜ Numbered (Layout.credentials (now table)) i ⌝ }
     ensures { λ r. ⌜ r ≡ Layout.credential (now (table .entry)) i ⌝ }
 {
     credential_at(table, HEAD_SIZE + CREDENTIAL_SIZE * (i - 1))
@@ -96,7 +126,7 @@ pub fn credential(table: &[Number], i: usize) -> Credential
 
 pub fn cell(table: &[Number], j: usize) -> Cell
     requires { ⌜ Sized (now table) ⌝ }
-    requires { ⌜ Numbered (cells (now table)) j ⌝ }
+    requires { ⌜ Numbered (Layout.cells (now table)) j ⌝ }
     ensures { λ r. ⌜ r ≡ Layout.cell (now (table .entry)) j ⌝ }
 {
     cell_at(table, cells_base(table) + CELL_SIZE * (j - 1))
@@ -105,7 +135,7 @@ pub fn cell(table: &[Number], j: usize) -> Cell
 // The chain that begins with cell `first`.
 pub fn chain(table: &[Number], first: Number) -> Chain
     requires { ⌜ WellFormed (now table) ⌝ }
-    requires { ⌜ Numbered (cells (now table)) first ⌝ }
+    requires { ⌜ Numbered (Layout.cells (now table)) first ⌝ }
     requires { ⌜ chainOk (now table) first ≡ true ⌝ }
     ensures { λ r. ⌜ Holds (now (table .entry)) first r ⌝ }
 {
@@ -130,7 +160,7 @@ pub fn chain(table: &[Number], first: Number) -> Chain
 
 pub fn automaton(table: &[Number], k: usize) -> Automaton
     requires { ⌜ Sized (now table) ⌝ }
-    requires { ⌜ Numbered (automata (now table)) k ⌝ }
+    requires { ⌜ Numbered (Layout.automata (now table)) k ⌝ }
     ensures { λ r. ⌜ r ≡ Layout.automaton (now (table .entry)) k ⌝ }
 {
     automaton_at(table, automata_base(table) + AUTOMATON_SIZE * (k - 1))
@@ -138,7 +168,7 @@ pub fn automaton(table: &[Number], k: usize) -> Automaton
 
 pub fn edge(table: &[Number], k: usize) -> Edge
     requires { ⌜ Sized (now table) ⌝ }
-    requires { ⌜ Numbered (edges (now table)) k ⌝ }
+    requires { ⌜ Numbered (Layout.edges (now table)) k ⌝ }
     ensures { λ r. ⌜ r ≡ Layout.edge (now (table .entry)) k ⌝ }
 {
     edge_at(table, edges_base(table) + EDGE_SIZE * (k - 1))

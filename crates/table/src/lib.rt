@@ -1,14 +1,12 @@
-// The table of credentials and the query, as document 01 lays them out, and the checks that stop a bad one: rows 1 to 8
-// of "Where each input is stopped". Every slice of every length gets "accepted" or exactly its refusal, and nothing is
-// written. What the checks mean is in specs/Checks.antt; what an accepted table gives its readers, in
-// proofs/WellFormed.antt.
+// The types of a table of credentials and of a query, as document 01 lays them out, and why an input is stopped. What an
+// accepted table and a valid query are is in specs/Checks.antt; what an accepted table gives its readers, in
+// proofs/WellFormed.antt. The crate `checks` makes the checks.
 pub mod layout; // layout.rt: the records of a table, by number
-mod ranges; // ranges.rt: what a single record or query must be
-mod rows; // rows.rt: the rows of checks over all records
 
+use sets::StateSet;
 ghost use mathlib.Core.Path.{_≡_};
 ghost use Rattle.table.specs.Layout.{sameRole};
-ghost use Rattle.table.specs.Checks.{place, queryOutcome, queryTold, requestOutcome, tableOutcome, tableTold};
+ghost use Rattle.table.specs.Checks.{numberOf};
 
 // The width of every number of a table, a query and a record.
 pub type Number = u16;
@@ -76,8 +74,8 @@ pub struct Chain {
 
 // Sets of states: state s counts 2^s.
 pub struct Automaton {
-    pub starting: Number,
-    pub accepting: Number,
+    pub starting: StateSet,
+    pub accepting: StateSet,
 }
 
 pub struct Edge {
@@ -95,128 +93,50 @@ pub const EVERY_ROLE: Number = 2;
 
 pub const OTHER_ROLES: Number = 3;
 
-// Why an input is stopped, in the order of document 01's table, with the position where there is one.
-pub enum Refusal {
+// Why an input is stopped, in the order of document 01's table.
+pub enum Reason {
     ShortHead,
     CountOverLimit,
     WrongLength,
-    Credential(usize),
-    Cell(usize),
-    Chain(usize),
-    Edge(usize),
-    Query(usize),
+    Credential,
+    Cell,
+    Chain,
+    Edge,
+    Query,
     NoMinimalSet,
     LongerThanBuffer,
-    RecordLength(usize),
-    Node(usize),
-    Branch(usize),
-    Word(usize),
+    RecordLength,
+    Node,
+    Branch,
+    Word,
 }
 
-impl Refusal {
-    // Document 01's number of the reason.
+impl Reason {
+    // Document 01's number of it.
     pub fn number(self) -> u32
-        ensures { λ r. ⌜ r ≡ place self .0 ⌝ }
+        ensures { λ r. ⌜ r ≡ numberOf self ⌝ }
     {
         match self {
-            Refusal::ShortHead => 1,
-            Refusal::CountOverLimit => 2,
-            Refusal::WrongLength => 3,
-            Refusal::Credential(_) => 4,
-            Refusal::Cell(_) => 5,
-            Refusal::Chain(_) => 6,
-            Refusal::Edge(_) => 7,
-            Refusal::Query(_) => 8,
-            Refusal::NoMinimalSet => 9,
-            Refusal::LongerThanBuffer => 10,
-            Refusal::RecordLength(_) => 11,
-            Refusal::Node(_) => 12,
-            Refusal::Branch(_) => 13,
-            Refusal::Word(_) => 14,
-        }
-    }
-
-    // Its position: a record's, a field's, a node's or an automaton's number, or 0.
-    pub fn position(self) -> usize
-        ensures { λ r. ⌜ r ≡ place self .1 ⌝ }
-    {
-        match self {
-            Refusal::ShortHead => 0,
-            Refusal::CountOverLimit => 0,
-            Refusal::WrongLength => 0,
-            Refusal::Credential(i) => i,
-            Refusal::Cell(j) => j,
-            Refusal::Chain(i) => i,
-            Refusal::Edge(k) => k,
-            Refusal::Query(field) => field,
-            Refusal::NoMinimalSet => 0,
-            Refusal::LongerThanBuffer => 0,
-            Refusal::RecordLength(node) => node,
-            Refusal::Node(node) => node,
-            Refusal::Branch(node) => node,
-            Refusal::Word(automaton) => automaton,
+            Reason::ShortHead => 1,
+            Reason::CountOverLimit => 2,
+            Reason::WrongLength => 3,
+            Reason::Credential => 4,
+            Reason::Cell => 5,
+            Reason::Chain => 6,
+            Reason::Edge => 7,
+            Reason::Query => 8,
+            Reason::NoMinimalSet => 9,
+            Reason::LongerThanBuffer => 10,
+            Reason::RecordLength => 11,
+            Reason::Node => 12,
+            Reason::Branch => 13,
+            Reason::Word => 14,
         }
     }
 }
 
-pub enum TableCheck {
-    Accepted,
-    Refused(Refusal),
-}
-
-pub enum QueryCheck {
-    Valid,
-    Refused(Refusal),
-}
-
-// Whether the table is accepted: rows 1 to 7, for any slice.
-pub fn check_table(table: &[Number]) -> TableCheck
-    ensures { λ r. ⌜ tableTold r ≡ tableOutcome (now (table .entry)) ⌝ }
-{
-    let head = rows::check_head(table);
-    let TableCheck::Accepted = head else {
-        return head;
-    };
-    let credentials = rows::check_credentials(table);
-    let TableCheck::Accepted = credentials else {
-        return credentials;
-    };
-    let cells = rows::check_cells(table);
-    let TableCheck::Accepted = cells else {
-        return cells;
-    };
-    let chains = rows::check_chains(table);
-    let TableCheck::Accepted = chains else {
-        return chains;
-    };
-    rows::check_edges(table)
-}
-
-// Whether the table is accepted and the query valid: rows 1 to 8, which every call with a query makes first.
-pub fn check_request(table: &[Number], query: Query) -> QueryCheck
-    ensures { λ r. ⌜ queryTold r ≡ requestOutcome (now (table .entry)) query ⌝ }
-{
-    match check_table(table) {
-        TableCheck::Accepted => check_query(query),
-        TableCheck::Refused(why) => QueryCheck::Refused(why),
-    }
-}
-
-// Whether the query is valid: row 8. Of several bad fields the first is told.
-pub fn check_query(query: Query) -> QueryCheck
-    ensures { λ r. ⌜ queryTold r ≡ queryOutcome query ⌝ }
-{
-    if !ranges::is_principal(query.principal) {
-        return QueryCheck::Refused(Refusal::Query(1));
-    }
-    if !ranges::is_principal(query.owner) {
-        return QueryCheck::Refused(Refusal::Query(2));
-    }
-    if !ranges::is_name(query.name) {
-        return QueryCheck::Refused(Refusal::Query(3));
-    }
-    if !ranges::within(1, layout::MOST_DEPTH, query.depth) {
-        return QueryCheck::Refused(Refusal::Query(4));
-    }
-    QueryCheck::Valid
+// The position is a record's, a field's, a node's or an automaton's number, or 0.
+pub struct Refusal {
+    pub reason: Reason,
+    pub position: usize,
 }

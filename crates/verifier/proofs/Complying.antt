@@ -6,7 +6,7 @@ use Prim.Native.Nat.{ℕ}
 use native.Mathlib.Omega.{arith}
 use Rattle.sets.specs.Logic.{_or_}
 use Rattle.table.specs.Layout.{Numbered, automata, credential}
-use Rattle.table.specs.Checks.{WellFormed}
+use Rattle.table.specs.Holding.{WellFormed}
 use Rattle.table.specs.declared.Goal.{Goal}
 use Rattle.table.proofs.WellFormed.{wf-credential}
 use Rattle.derivation.specs.Forest.{Derives, Forest}

@@ -7,7 +7,8 @@ use Prim.Native.Nat.{ℕ}
 use Rattle.table.specs.Outcome.{_andThen_, demandEach}
 use Rattle.table.specs.Outcome.Outcome.{accepted, refused}
 use Rattle.table.specs.Layout.{automata}
-use Rattle.table.specs.Checks.{Valid, WellFormed, requestOutcome}
+use Rattle.table.specs.Holding.{WellFormed}
+use Rattle.table.specs.Checks.{Valid, requestOutcome}
 use Rattle.table.specs.declared.Query.{Query}
 use Rattle.table.proofs.Stages.{FirstFailure, each-all, each-first, each-ok, each-refused}
 use Rattle.table.proofs.Stages.{refused-accepted, then-first, then-refused, then-second}

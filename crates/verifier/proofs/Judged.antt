@@ -10,7 +10,7 @@ use Rattle.sets.specs.Logic.{_or_, pick}
 use Rattle.table.specs.Outcome.{Outcome, _andThen_, demandEach}
 use Rattle.table.specs.Outcome.Outcome.{accepted, refused}
 use Rattle.table.specs.Layout.{automata}
-use Rattle.table.specs.Checks.{WellFormed}
+use Rattle.table.specs.Holding.{WellFormed}
 use Rattle.table.specs.declared.Query.{Query}
 use Rattle.table.specs.declared.Goal.{Goal}
 use borrow.Author.Tests.{ne-eqb}

@@ -15,10 +15,9 @@ use Rattle.sets.proofs.Members.{inSet-and, setOf-members}
 use Rattle.table.specs.Limits.{mostAutomata}
 use Rattle.table.specs.Outcome.{demandEach}
 use Rattle.table.specs.Layout.{Numbered, automata, credential}
-use Rattle.table.specs.Checks.{WellFormed}
+use Rattle.table.specs.Holding.{WellFormed}
 use Rattle.table.specs.declared.Goal.{Goal}
 use Rattle.table.specs.declared.Role.{Role}
-use Rattle.table.proofs.WellFormed.{wf-sized}
 use Rattle.automata.specs.Together.{acceptingSet, startingSets}
 use Rattle.derivation.specs.Forest.{Derives, Forest, usedSet}
 use Rattle.derivation.specs.Forest.Forest.{end, node}
@@ -66,7 +65,7 @@ pub words-judged : (t : List ℕ) (l : ℕ) (b gs : List Goal) (f : Forest) → 
     → demandEach (keeps t (usedSet f) (everyFrom t (startingSets t) allAutomata f)) (automata t) 14 ≡ demandEach (met t f) (automata t) 14
 unfolding keeps met _and_
 words-judged t l b gs f wf d =
-    let few = wf-sized t wf .counted .fewAutomata in
+    let few = wf .sized .counted .fewAutomata in
     demandEach-ext _ _ (automata t) 14
     (λ k own.
     let eight : Numbered mostAutomata k = record { first = own .first; last = omega arith } in

@@ -24,7 +24,7 @@ use Rattle.verifier.specs.Reading.Reading.{read, stop}
 use Rattle.verifier.specs.Steps.{may}
 use Rattle.verifier.specs.Tally.{ReadOn, Told, everyFrom, numbersTold, tally, tallyOn}
 use Rattle.verifier.specs.Tally.Told.{passed, stopped}
-use Rattle.table.specs.Checks.{WellFormed}
+use Rattle.table.specs.Holding.{WellFormed}
 use Rattle.verifier.proofs.Readings.{reader-end}
 use Rattle.derivation.proofs.Applying.{applies-role, asks-more, asks-nothing}
 

@@ -9,9 +9,8 @@ use lib.Seq.{drop-cons, getD-take, length-take-le, take-all}
 use lib.Bits.{bitOr}
 use Rattle.table.specs.Limits.{mostCredentials, mostParts}
 use Rattle.table.specs.Layout.{Numbered}
-use Rattle.table.specs.Checks.{WellFormed}
+use Rattle.table.specs.Holding.{WellFormed}
 use Rattle.table.specs.declared.Goal.{Goal}
-use Rattle.table.proofs.WellFormed.{wf-sized}
 use Rattle.automata.specs.Together.{movedSets}
 use Rattle.automata.specs.declared.StateSets.{StateSets}
 use Rattle.verifier.specs.Reading.{entry}
@@ -138,7 +137,7 @@ module _ {t : List ℕ} {levels : ℕ} {branch : Branch} {g : Goal} {rec : List 
   pub node-credential : Numbered mostCredentials (step .credential)
   node-credential =
       let there = applies-numbered t g _ _ _ (node-facts .own) in
-      let few = wf-sized t (n .table) .counted .fewCredentials in
+      let few = n .table .sized .counted .fewCredentials in
       record { first = there .first; last = omega arith }
 
 module _ {t : List ℕ} {levels : ℕ} {branch : Branch} {g : Goal} {s : StateSets} {rec : List ℕ} {step : Step} {used every : ℕ}

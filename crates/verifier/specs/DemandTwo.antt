@@ -9,7 +9,8 @@ use mathlib.Core.Logic.{_↔_}
 use lib.ListN.{length}
 use Rattle.table.specs.Outcome.Outcome.{accepted, refused}
 use Rattle.table.specs.Layout.{Numbered, automata}
-use Rattle.table.specs.Checks.{Valid, WellFormed}
+use Rattle.table.specs.Holding.{WellFormed}
+use Rattle.table.specs.Checks.{Valid}
 use Rattle.table.specs.declared.Goal.{Goal}
 use Rattle.table.specs.declared.Query.{Query}
 use Rattle.derivation.specs.Rules.{fresh, goalOf, premises}

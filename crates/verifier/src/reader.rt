@@ -16,7 +16,7 @@ ghost use lib.Dec.{eqb};
 ghost use Rattle.sets.specs.Logic.{pick};
 ghost use Rattle.table.specs.Limits.{mostCredentials, mostDepth, mostParts};
 ghost use Rattle.table.specs.Layout.{Numbered};
-ghost use Rattle.table.specs.Checks.{WellFormed};
+ghost use Rattle.table.specs.Holding.{WellFormed};
 ghost use Rattle.automata.specs.Together.{acceptingSet};
 ghost use Rattle.verifier.specs.Reading.{entry};
 ghost use Rattle.derivation.specs.Held.{Room, above};

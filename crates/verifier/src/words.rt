@@ -12,7 +12,7 @@ ghost use Rattle.sets.specs.Logic.{_or_};
 ghost use Rattle.table.specs.Limits.{mostAutomata};
 ghost use Rattle.table.specs.Outcome.{Outcome, _andThen_, demandEach};
 ghost use Rattle.table.specs.Layout.{Numbered, automata};
-ghost use Rattle.table.specs.Checks.{WellFormed};
+ghost use Rattle.table.specs.Holding.{WellFormed};
 ghost use Rattle.sets.specs.Sets.{inSet};
 ghost use Rattle.verifier.specs.Tally.{keeps};
 ghost use Rattle.verifier.specs.Verdict.{verdictTold};

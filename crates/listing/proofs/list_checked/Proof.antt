@@ -6,7 +6,6 @@ use native.Mathlib.Omega.{arith}
 use borrow.Author.Needs.{needs}
 use denote.Ref.{now}
 use Rattle.table.specs.Checks.{told}
-use Rattle.table.proofs.WellFormed.{wf-sized}
 use Rattle.listing.specs.Minimal.{listingTold}
 use Rattle.listing.specs.Below.{FoundUpTo}
 use Rattle.listing.proofs.Finding.{upto-length, upto-same}
@@ -24,7 +23,7 @@ use Rattle.table.proofs.layout.wide.Reads as wide-reads
 shared-slice-read-wide : tie.Need-shared-slice-read-wide
 shared-slice-read-wide c =
     let pre = c .before .before .before .pre in
-    omega (arith, wf-sized _ (pre .0) .counted .head)
+    omega (arith, pre .0 .sized .counted .head)
 
 wide-requires : tie.Need-wide-requires
 wide-requires c κs = search needs

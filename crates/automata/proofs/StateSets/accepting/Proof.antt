@@ -7,7 +7,6 @@ use native.Mathlib.Omega.{arith}
 use borrow.Author.Needs.{needs}
 use Rattle.automata.proofs.Together.{accepting-all, accepting-more, accepting-same, acceptsAt}
 use Rattle.sets.specs.Sets.{setOf}
-use Rattle.table.proofs.WellFormed.{wf-sized}
 use Rattle.table.specs.Limits.{mostAutomata}
 use Rattle.automata.proofs.StateSets.accepting.Statement.{statement}
 use Rattle.automata.proofs.StateSets.accepting.Tie as tie
@@ -19,20 +18,20 @@ abbrev μ-loop : tie.MeasureT-loop
 μ-loop table self mask₀ a k₀ mask k = a - k
 
 shared-slice-read-wide : tie.Need-shared-slice-read-wide Inv-loop μ-loop
-shared-slice-read-wide c = omega (arith, wf-sized _ (c .before .before .pre) .counted .head)
+shared-slice-read-wide c = omega (arith, c .before .before .pre .sized .counted .head)
 
 wide-requires : tie.Need-wide-requires Inv-loop μ-loop
 wide-requires c κs = search needs
 
 loop-holds : tie.Need-loop-holds Inv-loop μ-loop
 unfolding setOf
-loop-holds c = (omega arith, omega (arith, wf-sized _ (c .before .before .before .pre) .counted .fewAutomata), refl)
+loop-holds c = (omega arith, omega (arith, c .before .before .before .pre .sized .counted .fewAutomata), refl)
 
 add-automaton : tie.Need-add-automaton Inv-loop μ-loop
 add-automaton c = search needs
 
 automaton-requires : tie.Need-automaton-requires Inv-loop μ-loop
-automaton-requires c κs = (wf-sized _ (c .before .before .before .before .before .pre), omega arith)
+automaton-requires c κs = (c .before .before .before .before .before .pre .sized, omega arith)
 
 mul-if1 : tie.Need-mul-if1 Inv-loop μ-loop
 mul-if1 c = search needs

@@ -4,7 +4,6 @@ use Prim.Native.Nat.{_-_, _≤_}
 use native.Mathlib.Omega.{arith}
 use borrow.Author.Needs.{needs}
 use Rattle.automata.proofs.Together.{Moving, edge-there, moving-all, moving-more, moving-none}
-use Rattle.table.proofs.WellFormed.{wf-sized}
 use Rattle.automata.proofs.StateSets.moved.Statement.{statement}
 use Rattle.automata.proofs.StateSets.moved.Tie as tie
 
@@ -15,7 +14,7 @@ abbrev μ-loop : tie.MeasureT-loop
 μ-loop self table role next₀ e k₀ next k = e - k
 
 shared-slice-read-wide : tie.Need-shared-slice-read-wide Inv-loop μ-loop
-shared-slice-read-wide c = omega (arith, wf-sized _ (c .before .before .pre) .counted .head)
+shared-slice-read-wide c = omega (arith, c .before .before .pre .sized .counted .head)
 
 wide-requires : tie.Need-wide-requires Inv-loop μ-loop
 wide-requires c κs = search needs
@@ -27,7 +26,7 @@ add-k : tie.Need-add-k Inv-loop μ-loop
 add-k c = search needs
 
 edge-requires : tie.Need-edge-requires Inv-loop μ-loop
-edge-requires c κs = (wf-sized _ (c .before .before .before .before .before .pre), omega arith)
+edge-requires c κs = (c .before .before .before .before .before .pre .sized, omega arith)
 
 with-edge-requires : tie.Need-with-edge-requires Inv-loop μ-loop
 with-edge-requires c κs =

@@ -4,7 +4,6 @@ use Prim.Native.Nat.{_-_, _≤_}
 use native.Mathlib.Omega.{arith}
 use borrow.Author.Needs.{needs}
 use Rattle.automata.proofs.Together.{Started, started-all, started-more, started-none}
-use Rattle.table.proofs.WellFormed.{wf-sized}
 use Rattle.table.specs.Limits.{mostAutomata}
 use Rattle.automata.proofs.StateSets.start.Statement.{statement}
 use Rattle.automata.proofs.StateSets.start.Tie as tie
@@ -16,20 +15,20 @@ abbrev μ-loop : tie.MeasureT-loop
 μ-loop table sets₀ a k₀ sets k = a - k
 
 shared-slice-read-wide : tie.Need-shared-slice-read-wide Inv-loop μ-loop
-shared-slice-read-wide c = omega (arith, wf-sized _ (c .before .before .pre) .counted .head)
+shared-slice-read-wide c = omega (arith, c .before .before .pre .sized .counted .head)
 
 wide-requires : tie.Need-wide-requires Inv-loop μ-loop
 wide-requires c κs = search needs
 
 loop-holds : tie.Need-loop-holds Inv-loop μ-loop
 loop-holds c =
-    (omega arith, omega (arith, wf-sized _ (c .before .before .before .pre) .counted .fewAutomata), started-none _)
+    (omega arith, omega (arith, c .before .before .before .pre .sized .counted .fewAutomata), started-none _)
 
 add-automaton : tie.Need-add-automaton Inv-loop μ-loop
 add-automaton c = search needs
 
 automaton-requires : tie.Need-automaton-requires Inv-loop μ-loop
-automaton-requires c κs = (wf-sized _ (c .before .before .before .before .before .pre), omega arith)
+automaton-requires c κs = (c .before .before .before .before .before .pre .sized, omega arith)
 
 mul-sets : tie.Need-mul-sets Inv-loop μ-loop
 mul-sets c = search needs

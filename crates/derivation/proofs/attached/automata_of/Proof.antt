@@ -6,7 +6,6 @@ use native.Mathlib.Omega.{arith}
 use borrow.Author.Needs.{needs}
 use denote.Ref.{now}
 use Rattle.table.specs.Layout.{credentials}
-use Rattle.table.proofs.WellFormed.{wf-sized}
 use Rattle.derivation.specs.Attached.{automataOf, automataUpTo}
 use Rattle.derivation.proofs.Attaching.{automata-next, automaton-few}
 use Rattle.derivation.proofs.attached.automata_of.Statement.{statement}
@@ -21,7 +20,7 @@ abbrev μ-loop : tie.MeasureT-loop
 shared-slice-read-wide : tie.Need-shared-slice-read-wide Inv-loop μ-loop
 shared-slice-read-wide c =
     let pre = c .before .before .pre in
-    omega (arith, wf-sized _ pre .counted .head)
+    omega (arith, pre .sized .counted .head)
 
 wide-requires : tie.Need-wide-requires Inv-loop μ-loop
 wide-requires c κs = search needs
@@ -36,17 +35,17 @@ add-credential c = search needs
 credential-requires : tie.Need-credential-requires Inv-loop μ-loop
 credential-requires c κs =
     let pre = c .before .before .before .before .before .pre in
-    (wf-sized _ pre, (record { first = omega arith; last = omega arith }))
+    (pre .sized, (record { first = omega arith; last = omega arith }))
 
 cast-with-automaton : tie.Need-cast-with-automaton Inv-loop μ-loop
 cast-with-automaton c =
     let pre = c .before .before .before .before .before .before .pre in
-    omega (arith, wf-sized _ pre .counted .fewCredentials)
+    omega (arith, pre .sized .counted .fewCredentials)
 
 shr-with-automaton : tie.Need-shr-with-automaton Inv-loop μ-loop
 shr-with-automaton c =
     let pre = c .before .before .before .before .before .before .pre in
-    omega (arith, wf-sized _ pre .counted .fewCredentials)
+    omega (arith, pre .sized .counted .fewCredentials)
 
 with-automaton-requires : tie.Need-with-automaton-requires Inv-loop μ-loop
 with-automaton-requires c κs =

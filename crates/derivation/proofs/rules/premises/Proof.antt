@@ -7,7 +7,6 @@ use denote.Ref.{now}
 use Rattle.table.specs.Layout.{Numbered, credential, credentials}
 use Rattle.table.specs.declared.Role.{Role}
 use Rattle.sets.proofs.Tests.{failed, passed}
-use Rattle.table.proofs.WellFormed.{wf-sized}
 use Rattle.derivation.specs.Rules.{asks, intersectionAsks, premises}
 use Rattle.derivation.proofs.Asking.{answer-is, asks-1, asks-2, asks-3, asks-4, asks-none}
 use Rattle.derivation.proofs.Asking.{chain-there, credential-over, no-credential, other-role, own-role}
@@ -42,7 +41,7 @@ returns c = answer-is (c .not-applying .ensures) (no-credential _ _ _ _ (c .befo
 shared-slice-read-if2 : tie.Need-shared-slice-read-if2
 shared-slice-read-if2 c =
     let pre = c .before .before .before .pre in
-    omega (arith, wf-sized _ pre .counted .head)
+    omega (arith, pre .sized .counted .head)
 
 not-applying-requires-2 : tie.Need-not-applying-requires-2
 not-applying-requires-2 c κs = search needs
@@ -57,7 +56,7 @@ credential-requires : tie.Need-credential-requires
 credential-requires c κs =
     let pre = c .before .before .before .before .before .pre in
     let if1 = c .before .before .before .if1 in
-    (wf-sized _ pre, (record { first = omega (arith, if1 .left); last = omega (arith, c .before .if2 .left) }))
+    (pre .sized, (record { first = omega (arith, if1 .left); last = omega (arith, c .before .if2 .left) }))
 
 same-requires : tie.Need-same-requires
 same-requires c κs = search needs

@@ -9,7 +9,6 @@ use Rattle.derivation.specs.Held.{above}
 use Rattle.derivation.specs.Rules.{goal, premises}
 use Rattle.search.specs.Search.{everyGoal, proves}
 use Rattle.sets.proofs.Tests.{any-all, failed, passed}
-use Rattle.table.proofs.WellFormed.{wf-sized}
 use Rattle.table.specs.Limits.{mostPrincipals}
 use Rattle.sets.specs.Logic.{anyBelow}
 use lib.ListN.{take}
@@ -245,7 +244,7 @@ goal-search-with-requires t c κs =
 goal-search-shared-slice-read-n : goal-search-needs goal-search-lts.Need-shared-slice-read-n
 goal-search-shared-slice-read-n t c =
     let pre = c .before .before .before .before .before .before .before .pre in
-    omega (arith, wf-sized _ (pre .1 .0) .counted .head)
+    omega (arith, pre .1 .0 .sized .counted .head)
 
 goal-search-loop-holds : goal-search-needs goal-search-lts.Need-loop-holds
 unfolding anyBelow
@@ -254,7 +253,7 @@ goal-search-loop-holds t c = (omega arith, refl)
 goal-search-add-may-use : goal-search-needs goal-search-lts.Need-add-may-use
 goal-search-add-may-use t c =
     let pre = c .before .before .before .before .before .before .before .before .before .pre in
-    omega (arith, wf-sized _ (pre .1 .0) .counted .fewCredentials, c .loop-test .taken)
+    omega (arith, pre .1 .0 .sized .counted .fewCredentials, c .loop-test .taken)
 
 goal-search-may-use-requires : goal-search-needs goal-search-lts.Need-may-use-requires
 goal-search-may-use-requires t c κs =
@@ -265,7 +264,7 @@ goal-search-add-credential-search : goal-search-needs goal-search-lts.Need-add-c
 goal-search-add-credential-search t c =
     let pre = c .before .before .before .before .before .before .before .before .before .before .before .pre in
     let loop-test = c .before .before .loop-test in
-    omega (arith, wf-sized _ (pre .1 .0) .counted .fewCredentials, loop-test .taken)
+    omega (arith, pre .1 .0 .sized .counted .fewCredentials, loop-test .taken)
 
 goal-search-sub-credential-search : goal-search-needs goal-search-lts.Need-sub-credential-search
 goal-search-sub-credential-search t c =
@@ -293,7 +292,7 @@ goal-search-add-i : goal-search-needs goal-search-lts.Need-add-i
 goal-search-add-i t c =
     let pre = c .before .before .before .before .before .before .before .before .before .before .before .pre in
     let loop-test = c .before .before .loop-test in
-    omega (arith, wf-sized _ (pre .1 .0) .counted .fewCredentials, loop-test .taken)
+    omega (arith, pre .1 .0 .sized .counted .fewCredentials, loop-test .taken)
 
 goal-search-loop-less : goal-search-needs goal-search-lts.Need-loop-less
 goal-search-loop-less t c = omega arith

@@ -3,7 +3,6 @@ use Rattle.sets.specs.Sets.{inSet}
 use Rattle.search.proofs.Trying.{uses-role}
 use Rattle.search.specs.Search.{mayUse}
 use Rattle.sets.proofs.Tests.{and-is-off}
-use Rattle.table.proofs.WellFormed.{wf-sized}
 use borrow.Author.Tests.{ne-eqb}
 use mathlib.Core.Path.{sym}
 use native.Mathlib.Omega.{arith}
@@ -18,7 +17,7 @@ cast-if1 : tie.Need-cast-if1
 cast-if1 c = search needs
 
 shr-if1 : tie.Need-shr-if1
-shr-if1 c = omega (arith, c .before .pre .1 .last, wf-sized _ (c .before .pre .0) .counted .fewCredentials)
+shr-if1 c = omega (arith, c .before .pre .1 .last, c .before .pre .0 .sized .counted .fewCredentials)
 
 returns : tie.Need-returns
 unfolding mayUse inSet
@@ -30,7 +29,7 @@ wide-requires c κs = search needs
 credential-requires : tie.Need-credential-requires
 credential-requires c κs =
     let pre = c .before .before .before .pre in
-    (wf-sized _ (pre .0), rw (c .wide .ensures .0) (pre .1))
+    (pre .0 .sized, rw (c .wide .ensures .0) (pre .1))
 
 same-requires : tie.Need-same-requires
 same-requires c κs = search needs

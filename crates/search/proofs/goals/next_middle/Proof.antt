@@ -2,7 +2,6 @@
 -- credential of it.
 use Prim.Native.Nat.{_-_, _≤_}
 use Rattle.search.proofs.Middles.{Nearest, middle-first, middle-linking, middle-none, nearest-next, nearest-none}
-use Rattle.table.proofs.WellFormed.{wf-sized}
 use borrow.Author.Needs.{needs}
 use mathlib.Core.Path.{_∙_, ap}
 use native.Mathlib.Omega.{arith}
@@ -22,7 +21,7 @@ wide-requires c κs = search needs
 credential-requires : tie.Need-credential-requires Inv-loop μ-loop
 credential-requires c κs =
     let pre = c .before .before .pre in
-    (wf-sized _ (pre .0), rw (c .wide .ensures .0) (pre .1 .0))
+    (pre .0 .sized, rw (c .wide .ensures .0) (pre .1 .0))
 
 returns : tie.Need-returns Inv-loop μ-loop
 returns c =
@@ -45,7 +44,7 @@ returns-2 c =
 shared-slice-read-wide : tie.Need-shared-slice-read-wide Inv-loop μ-loop
 shared-slice-read-wide c =
     let pre = c .before .before .before .before .before .before .pre in
-    omega (arith, wf-sized _ (pre .0) .counted .head)
+    omega (arith, pre .0 .sized .counted .head)
 
 wide-requires-2 : tie.Need-wide-requires-2 Inv-loop μ-loop
 wide-requires-2 c κs = search needs
@@ -65,7 +64,7 @@ credential-requires-2 : tie.Need-credential-requires-2 Inv-loop μ-loop
 credential-requires-2 c κs =
     let pre = c .before .before .before .before .before .before .before .before .before .pre in
     let wide2 = c .before .before .wide2 in
-    (wf-sized _ (pre .0), record { first = omega arith; last = omega (arith, wide2 .ensures .0) })
+    (pre .0 .sized, record { first = omega arith; last = omega (arith, wide2 .ensures .0) })
 
 cast-nearer : tie.Need-cast-nearer Inv-loop μ-loop
 cast-nearer c = search needs
@@ -74,7 +73,7 @@ shr-nearer : tie.Need-shr-nearer Inv-loop μ-loop
 shr-nearer c =
     let wide2 = c .before .before .before .wide2 in
     let pre = c .before .before .before .before .before .before .before .before .before .before .pre in
-    omega (arith, wide2 .ensures .0, wf-sized _ (pre .0) .counted .fewCredentials)
+    omega (arith, wide2 .ensures .0, pre .0 .sized .counted .fewCredentials)
 
 nearer-requires : tie.Need-nearer-requires Inv-loop μ-loop
 nearer-requires c κs = search needs

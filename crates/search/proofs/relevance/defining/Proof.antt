@@ -6,7 +6,6 @@ use native.Mathlib.Omega.{arith}
 use Rattle.sets.specs.Sets.{setOf}
 use denote.Ref.{now}
 use Rattle.table.specs.Layout.{credentials}
-use Rattle.table.proofs.WellFormed.{wf-sized}
 use Rattle.search.specs.Relevance.{definers}
 use Rattle.search.proofs.Gathering.{credential-few, definers-more, definers-other, definers-outside, definersTo, three-ways}
 use borrow.Author.Needs.{needs}
@@ -22,7 +21,7 @@ abbrev μ-loop : tie.MeasureT-loop
 shared-slice-read-wide : tie.Need-shared-slice-read-wide Inv-loop μ-loop
 shared-slice-read-wide c =
     let pre = c .before .before .pre in
-    omega (arith, wf-sized _ pre .counted .head)
+    omega (arith, pre .sized .counted .head)
 
 wide-requires : tie.Need-wide-requires Inv-loop μ-loop
 wide-requires c κs = search needs
@@ -34,12 +33,12 @@ loop-holds c = (omega arith, refl)
 cast-if1 : tie.Need-cast-if1 Inv-loop μ-loop
 cast-if1 c =
     let pre = c .before .before .before .before .before .pre in
-    omega (arith, wf-sized _ pre .counted .fewCredentials)
+    omega (arith, pre .sized .counted .fewCredentials)
 
 shr-if1 : tie.Need-shr-if1 Inv-loop μ-loop
 shr-if1 c =
     let pre = c .before .before .before .before .before .pre in
-    omega (arith, wf-sized _ pre .counted .fewCredentials)
+    omega (arith, pre .sized .counted .fewCredentials)
 
 add-credential : tie.Need-add-credential Inv-loop μ-loop
 add-credential c = search needs
@@ -47,7 +46,7 @@ add-credential c = search needs
 credential-requires : tie.Need-credential-requires Inv-loop μ-loop
 credential-requires c κs =
     let pre = c .before .before .before .before .before .before .pre in
-    (wf-sized _ pre, record { first = omega arith; last = omega arith })
+    (pre .sized, record { first = omega arith; last = omega arith })
 
 is-meant-requires : tie.Need-is-meant-requires Inv-loop μ-loop
 is-meant-requires c κs = search needs
@@ -55,12 +54,12 @@ is-meant-requires c κs = search needs
 cast-found : tie.Need-cast-found Inv-loop μ-loop
 cast-found c =
     let pre = c .before .before .before .before .before .before .before .before .before .pre in
-    omega (arith, wf-sized _ pre .counted .fewCredentials)
+    omega (arith, pre .sized .counted .fewCredentials)
 
 shl-found : tie.Need-shl-found Inv-loop μ-loop
 shl-found c =
     let pre = c .before .before .before .before .before .before .before .before .before .pre in
-    omega (arith, wf-sized _ pre .counted .fewCredentials)
+    omega (arith, pre .sized .counted .fewCredentials)
 
 add-i : tie.Need-add-i Inv-loop μ-loop
 add-i c = search needs

@@ -3,7 +3,6 @@ use mathlib.Core.Path.{_≡_, refl, _∙_}
 use Prim.Native.Nat.{_-_, _*_, _≤_, _<_}
 use native.Mathlib.Omega.{arith}
 use lib.ListN.{length, length-set}
-use Rattle.table.proofs.WellFormed.{wf-sized}
 use Rattle.search.proofs.Gathering.{chain-whole}
 use Rattle.search.proofs.Indexing.{IndexedTo, index-next}
 use borrow.Author.Needs.{needs}
@@ -17,7 +16,7 @@ abbrev μ-loop : tie.MeasureT-loop
 μ-loop table n index₀ i₀ index i = 5 * n - i
 
 shared-slice-read-wide : tie.Need-shared-slice-read-wide Inv-loop μ-loop
-shared-slice-read-wide c = omega (arith, wf-sized _ (c .before .before .pre) .counted .head)
+shared-slice-read-wide c = omega (arith, c .before .before .pre .sized .counted .head)
 
 wide-requires : tie.Need-wide-requires Inv-loop μ-loop
 wide-requires c κs = search needs
@@ -26,14 +25,14 @@ loop-holds : tie.Need-loop-holds Inv-loop μ-loop
 loop-holds c = (omega arith, refl, λ j l. absurd (omega arith))
 
 mul-loop : tie.Need-mul-loop Inv-loop μ-loop
-mul-loop c = omega (arith, wf-sized _ (c .before .before .before .before .pre) .counted .fewCredentials)
+mul-loop c = omega (arith, c .before .before .before .before .pre .sized .counted .fewCredentials)
 
 add-credential : tie.Need-add-credential Inv-loop μ-loop
-add-credential c = omega (arith, wf-sized _ (c .before .before .before .before .before .pre) .counted .fewCredentials)
+add-credential c = omega (arith, c .before .before .before .before .before .pre .sized .counted .fewCredentials)
 
 credential-requires : tie.Need-credential-requires Inv-loop μ-loop
 credential-requires c κs =
-    (wf-sized _ (c .before .before .before .before .before .pre), record { first = omega arith; last = omega arith })
+    (c .before .before .before .before .before .pre .sized, record { first = omega arith; last = omega arith })
 
 index-cell-requires : tie.Need-index-cell-requires Inv-loop μ-loop
 index-cell-requires c κs =
@@ -41,12 +40,12 @@ index-cell-requires c κs =
     (pre, chain-whole _ pre _ (record { first = omega arith; last = omega arith }) _ (c .credential .ensures))
 
 mul-index : tie.Need-mul-index Inv-loop μ-loop
-mul-index c = omega (arith, wf-sized _ (c .before .before .before .before .before .before .before .pre) .counted .fewCredentials)
+mul-index c = omega (arith, c .before .before .before .before .before .before .before .pre .sized .counted .fewCredentials)
 
 array-write-index : tie.Need-array-write-index Inv-loop μ-loop
 array-write-index c =
     let pre = c .before .before .before .before .before .before .before .pre in
-    omega (arith, wf-sized _ pre .counted .fewCredentials, c .before .before .before .loop .inv .1)
+    omega (arith, pre .sized .counted .fewCredentials, c .before .before .before .loop .inv .1)
 
 add-i : tie.Need-add-i Inv-loop μ-loop
 add-i c = search needs
@@ -58,7 +57,7 @@ loop-again : tie.Need-loop-again Inv-loop μ-loop
 loop-again c =
     let loop = c .before .before .before .loop in
     let pre = c .before .before .before .before .before .before .before .pre in
-    let room : loop .i < length (loop .index) = omega (arith, wf-sized _ pre .counted .fewCredentials, loop .inv .1) in (
+    let room : loop .i < length (loop .index) = omega (arith, pre .sized .counted .fewCredentials, loop .inv .1) in (
       omega arith,
       length-set (loop .index) (loop .i) (c .index-cell .result) ∙ loop .inv .1,
       index-next _ (loop .index) (loop .i) _ _ room (loop .inv .2) (c .before .credential .ensures) (c .index-cell .ensures),

@@ -5,7 +5,6 @@ use Prim.Native.Nat.{_-_, _≤_}
 use native.Mathlib.Omega.{arith}
 use denote.Ref.{now}
 use Rattle.table.specs.Layout.{credentials}
-use Rattle.table.proofs.WellFormed.{wf-sized}
 use Rattle.search.specs.Relevance.{Round}
 use Rattle.search.proofs.Gathering.{ProductiveTo, credential-few, productive-more, productive-not, productive-old, round-starts, three-ways}
 use Rattle.search.proofs.Indexing.{all-met, place}
@@ -22,7 +21,7 @@ abbrev μ-loop : tie.MeasureT-loop
 shared-slice-read-wide : tie.Need-shared-slice-read-wide Inv-loop μ-loop
 shared-slice-read-wide c =
     let pre = c .before .before .before .pre in
-    omega (arith, wf-sized _ (pre .0) .counted .head)
+    omega (arith, pre .0 .sized .counted .head)
 
 wide-requires : tie.Need-wide-requires Inv-loop μ-loop
 wide-requires c κs = search needs
@@ -33,7 +32,7 @@ loop-holds c = (omega arith, round-starts _ _ (λ c h. absurd (omega arith)))
 is-new-requires : tie.Need-is-new-requires Inv-loop μ-loop
 is-new-requires c κs =
     let pre = c .before .before .before .before .before .before .pre in
-    omega (arith, wf-sized _ (pre .0) .counted .fewCredentials)
+    omega (arith, pre .0 .sized .counted .fewCredentials)
 
 is-productive-requires : tie.Need-is-productive-requires Inv-loop μ-loop
 is-productive-requires c κs =
@@ -43,12 +42,12 @@ is-productive-requires c κs =
 cast-more : tie.Need-cast-more Inv-loop μ-loop
 cast-more c =
     let pre = c .before .before .before .before .before .before .before .before .before .before .pre in
-    omega (arith, wf-sized _ (pre .0) .counted .fewCredentials)
+    omega (arith, pre .0 .sized .counted .fewCredentials)
 
 shl-more : tie.Need-shl-more Inv-loop μ-loop
 shl-more c =
     let pre = c .before .before .before .before .before .before .before .before .before .before .pre in
-    omega (arith, wf-sized _ (pre .0) .counted .fewCredentials)
+    omega (arith, pre .0 .sized .counted .fewCredentials)
 
 add-i : tie.Need-add-i Inv-loop μ-loop
 add-i c = search needs

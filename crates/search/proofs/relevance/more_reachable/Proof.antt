@@ -6,7 +6,6 @@ use Prim.Native.Nat.{_-_, _≤_}
 use native.Mathlib.Omega.{arith}
 use denote.Ref.{now}
 use Rattle.table.specs.Layout.{credentials}
-use Rattle.table.proofs.WellFormed.{wf-sized}
 use Rattle.search.specs.Relevance.{Round}
 use Rattle.search.proofs.Gathering.{ReachedTo, reached-more, reached-outside, round-starts}
 use Rattle.search.proofs.Indexing.{place, with-met}
@@ -24,7 +23,7 @@ abbrev μ-loop : tie.MeasureT-loop
 shared-slice-read-wide : tie.Need-shared-slice-read-wide Inv-loop μ-loop
 shared-slice-read-wide c =
     let pre = c .before .before .before .pre in
-    omega (arith, wf-sized _ (pre .0) .counted .head)
+    omega (arith, pre .0 .sized .counted .head)
 
 wide-requires : tie.Need-wide-requires Inv-loop μ-loop
 wide-requires c κs = search needs
@@ -35,12 +34,12 @@ loop-holds c = (omega arith, round-starts _ _ (λ c h. absurd (omega arith)))
 cast-if1 : tie.Need-cast-if1 Inv-loop μ-loop
 cast-if1 c =
     let pre = c .before .before .before .before .before .before .pre in
-    omega (arith, wf-sized _ (pre .0) .counted .fewCredentials)
+    omega (arith, pre .0 .sized .counted .fewCredentials)
 
 shr-if1 : tie.Need-shr-if1 Inv-loop μ-loop
 shr-if1 c =
     let pre = c .before .before .before .before .before .before .pre in
-    omega (arith, wf-sized _ (pre .0) .counted .fewCredentials)
+    omega (arith, pre .0 .sized .counted .fewCredentials)
 
 with-defining-requires : tie.Need-with-defining-requires Inv-loop μ-loop
 with-defining-requires c κs =

@@ -5,7 +5,7 @@ use Prim.Native.Nat.{_-_, _<_}
 use native.Mathlib.Omega.{arith}
 use borrow.Author.Needs.{needs}
 use Rattle.table.proofs.Parts.{Gathered, gather-ends, gather-goes-on, gather-room, gather-starts}
-use Rattle.table.proofs.WellFormed.{wf-cells, wf-sized}
+use Rattle.table.proofs.WellFormed.{wf-cell}
 use Rattle.table.specs.Limits.{mostParts}
 use Rattle.table.proofs.layout.chain.Statement.{statement}
 use Rattle.table.proofs.layout.chain.Tie as tie
@@ -23,10 +23,7 @@ wide-requires : tie.Need-wide-requires Inv-loop μ-loop
 wide-requires c κs = search needs
 
 cell-requires : tie.Need-cell-requires Inv-loop μ-loop
-cell-requires c κs =
-    let pre = c .before .before .before .before .pre in
-    let loop = c .before .before .loop in
-    (wf-sized _ (pre .0), omega (arith, loop .inv .walked .inside))
+cell-requires c κs = search needs
 
 room : (c : tie.After-cell Inv-loop μ-loop) → c .before .before .before .loop .len < mostParts
 room c =
@@ -50,9 +47,10 @@ loop-again : tie.Need-loop-again Inv-loop μ-loop
 loop-again c =
     let wide = c .before .before .wide in
     let loop = c .before .before .before .before .loop in
-    let good = wf-cells _ (c .before .before .before .before .before .before .pre .0) .1 in
+    let wf = c .before .before .before .before .before .before .pre .0 in
+    let inside = wf-cell _ wf (loop .j) (omega (arith, loop .inv .walked .inside)) .next in
     rw (c .before .cell .ensures, wide .ensures .0)
-    (gather-goes-on _ _ _ _ _ (loop .inv) good (c .before .before .before .loop-test .taken) (room (c .before)))
+    (gather-goes-on _ _ _ _ _ (loop .inv) inside (c .before .before .before .loop-test .taken) (room (c .before)))
 
 returns : tie.Need-returns Inv-loop μ-loop
 returns c =

@@ -11,7 +11,6 @@ use Rattle.table.specs.Outcome.{demandEach}
 use Rattle.table.specs.Outcome.Outcome.{accepted}
 use Rattle.table.proofs.Stages.{each-passes, each-stops, each-through, refused-then, then-on}
 use Rattle.sets.proofs.Tests.{failed, passed}
-use Rattle.table.proofs.WellFormed.{wf-sized}
 use Rattle.verifier.specs.Tally.{keeps}
 use Rattle.verifier.specs.Verdict.{verdictTold}
 use Rattle.verifier.proofs.Judged.{kept-flag}
@@ -41,7 +40,7 @@ automata-of-requires c κs = c .before .pre
 shared-slice-read-wide : tie.Need-shared-slice-read-wide Inv-loop μ-loop
 shared-slice-read-wide c =
     let pre = c .before .before .before .pre in
-    omega (arith, wf-sized _ pre .counted .head)
+    omega (arith, pre .sized .counted .head)
 
 wide-requires : tie.Need-wide-requires Inv-loop μ-loop
 wide-requires c κs = search needs
@@ -56,7 +55,7 @@ add-k c = search needs
 is-kept-requires : tie.Need-is-kept-requires Inv-loop μ-loop
 is-kept-requires c κs =
     let pre = c .before .before .before .before .before .before .pre in
-    record { first = omega arith; last = omega (arith, wf-sized _ pre .counted .fewAutomata) }
+    record { first = omega arith; last = omega (arith, pre .sized .counted .fewAutomata) }
 
 returns : tie.Need-returns Inv-loop μ-loop
 unfolding verdictTold told
