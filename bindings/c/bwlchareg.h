@@ -1,13 +1,13 @@
 /* Bwlchareg: a compliance checker for usage-constrained RT0 credentials.
  *
  * Link with target/staticlib/libbwlchareg.a (x86-64 Linux), which `rt staticlib bwlchareg` proves and writes. It needs nothing else but
- * memcpy and memset. What the numbers of a table, a query, a record and a set mean is in bindings/LAYOUT.md; bindings/c/example.c makes
- * every call.
+ * memcpy and memset. What the numbers of a table, a query, a record and a set mean is in bindings/LAYOUT.md, and what is answered to
+ * every input in docs/DEFINITION.md; bindings/c/example.c makes every call.
  *
  * What holds of every call, for every input of every length, and is proved (crates/bwlchareg and the crates it is over):
  *
  *   - The call ends. It reads nothing but the numbers of the slices it is lent, and writes nothing but what is named here.
- *   - The result is 0, accepted, or the refusal's number in the table "Where each input is stopped" of document 01.
+ *   - The result is 0, accepted, or the refusal's number in docs/DEFINITION.md, "Where each input is stopped".
  *     Checks go down that table, and within a row by ascending record number: the first that fails is told.
  *   - The last parameter gets the refusal's position; on 0 it gets the value that the call returns, or 0 where it has none.
  *

@@ -1,5 +1,6 @@
-/* The shop of document 01, from C: tables are checked, minimal sets listed and proof records verified. Every answer is printed in
- * words and held against document 01; the program ends with 1 if any differs. bindings/LAYOUT.md says what the numbers mean. */
+/* The shop example of docs/DEFINITION.md, from C: tables are checked, minimal sets listed and proof records verified. Every
+ * answer is printed in words and held against the definition; the program ends with 1 if any differs. bindings/LAYOUT.md says
+ * what the numbers mean. */
 #include "bwlchareg.h"
 
 #include <inttypes.h>
@@ -59,24 +60,24 @@ static const char *const words[] = {
 
 static uint64_t value = UNWRITTEN;                      /* what a call writes: a refusal's position, a count or a used set */
 static uint32_t cells[3] = {UNCHANGED, UNCHANGED, UNCHANGED};
-static int differing;                                   /* how many answers are not those of document 01 */
+static int differing;                                   /* how many answers are not those of the definition */
 
-/* Prints the answer to what was asked, and holds number and value against those of document 01. */
+/* Prints the answer to what was asked, and holds number and value against those of the definition. */
 static void tell(const char *asked, uint32_t number, uint32_t right_number, uint64_t right_value)
 {
-    const char *said = number < LENGTH(words) ? words[number] : "no number of document 01";
+    const char *said = number < LENGTH(words) ? words[number] : "no number of the definition";
     if (number == 0)
         printf("%s: %s, value %" PRIu64 "\n", asked, said, value);
     else
         printf("%s: refused %" PRIu32 " at %" PRIu64 ", %s\n", asked, number, value, said);
     if (number != right_number || value != right_value) {
-        printf("  but document 01 has %" PRIu32 ", %" PRIu64 "\n", right_number, right_value);
+        printf("  but the definition has %" PRIu32 ", %" PRIu64 "\n", right_number, right_value);
         differing++;
     }
     value = UNWRITTEN;
 }
 
-/* Prints the sets in the cells, holds all cells against what document 01 leaves in them, and clears them for the next list. */
+/* Prints the sets in the cells, holds all cells against what the definition leaves in them, and clears them for the next list. */
 static void tell_cells(uint32_t first, uint32_t second)
 {
     const uint32_t right[LENGTH(cells)] = {first, second, UNCHANGED};
@@ -88,7 +89,7 @@ static void tell_cells(uint32_t first, uint32_t second)
             printf("\n");
         }
         if (cells[i] != right[i]) {
-            printf("  but document 01 has %" PRIu32 " in cell %zu\n", right[i], i + 1);
+            printf("  but the definition has %" PRIu32 " in cell %zu\n", right[i], i + 1);
             differing++;
         }
         cells[i] = UNCHANGED;
@@ -124,6 +125,6 @@ int main(void)
     tell("verify two nodes of it", bwlchareg_verify(SLICE(T), ANN, SHOP, DISCOUNT, 2, record, 4, &value), 11, 3);
     tell("verify another middle", bwlchareg_verify(SLICE(T), ANN, SHOP, DISCOUNT, 2, SLICE(misled), &value), 12, 2);
 
-    printf("%d answers differ from document 01\n", differing);
+    printf("%d answers differ from the definition\n", differing);
     return differing != 0;
 }

@@ -2,9 +2,9 @@
 //!
 //! - [`wallets`]: what they are timed on
 //! - [`proofs`], with [`store`], [`automata`], [`deadline`] and [`minimal`]: an
-//!   enumeration of all proofs, in the way of document 001
+//!   enumeration of all proofs, in the way of the 2015 paper (docs/SOURCES.md)
 //! - [`solver`], with [`facts`] and [`pipe`]: an answer set solver, in the way
-//!   of document 000
+//!   of the 2012 paper
 //! - [`tables`], [`curves`]: what comes of it
 
 mod automata;

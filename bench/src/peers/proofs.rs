@@ -1,15 +1,15 @@
-//! All proofs of a query, in the way of document 001: its algorithm
-//! CONSTRUCT-PROOFS, with document 01's words, depth limit and rule against
-//! cycles.
+//! All proofs of a query, in the way of the 2015 paper (docs/SOURCES.md): its
+//! algorithm CONSTRUCT-PROOFS, with the words, the depth limit and the rule
+//! against cycles of docs/DEFINITION.md.
 //!
 //! A goal's proofs are constructed from the proofs of its premises, for every
 //! credential that defines its role, and all combinations of those are made.
 //! The roles from the top down are read by the automata on the way. Where an
 //! automaton of a credential above can accept no more, there are no proofs;
 //! what other automata reject is filtered out of the proofs of every goal. At
-//! the end the used sets are looked through for the minimal ones. Document 001
-//! reads the words of a middle's branch from that branch on; here they are read
-//! from the top, as document 01 has it.
+//! the end the used sets are looked through for the minimal ones. The paper's
+//! algorithm reads the words of a middle's branch from that branch on; here they
+//! are read from the top, as the definition has it.
 
 use std::collections::HashMap;
 use std::time::Duration;

@@ -1,5 +1,6 @@
-//! The minimal sets by an answer set solver, in the way of document 000: gringo
-//! and clasp, with the program in `bench/asp/minimal.lp`.
+//! The minimal sets by an answer set solver, in the way of the 2012 paper
+//! (docs/SOURCES.md): gringo and clasp, with the program in
+//! `bench/asp/minimal.lp`.
 //!
 //! Each listing starts both programs anew, joined by a pipe. Nothing is written
 //! to files.

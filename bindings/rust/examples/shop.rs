@@ -1,6 +1,6 @@
-//! The shop example of document 01 through the static library: its two tables are
-//! checked, with one that has a mistake in it, a proof record is verified, and
-//! the minimal sets are listed.
+//! The shop example of docs/DEFINITION.md through the static library: its two
+//! tables are checked, with one that has a mistake in it, a proof record is
+//! verified, and the minimal sets are listed.
 
 use std::fmt::Debug;
 

@@ -54,7 +54,7 @@
 //!
 //! A check takes time in proportion to the table, a verification in proportion
 //! to the record. Listing is a search, whose time can grow exponentially with
-//! the number of credentials; `docs/ARCHITECTURE.md` has measured times.
+//! the number of credentials; `docs/PERFORMANCE.md` has measured times.
 //!
 //! # Linking
 //!

@@ -1,6 +1,6 @@
 //! The calls take any slices: whatever their length, numbers and place in
-//! memory, the answer is accepted or a refusal that document 01 allows there,
-//! and no cell is written that it does not name.
+//! memory, the answer is accepted or a refusal that docs/DEFINITION.md allows
+//! there, and no cell is written that it does not name.
 
 mod drawn;
 
@@ -101,7 +101,7 @@ fn count(table: &[u16], place: usize) -> u64 {
     table.get(place).copied().unwrap_or(0).into()
 }
 
-/// Whether document 01 allows this position for a refusal of this number.
+/// Whether docs/DEFINITION.md allows this position for a refusal of this number.
 fn is_place(refusal: Refusal, table: &[u16], nodes: usize) -> bool {
     let nodes = nodes as u64;
     let most = match refusal.number {
@@ -204,7 +204,7 @@ fn judge_cells(answers: &Answers, table: &[u16]) {
 }
 
 #[test]
-fn every_answer_is_one_that_the_document_allows() {
+fn every_answer_is_one_that_the_definition_allows() {
     let mut random = Random::new(SEED);
     let mut told = [[0; 15]; 3];
     for _ in 0..CASES {

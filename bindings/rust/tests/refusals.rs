@@ -1,5 +1,6 @@
-//! Every condition of document 01's refusals by an input that meets it: its
-//! number, its position, and that the message has the words for it.
+//! Every condition of docs/DEFINITION.md, "Where each input is stopped", by an
+//! input that meets it: its number, its position, and that the message has the
+//! words for it.
 
 use bwlchareg::{check, check_query, list, verify, Query, Refusal};
 

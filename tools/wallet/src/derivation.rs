@@ -1,8 +1,9 @@
 //! A record's judgement, and the derivation that it writes down.
 //!
 //! The proved checker judges; nothing here decides. The record is then read
-//! once more, by document 01's "Derivations and words", so that its nodes can
-//! be shown and, where the checker stops at a node, it can be said why.
+//! once more, by docs/DEFINITION.md, "Derivations", "Records" and "Words", so
+//! that its nodes can be shown and, where the checker stops at a node, it can be
+//! said why.
 
 use bwlchareg::{Query, Refusal};
 

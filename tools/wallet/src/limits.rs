@@ -1,4 +1,4 @@
-//! The limits of document 01.
+//! The limits of docs/DEFINITION.md.
 
 /// Credentials in a table.
 pub const CREDENTIALS: usize = 20;

@@ -1,4 +1,4 @@
-//! A table by its records, as document 01 lays it out, and its numbers.
+//! A table by its records, and its numbers (docs/DEFINITION.md, "The table").
 //!
 //! The checker takes numbers; everything here that speaks of a credential, a
 //! part cell, an automaton or an edge takes these. `Table::numbers` and

@@ -81,7 +81,7 @@ fn check_fault(wallet: &Wallet, claim: &Claim, judged: &Judged, tally: &mut Tall
 }
 
 /// Why a node is at fault, told from the numbers alone and in the order of
-/// document 01.
+/// docs/DEFINITION.md, "Records".
 fn first_reason(wallet: &Wallet, claim: &Claim, judged: &Judged, node: &Node) -> Why {
     let Goal { principal, role } = node.goal;
     let rest = &claim.record[2 * (node.number - 1)..];

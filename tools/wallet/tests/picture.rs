@@ -15,7 +15,7 @@ use wallet::table::Table;
 use wallet::tree::text;
 use wallet::Wallet;
 
-/// Record R of document 01.
+/// Record R of the shop example.
 const R: [u16; 6] = [1, 2, 2, 0, 3, 0];
 
 /// A rectangle: left, top, right, foot.

@@ -1,5 +1,4 @@
-//! What is printed for a record: the shop of document 01, each kind of
-//! credential, each way in which a record is stopped, and very long records.
+//! What is printed for a record: the shop example, each kind of credential, each way in which a record is stopped, and very long records.
 
 #[allow(dead_code)]
 mod shown;
@@ -12,7 +11,7 @@ use wallet::table::{Automaton, Body, Label, Table};
 use wallet::tree::{text, NODES_SHOWN, REJECTED_SHOWN, WORDS_SHOWN};
 use wallet::Wallet;
 
-/// Record R of document 01.
+/// Record R of the shop example.
 const R: [u16; 6] = [1, 2, 2, 0, 3, 0];
 
 fn refused(number: u32, position: u64) -> Option<Refusal> {

@@ -8,7 +8,7 @@ use wallet::names::Names;
 use wallet::table::{Automaton, Body, Cell, Credential, Edge, Label, Role, Table};
 use wallet::{Lines, Wallet};
 
-/// Query Q of document 01: Ann in Shop.discount, depth 2.
+/// Query Q of the shop example: Ann in Shop.discount, depth 2.
 pub const Q: Query = Query {
     principal: 4,
     owner: 1,
@@ -45,7 +45,7 @@ pub fn names(principals: &[(u16, &str)], roles: &[(u16, &str)]) -> Names {
     }
 }
 
-/// The shop of document 01 with table T.
+/// The shop example with table T.
 pub fn shop() -> Wallet {
     let linked = Body::Linked {
         first: 3,
