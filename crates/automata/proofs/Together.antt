@@ -29,7 +29,7 @@ use Rattle.automata.specs.Automata.{starting}
 use Rattle.automata.specs.Together.{startingSets, together}
 use Rattle.automata.specs.declared.StateSets.{StateSets}
 use Rattle.automata.proofs.Each.{each-ext}
-use Rattle.sets.proofs.Members.{ltb-next, one-bit}
+use Rattle.sets.proofs.Members.{ltb-next}
 
 -- the sets of the first k automata are their starting sets, and the others are empty
 pub record Started (t : List ℕ) (k : ℕ) (l : List ℕ) : Type 0 where
@@ -152,10 +152,9 @@ module _ (t : List ℕ) (s : StateSets) where
 
   -- automaton k + 1, which the code has read as m, accepts or does not
   module _ (k : ℕ) {mask : ℕ} (so-far : mask ≡ setOf acceptsAt k) {m : Automaton} (read : m ≡ automaton t (k + 1)) where
-    pub accepting-more : (bitAnd (getD (s .sets) k 0) (m .accepting) ≡ 0 → ⊥) → k ≤ lastState
-        → bitOr mask ((1 * 2 ^ k) % 2 ^ 16) ≡ setOf acceptsAt (k + 1)
+    pub accepting-more : (bitAnd (getD (s .sets) k 0) (m .accepting) ≡ 0 → ⊥) → bitOr mask (2 ^ k) ≡ setOf acceptsAt (k + 1)
     unfolding setOf acceptsFrom meets pick
-    accepting-more h few = rw (so-far, one-bit 16 k (omega arith), add-one k, ne-eqb _ 0 (rw (read, add-one k) at h))
+    accepting-more h = rw (so-far, add-one k, ne-eqb _ 0 (rw (read, add-one k) at h))
 
     pub accepting-same : bitAnd (getD (s .sets) k 0) (m .accepting) ≡ 0 → mask ≡ setOf acceptsAt (k + 1)
     unfolding setOf acceptsFrom meets pick

@@ -1,5 +1,7 @@
 // State sets of all automata of a table, and how they move along a role (document 01, "Derivations and words"). The sets of
 // all eight travel together, by value: each child of a node starts from its own copy.
+use sets::AutomatonSet;
+use sets::StateSet;
 use table::EVERY_ROLE;
 use table::Edge;
 use table::Number;
@@ -20,7 +22,7 @@ pub const AUTOMATA: usize = 8;
 
 // The state set of automaton k stands at k - 1; an automaton that is not there has the empty set.
 pub struct StateSets {
-    pub sets: [Number; AUTOMATA],
+    pub sets: [StateSet; AUTOMATA],
 }
 
 impl StateSets {
@@ -30,7 +32,7 @@ impl StateSets {
         ensures { λ r. ⌜ r ≡ startingSets (now (table .entry)) ⌝ }
     {
         let mut sets = [0; AUTOMATA];
-        let a = layout::wide(table[2]);
+        let a = layout::automata(table);
         let mut k = 0;
         while k < a {
             let automaton = layout::automaton(table, k + 1);
@@ -48,7 +50,7 @@ impl StateSets {
         let mut next = StateSets {
             sets: [0; AUTOMATA],
         };
-        let e = layout::wide(table[3]);
+        let e = layout::edges(table);
         let mut k = 0;
         while k < e {
             k += 1;
@@ -58,17 +60,17 @@ impl StateSets {
     }
 
     // The automata that accept where their sets are now, as a set: automaton k counts 2^(k-1).
-    pub fn accepting(self, table: &[Number]) -> Number
+    pub fn accepting(self, table: &[Number]) -> AutomatonSet
         requires { ⌜ WellFormed (now table) ⌝ }
         ensures { λ r. ⌜ r ≡ acceptingSet (now (table .entry)) self ⌝ }
     {
         let mut mask = 0;
-        let a = layout::wide(table[2]);
+        let a = layout::automata(table);
         let mut k = 0;
         while k < a {
             let automaton = layout::automaton(table, k + 1);
             if self.sets[k] & automaton.accepting != 0 {
-                mask = mask | (1 << k);
+                mask = sets::with_16(mask, k);
             }
             k += 1;
         }
@@ -82,14 +84,14 @@ impl StateSets {
         ensures { λ r. ⌜ r ≡ withEdge from role edge self ⌝ }
     {
         let at = layout::wide(edge.automaton) - 1;
-        if (from.sets[at] >> edge.from) % 2 != 1 {
+        if !sets::has_16(from.sets[at], layout::wide(edge.from)) {
             return self;
         }
         if !edge_matches(edge, role) {
             return self;
         }
         let mut sets = self.sets;
-        sets[at] = sets[at] | (1 << edge.to);
+        sets[at] = sets::with_16(sets[at], layout::wide(edge.to));
         StateSets { sets: sets }
     }
 }

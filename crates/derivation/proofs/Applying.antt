@@ -5,22 +5,19 @@ use mathlib.Core.Bool.{Bool, true, false}
 use mathlib.Core.Option.{Option, none, some}
 use Prim.Native.Nat.{ℕ, _≤_}
 use native.Mathlib.Omega.{arith}
-use native.Mathlib.Decide.{ℕ-discrete}
 use lib.ListN.{length, take}
 use borrow.Author.Tests.{eqb-true}
 use Rattle.sets.specs.Logic.{_and_, pick}
 use Rattle.table.specs.Layout.{Numbered, cell, chain, credential, credentials, parts, role, sameRole}
-use Rattle.table.specs.Holding.{WellFormed}
 use Rattle.table.specs.Checks.{within}
 use Rattle.table.specs.declared.Role.{Role}
 use Rattle.table.specs.declared.Goal.{Goal}
 use Rattle.sets.proofs.Tests.{and-first, and-second}
 use Rattle.table.proofs.Fields.{within-range}
-use Rattle.table.proofs.WellFormed.{wf-chain}
 use Rattle.derivation.specs.Rules.{asks, premises, when}
 use Rattle.derivation.specs.Held.{given}
 use Rattle.derivation.specs.declared.Premises.{Premises}
-use Rattle.derivation.proofs.Asking.{asks-1, asks-2, asks-3, asks-4, asks-none}
+use Rattle.derivation.proofs.Asking.{asks-1}
 
 pub same-role : (r s : Role) → sameRole r s ≡ true → r ≡ s
 unfolding sameRole
@@ -54,7 +51,7 @@ module _ (t : List ℕ) (g : Goal) (c m : ℕ) (goals : List Goal) (applies : pr
   pub applies-asks : asks t g (credential t c) m ≡ some goals
   applies-asks = both .1
 
-cons-nil : {A : Type 0} {x : A} {xs : List A} → x ∷ xs ≡ [] → ⊥
+pub cons-nil : {A : Type 0} {x : A} {xs : List A} → x ∷ xs ≡ [] → ⊥
 cons-nil e = let z : _≡_ {A = ℕ} 0 1 = cc in omega arith
 
 -- a chain has parts
@@ -71,28 +68,6 @@ pub asks-more : (t : List ℕ) (g : Goal) (c m : ℕ) (h : Goal) (goals : List G
     → credential t c .kind ≡ 1 → ⊥
 asks-more t g c m h goals applies one =
     cons-nil (sym (when-some _ [] (h ∷ goals) (asks-1 t g (credential t c) m one ∙ applies-asks t g c m (h ∷ goals) applies)))
-
--- nothing is asked, so the kind is 1
-pub asks-nothing : (t : List ℕ) → WellFormed t → (g : Goal) (c m : ℕ) → premises t g c m ≡ some [] → credential t c .kind ≡ 1
-asks-nothing t wf g c m applies = go (ℕ-discrete kind 1) (ℕ-discrete kind 2) (ℕ-discrete kind 3) (ℕ-discrete kind 4)
-  where
-    kind : ℕ
-    kind = credential t c .kind
-
-    asked : asks t g (credential t c) m ≡ some []
-    asked = applies-asks t g c m [] applies
-
-    there : Numbered (credentials t) c
-    there = applies-numbered t g c m [] applies
-
-    go : Dec (kind ≡ 1) → Dec (kind ≡ 2) → Dec (kind ≡ 3) → Dec (kind ≡ 4) → credential t c .kind ≡ 1
-    go (yes h) d2 d3 d4 = h
-    go (no n1) (yes h) d3 d4 = absurd (cons-nil (when-some _ _ [] (asks-2 t g (credential t c) m h ∙ asked)))
-    go (no n1) (no n2) (yes h) d4 = absurd (cons-nil (when-some _ _ [] (asks-3 t g (credential t c) m h ∙ asked)))
-    go (no n1) (no n2) (no n3) (yes h) =
-        let none-asked = when-some _ _ [] (asks-4 t g (credential t c) m h ∙ asked) in
-        absurd (some-parts t _ (credential t c .first) (wf-chain t wf c there h .least) none-asked)
-    go (no n1) (no n2) (no n3) (no n4) = absurd (none-some (asks-none t g (credential t c) m n1 n2 n3 n4 ∙ asked))
 
 -- what the code holds of the premises
 pub given-none : (p : Premises) → p .applies ≡ false → given p ≡ none

@@ -120,4 +120,4 @@ pub chain-there : (t : List ℕ) → WellFormed t → (c : ℕ) → Numbered (cr
     → x .kind ≡ 4 → Numbered (cells t) (x .first) × (chainOk t (x .first) ≡ true)
 chain-there t wf c there x read four =
     let kind = ap (λ (y : Credential). y .kind) (sym read) ∙ four in
-    rw read (wf-credential t wf c there .intersection kind .0, wf-chain-ok t wf c there kind)
+    rw read (wf-credential t wf c there .intersection kind, wf-chain-ok t wf c there kind)

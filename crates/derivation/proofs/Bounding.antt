@@ -1,31 +1,26 @@
 -- How large a derivation can be, by one induction over it: a node has at most four premises, each with one level less, and both
 -- of its numbers are small. So a slice can hold every derivation's record.
-use mathlib.Core.Path.{_≡_, refl, _∙_}
+use mathlib.Core.Path.{_≡_, refl}
 use mathlib.Core.List.{List, [], _∷_, _++_, map}
-use mathlib.Core.Bool.{Bool, true}
 use mathlib.Core.Option.{some}
 use Prim.Native.Nat.{ℕ, zero, suc, _+_, _-_, _*_, _^_, _<_, _≤_}
 use native.Mathlib.Omega.{arith}
-use native.Mathlib.Decide.{ℕ-discrete}
 use native.Mathlib.Nat.{mul-le-mul-right, pow-le-pow-right, pow-succ', suc-mul}
 use lib.ListN.{getD, length, length-append, length-map}
-use lib.Dec.{eqb}
-use borrow.Author.Tests.{eqb-true}
 use Rattle.table.specs.Limits.{mostCredentials, mostDepth, mostParts, mostPrincipals}
 use Rattle.table.specs.Layout.{Numbered, credential, credentials, parts}
 use Rattle.table.specs.Holding.{WellFormed}
 use Rattle.table.specs.declared.Role.{Role}
 use Rattle.table.specs.declared.Goal.{Goal}
-use Rattle.sets.proofs.Tests.{and-second}
-use Rattle.table.proofs.Fields.{principal-range}
 use Rattle.table.proofs.WellFormed.{wf-chain}
-use Rattle.derivation.specs.Rules.{asks, premises, when}
+use Rattle.derivation.specs.Rules.{premises}
 use Rattle.derivation.specs.Forest.{Derives, Forest, countFrom, written}
 use Rattle.derivation.specs.Forest.Forest.{end, node}
 use Rattle.derivation.specs.Forest.Derives.{done, step}
 use Rattle.derivation.specs.Bounds.{FewNodes, Holdable, MostNodes, NoneExcluded, ShortEnough, nodesWithin, numberBits}
-use Rattle.derivation.proofs.Asking.{asks-1, asks-2, asks-3, asks-4, asks-none}
-use Rattle.derivation.proofs.Applying.{applies-asks, applies-numbered, none-some, picked, when-some}
+use Rattle.derivation.proofs.Applying.{applies-numbered}
+use Rattle.derivation.proofs.Ruling.{Rule, rule-applied}
+use Rattle.derivation.proofs.Ruling.Rule.{membership, containment, linking, intersection}
 
 pub most-nodes : MostNodes
 most-nodes = refl
@@ -59,41 +54,26 @@ module _ (t : List ℕ) (wf : WellFormed t) (g : Goal) (c m : ℕ) (goals : List
   there : Numbered (credentials t) c
   there = applies-numbered t g c m goals applies
 
-  small-asked : (test : Bool) (asked : List Goal) → (test ≡ true → m ≤ mostPrincipals) → length asked ≤ mostParts
-      → when test asked ≡ some goals → Small c m goals
-  small-asked test asked middle few e =
+  small : {asked : List Goal} → m ≤ mostPrincipals → length asked ≤ mostParts → asked ≡ goals → Small c m goals
+  small middle few e =
       record {
         credential = omega (arith, there .last, wf .sized .counted .fewCredentials);
-        middle = middle (picked test _ goals e .0);
-        few = rw (when-some test asked goals e) at few;
+        middle = middle;
+        few = rw e at few;
       }
 
   few-parts : (f : Role → Goal) → credential t c .kind ≡ 4 → length (map f (parts t (credential t c .first))) ≤ mostParts
   unfolding parts
   few-parts f four = simp length-map (wf-chain t wf c there four .most)
 
-  -- by kind
+  by-rule : Rule t g (credential t c) m goals → Small c m goals
+  by-rule (membership one same none e) = small (omega arith) (omega arith) e
+  by-rule (containment two none e) = small (omega arith) (omega arith) e
+  by-rule (linking three middle e) = small (middle .last) (omega arith) e
+  by-rule (intersection four none e) = small (omega arith) (few-parts _ four) e
+
   node-small : Small c m goals
-  node-small = go (ℕ-discrete kind 1) (ℕ-discrete kind 2) (ℕ-discrete kind 3) (ℕ-discrete kind 4)
-    where
-      kind : ℕ
-      kind = credential t c .kind
-
-      asked : asks t g (credential t c) m ≡ some goals
-      asked = applies-asks t g c m goals applies
-
-      none-middle : eqb m 0 ≡ true → m ≤ mostPrincipals
-      none-middle e = omega (arith, eqb-true m 0 e)
-
-      go : Dec (kind ≡ 1) → Dec (kind ≡ 2) → Dec (kind ≡ 3) → Dec (kind ≡ 4) → Small c m goals
-      go (yes h) d2 d3 d4 =
-          small-asked _ _ (λ e. none-middle (and-second _ _ e)) (omega arith) (asks-1 t g (credential t c) m h ∙ asked)
-      go (no n1) (yes h) d3 d4 = small-asked _ _ none-middle (omega arith) (asks-2 t g (credential t c) m h ∙ asked)
-      go (no n1) (no n2) (yes h) d4 =
-          small-asked _ _ (λ e. principal-range m e .last) (omega arith) (asks-3 t g (credential t c) m h ∙ asked)
-      go (no n1) (no n2) (no n3) (yes h) =
-          small-asked _ _ none-middle (few-parts _ h) (asks-4 t g (credential t c) m h ∙ asked)
-      go (no n1) (no n2) (no n3) (no n4) = absurd (none-some (asks-none t g (credential t c) m n1 n2 n3 n4 ∙ asked))
+  node-small = by-rule (rule-applied t g c m goals applies)
 
 -- counting on is counting and adding, and each node is two numbers of the record
 count-from : (n : ℕ) (f : Forest) → countFrom n f ≡ n + countFrom 0 f

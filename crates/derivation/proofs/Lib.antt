@@ -2,6 +2,7 @@
 pub mod Above
 pub mod Asking
 pub mod Applying
+pub mod Ruling
 pub mod Using
 pub mod Bounding
 pub mod Attaching

@@ -8,7 +8,7 @@ ghost use mathlib.Core.Bool.{not};
 ghost use Prim.Native.Nat.{_-_, _^_, _≤_};
 ghost use lib.Bits.{bitOr};
 ghost use lib.Dec.{eqb};
-ghost use Rattle.sets.specs.Logic.{_and_, pick};
+ghost use Rattle.sets.specs.Logic.{pick};
 ghost use Rattle.table.specs.Limits.{mostAutomata};
 ghost use Rattle.table.specs.Holding.{WellFormed};
 ghost use Rattle.derivation.specs.Attached.{automataOf};
@@ -17,27 +17,26 @@ pub fn automata_of(table: &[Number], set: CredentialSet) -> AutomatonSet
     requires { ⌜ WellFormed (now table) ⌝ }
     ensures { λ r. ⌜ r ≡ automataOf (now (table .entry)) set ⌝ }
 {
-    let n = layout::wide(table[0]);
+    let n = layout::credentials(table);
     let mut mask = 0;
     let mut i = 0;
     while i < n {
-        let credential = layout::credential(table, i + 1);
-        mask = with_automaton(mask, (set >> i) % 2, credential.automaton);
+        if sets::has(set, i) {
+            let credential = layout::credential(table, i + 1);
+            mask = with_automaton(mask, credential.automaton);
+        }
         i += 1;
     }
     mask
 }
 
-// The mask with the automaton, where the credential is in the set and has one.
-fn with_automaton(mask: AutomatonSet, member: u32, automaton: Number) -> AutomatonSet
+// The set with the automaton of a credential that has one.
+fn with_automaton(mask: AutomatonSet, automaton: Number) -> AutomatonSet
     requires { ⌜ automaton ≤ mostAutomata ⌝ }
-    ensures { λ r. ⌜ r ≡ pick (eqb member 1 and not (eqb automaton 0)) (bitOr mask (2 ^ (automaton - 1))) mask ⌝ }
+    ensures { λ r. ⌜ r ≡ pick (not (eqb automaton 0)) (bitOr mask (2 ^ (automaton - 1))) mask ⌝ }
 {
-    if member != 1 {
-        return mask;
-    }
     if automaton == 0 {
         return mask;
     }
-    mask | (1 << (automaton - 1))
+    sets::with_16(mask, layout::wide(automaton) - 1)
 }

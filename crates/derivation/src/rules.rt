@@ -29,10 +29,11 @@ pub fn premises(table: &[Number], goal: Goal, c: Number, middle: Number) -> Prem
     if c == 0 {
         return not_applying(goal);
     }
-    if table[0] < c {
+    let number = layout::wide(c);
+    if layout::credentials(table) < number {
         return not_applying(goal);
     }
-    let credential = layout::credential(table, layout::wide(c));
+    let credential = layout::credential(table, number);
     if !credential.role.same(goal.role) {
         return not_applying(goal);
     }

@@ -25,8 +25,8 @@ use Rattle.derivation.specs.Forest.Derives.{done, step}
 use Rattle.search.specs.Search.{UsesOnly}
 use Rattle.search.specs.Relevance.{Productive, Reached, Relevant, allDefined, definers, linkedRoles, meant, rolesAsked, withDefiners}
 use Rattle.derivation.proofs.Applying.{applies-numbered, applies-role}
-use Rattle.search.proofs.Ruling.{Rule, rule-applied}
-use Rattle.search.proofs.Ruling.Rule.{membership, containment, linking, intersection}
+use Rattle.derivation.proofs.Ruling.{Rule, rule-applied}
+use Rattle.derivation.proofs.Ruling.Rule.{membership, containment, linking, intersection}
 use Rattle.search.proofs.Within.{only-below, only-end, only-here, only-later, only-node}
 
 meant-same : (r : Role) → meant r r ≡ true

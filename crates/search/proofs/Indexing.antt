@@ -25,7 +25,7 @@ use Rattle.sets.proofs.Members.{inSet-and, same-members, setOf-members}
 use Rattle.search.specs.Relevance.{Asking, ChainThere, Indexed, Place, allDefined, allMet, definers, everyCredential, indexed, met, meant, rolesAsked, withDefiners, withMet, withMetTo}
 use Rattle.search.proofs.Bearing.{roles-1, roles-2, roles-3, roles-4, roles-none}
 use Rattle.search.proofs.Gathering.{chain-whole}
-use Rattle.search.proofs.Ruling.{by-kind}
+use Rattle.derivation.proofs.Ruling.{by-kind}
 
 -- every credential is one of them all
 every-is : setOf (λ (k : ℕ). true) 20 ≡ everyCredential

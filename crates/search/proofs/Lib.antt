@@ -1,6 +1,5 @@
 -- Laws that belong to no one function; crates above cite those marked `pub mod`.
 pub mod Within
-pub mod Ruling
 pub mod Naming
 pub mod Trying
 pub mod Middles

@@ -23,8 +23,8 @@ use Rattle.derivation.specs.Forest.{Derives, Forest}
 use Rattle.derivation.specs.Forest.Derives.{done, step}
 use Rattle.derivation.proofs.Applying.{applies-numbered, some-parts}
 use Rattle.search.specs.Search.{UsesOnly, isMember, tries}
-use Rattle.search.proofs.Ruling.{Rule, rule-applied}
-use Rattle.search.proofs.Ruling.Rule.{membership, containment, linking, intersection}
+use Rattle.derivation.proofs.Ruling.{Rule, rule-applied}
+use Rattle.derivation.proofs.Ruling.Rule.{membership, containment, linking, intersection}
 use Rattle.search.proofs.Within.{only-below, only-here, only-later}
 
 -- some goal is about the principal

@@ -32,7 +32,8 @@ use Rattle.derivation.specs.Forest.Forest.{end, node}
 use Rattle.derivation.specs.Forest.Derives.{done, step}
 use Rattle.derivation.specs.Words.{acceptsAll, words}
 use Rattle.search.specs.Search.{Provable, UsesOnly, everyGoal, mayUse, provable, provedPremises, proves, provesBy, tries}
-use Rattle.derivation.proofs.Applying.{applies-numbered, applies-role, asks-more, asks-nothing, picked}
+use Rattle.derivation.proofs.Applying.{applies-numbered, applies-role, asks-more, picked}
+use Rattle.derivation.proofs.Ruling.{asks-nothing}
 use Rattle.derivation.proofs.Running.{accepting-member, accepts-all-append, sets-after-next, sets-after-none, setsAfter}
 use Rattle.search.proofs.Naming.{middle-tried}
 use Rattle.search.proofs.Within.{only-below, only-here, only-later, only-node}

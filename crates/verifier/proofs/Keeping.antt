@@ -26,7 +26,8 @@ use Rattle.verifier.specs.Tally.{ReadOn, Told, everyFrom, numbersTold, t
 use Rattle.verifier.specs.Tally.Told.{passed, stopped}
 use Rattle.table.specs.Holding.{WellFormed}
 use Rattle.verifier.proofs.Readings.{reader-end}
-use Rattle.derivation.proofs.Applying.{applies-role, asks-more, asks-nothing}
+use Rattle.derivation.proofs.Applying.{applies-role, asks-more}
+use Rattle.derivation.proofs.Ruling.{asks-nothing}
 
 pub count-next : (n : ℕ) (f : Forest) → countFrom (suc n) f ≡ suc (countFrom n f)
 unfolding countFrom

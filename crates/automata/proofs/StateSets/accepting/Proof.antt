@@ -7,31 +7,27 @@ use native.Mathlib.Omega.{arith}
 use borrow.Author.Needs.{needs}
 use Rattle.automata.proofs.Together.{accepting-all, accepting-more, accepting-same, acceptsAt}
 use Rattle.sets.specs.Sets.{setOf}
-use Rattle.table.specs.Limits.{mostAutomata}
 use Rattle.automata.proofs.StateSets.accepting.Statement.{statement}
 use Rattle.automata.proofs.StateSets.accepting.Tie as tie
 
 abbrev Inv-loop : tie.InvT-loop
-Inv-loop table self mask₀ a k₀ mask k = (k ≤ a) × (a ≤ mostAutomata) × (mask ≡ setOf (acceptsAt table self) k)
+Inv-loop table self mask₀ a k₀ mask k = (k ≤ a) × (mask ≡ setOf (acceptsAt table self) k)
 
 abbrev μ-loop : tie.MeasureT-loop
 μ-loop table self mask₀ a k₀ mask k = a - k
 
-shared-slice-read-wide : tie.Need-shared-slice-read-wide Inv-loop μ-loop
-shared-slice-read-wide c = omega (arith, c .before .before .pre .sized .counted .head)
-
-wide-requires : tie.Need-wide-requires Inv-loop μ-loop
-wide-requires c κs = search needs
+automata-requires : tie.Need-automata-requires Inv-loop μ-loop
+automata-requires c κs = search needs
 
 loop-holds : tie.Need-loop-holds Inv-loop μ-loop
 unfolding setOf
-loop-holds c = (omega arith, omega (arith, c .before .before .before .pre .sized .counted .fewAutomata), refl)
+loop-holds c = (omega arith, refl)
 
 add-automaton : tie.Need-add-automaton Inv-loop μ-loop
 add-automaton c = search needs
 
 automaton-requires : tie.Need-automaton-requires Inv-loop μ-loop
-automaton-requires c κs = (c .before .before .before .before .before .pre .sized, omega arith)
+automaton-requires c κs = search needs
 
 mul-if1 : tie.Need-mul-if1 Inv-loop μ-loop
 mul-if1 c = search needs
@@ -39,11 +35,8 @@ mul-if1 c = search needs
 element-copy-out-if1 : tie.Need-element-copy-out-if1 Inv-loop μ-loop
 element-copy-out-if1 c = search needs
 
-cast-mask : tie.Need-cast-mask Inv-loop μ-loop
-cast-mask c = search needs
-
-shl-mask : tie.Need-shl-mask Inv-loop μ-loop
-shl-mask c = search needs
+with-16-requires : tie.Need-with-16-requires Inv-loop μ-loop
+with-16-requires c κs = search needs
 
 add-k : tie.Need-add-k Inv-loop μ-loop
 add-k c = search needs
@@ -53,15 +46,15 @@ loop-less c = search needs
 
 loop-again : tie.Need-loop-again Inv-loop μ-loop
 loop-again c =
-    let (in-range, eight, so-far) = c .before .before .before .before .before .loop .inv in
-    let self = c .before .before .before .before .before .before .before .before .before .args .t1 in
+    let (in-range, so-far) = c .before .before .before .before .before .loop .inv in
     let read = c .before .before .before .automaton .ensures in
-    let mask = ⊎-elim (λ w. w .1 ∙ accepting-more _ self _ so-far read (w .0 .taken) (omega arith))
+    let self = c .before .before .before .before .before .before .before .before .args .t1 in
+    let mask = ⊎-elim (λ w. w .2 ∙ w .1 .ensures ∙ accepting-more _ self _ so-far read (w .0 .taken))
     (λ w. w .1 ∙ accepting-same _ self _ so-far read (w .0 .left)) (c .if1 .came) in
-    (omega arith, eight, mask)
+    (omega arith, mask)
 
 returns : tie.Need-returns Inv-loop μ-loop
-returns c = c .before .loop .inv .2 ∙ accepting-all _ _ _ (omega arith)
+returns c = c .before .loop .inv .1 ∙ accepting-all _ _ _ (omega arith)
 
 pub accepting-spec : {M : Type 1} → statement M
 accepting-spec =
@@ -69,15 +62,13 @@ accepting-spec =
     (tie.spec
     Inv-loop
     μ-loop
-    shared-slice-read-wide
-    wide-requires
+    automata-requires
     loop-holds
     add-automaton
     automaton-requires
     mul-if1
     element-copy-out-if1
-    cast-mask
-    shl-mask
+    with-16-requires
     add-k
     loop-less
     loop-again

@@ -13,11 +13,8 @@ Inv-loop self table role next₀ e k₀ next k = (k ≤ e) × Moving table role 
 abbrev μ-loop : tie.MeasureT-loop
 μ-loop self table role next₀ e k₀ next k = e - k
 
-shared-slice-read-wide : tie.Need-shared-slice-read-wide Inv-loop μ-loop
-shared-slice-read-wide c = omega (arith, c .before .before .pre .sized .counted .head)
-
-wide-requires : tie.Need-wide-requires Inv-loop μ-loop
-wide-requires c κs = search needs
+edges-requires : tie.Need-edges-requires Inv-loop μ-loop
+edges-requires c κs = search needs
 
 loop-holds : tie.Need-loop-holds Inv-loop μ-loop
 loop-holds c = (omega arith, moving-none _ _ _)
@@ -26,11 +23,11 @@ add-k : tie.Need-add-k Inv-loop μ-loop
 add-k c = search needs
 
 edge-requires : tie.Need-edge-requires Inv-loop μ-loop
-edge-requires c κs = (c .before .before .before .before .before .pre .sized, omega arith)
+edge-requires c κs = search needs
 
 with-edge-requires : tie.Need-with-edge-requires Inv-loop μ-loop
 with-edge-requires c κs =
-    let pre = c .before .before .before .before .before .before .pre in
+    let pre = c .before .before .before .before .before .pre in
     edge-there _ pre _ (omega arith) (c .edge .ensures)
 
 loop-less : tie.Need-loop-less Inv-loop μ-loop
@@ -39,7 +36,7 @@ loop-less c = search needs
 loop-again : tie.Need-loop-again Inv-loop μ-loop
 loop-again c =
     let loop = c .before .before .before .loop in
-    let pre = c .before .before .before .before .before .before .before .pre in
+    let pre = c .before .before .before .before .before .before .pre in
     rw (c .with-edge .ensures, c .before .edge .ensures)
     (omega arith, moving-more _ _ _ _ _ (loop .inv .1) (edge-there _ pre _ (omega arith) refl .0))
 
@@ -52,8 +49,7 @@ moved-spec =
     (tie.spec
     Inv-loop
     μ-loop
-    shared-slice-read-wide
-    wide-requires
+    edges-requires
     loop-holds
     add-k
     edge-requires

@@ -4,31 +4,27 @@ use Prim.Native.Nat.{_-_, _≤_}
 use native.Mathlib.Omega.{arith}
 use borrow.Author.Needs.{needs}
 use Rattle.automata.proofs.Together.{Started, started-all, started-more, started-none}
-use Rattle.table.specs.Limits.{mostAutomata}
 use Rattle.automata.proofs.StateSets.start.Statement.{statement}
 use Rattle.automata.proofs.StateSets.start.Tie as tie
 
 abbrev Inv-loop : tie.InvT-loop
-Inv-loop table sets₀ a k₀ sets k = (k ≤ a) × (a ≤ mostAutomata) × Started table k sets
+Inv-loop table sets₀ a k₀ sets k = (k ≤ a) × Started table k sets
 
 abbrev μ-loop : tie.MeasureT-loop
 μ-loop table sets₀ a k₀ sets k = a - k
 
-shared-slice-read-wide : tie.Need-shared-slice-read-wide Inv-loop μ-loop
-shared-slice-read-wide c = omega (arith, c .before .before .pre .sized .counted .head)
-
-wide-requires : tie.Need-wide-requires Inv-loop μ-loop
-wide-requires c κs = search needs
+automata-requires : tie.Need-automata-requires Inv-loop μ-loop
+automata-requires c κs = search needs
 
 loop-holds : tie.Need-loop-holds Inv-loop μ-loop
 loop-holds c =
-    (omega arith, omega (arith, c .before .before .before .pre .sized .counted .fewAutomata), started-none _)
+    (omega arith, started-none _)
 
 add-automaton : tie.Need-add-automaton Inv-loop μ-loop
 add-automaton c = search needs
 
 automaton-requires : tie.Need-automaton-requires Inv-loop μ-loop
-automaton-requires c κs = (c .before .before .before .before .before .pre .sized, omega arith)
+automaton-requires c κs = search needs
 
 mul-sets : tie.Need-mul-sets Inv-loop μ-loop
 mul-sets c = search needs
@@ -44,11 +40,11 @@ loop-less c = search needs
 
 loop-again : tie.Need-loop-again Inv-loop μ-loop
 loop-again c =
-    let (in-range, eight, so-far) = c .before .before .loop .inv in
-    rw (c .automaton .ensures) (omega arith, eight, started-more _ _ _ (omega arith) so-far)
+    let (in-range, so-far) = c .before .before .loop .inv in
+    rw (c .automaton .ensures) (omega arith, started-more _ _ _ (omega arith) so-far)
 
 returns : tie.Need-returns Inv-loop μ-loop
-returns c = started-all _ _ _ (omega arith) (c .before .loop .inv .2)
+returns c = started-all _ _ _ (omega arith) (c .before .loop .inv .1)
 
 pub start-spec : {M : Type 1} → statement M
 start-spec =
@@ -56,8 +52,7 @@ start-spec =
     (tie.spec
     Inv-loop
     μ-loop
-    shared-slice-read-wide
-    wide-requires
+    automata-requires
     loop-holds
     add-automaton
     automaton-requires

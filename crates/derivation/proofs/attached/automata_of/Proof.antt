@@ -1,13 +1,14 @@
 -- `derivation::attached::automata_of` meets its contract: the mask has the automata of those of the first i credentials that are in
 -- the set. Assumes nothing.
-use mathlib.Core.Path.{_∙_, _≡_, refl}
+use mathlib.Core.Logic.{⊎-elim}
+use mathlib.Core.Path.{_∙_, _≡_, refl, sym}
 use Prim.Native.Nat.{_-_, _≤_}
 use native.Mathlib.Omega.{arith}
 use borrow.Author.Needs.{needs}
 use denote.Ref.{now}
 use Rattle.table.specs.Layout.{credentials}
 use Rattle.derivation.specs.Attached.{automataOf, automataUpTo}
-use Rattle.derivation.proofs.Attaching.{automata-next, automaton-few}
+use Rattle.derivation.proofs.Attaching.{automata-more, automata-same, automaton-few}
 use Rattle.derivation.proofs.attached.automata_of.Statement.{statement}
 use Rattle.derivation.proofs.attached.automata_of.Tie as tie
 
@@ -17,40 +18,24 @@ Inv-loop table set n mask₀ i₀ mask i = (i ≤ n) × (mask ≡ automataUpTo t
 abbrev μ-loop : tie.MeasureT-loop
 μ-loop table set n mask₀ i₀ mask i = n - i
 
-shared-slice-read-wide : tie.Need-shared-slice-read-wide Inv-loop μ-loop
-shared-slice-read-wide c =
-    let pre = c .before .before .pre in
-    omega (arith, pre .sized .counted .head)
-
-wide-requires : tie.Need-wide-requires Inv-loop μ-loop
-wide-requires c κs = search needs
+credentials-requires : tie.Need-credentials-requires Inv-loop μ-loop
+credentials-requires c κs = search needs
 
 loop-holds : tie.Need-loop-holds Inv-loop μ-loop
 unfolding automataUpTo
 loop-holds c = (omega arith, refl)
 
+has-requires : tie.Need-has-requires Inv-loop μ-loop
+has-requires c κs = search needs
+
 add-credential : tie.Need-add-credential Inv-loop μ-loop
 add-credential c = search needs
 
 credential-requires : tie.Need-credential-requires Inv-loop μ-loop
-credential-requires c κs =
-    let pre = c .before .before .before .before .before .pre in
-    (pre .sized, (record { first = omega arith; last = omega arith }))
-
-cast-with-automaton : tie.Need-cast-with-automaton Inv-loop μ-loop
-cast-with-automaton c =
-    let pre = c .before .before .before .before .before .before .pre in
-    omega (arith, pre .sized .counted .fewCredentials)
-
-shr-with-automaton : tie.Need-shr-with-automaton Inv-loop μ-loop
-shr-with-automaton c =
-    let pre = c .before .before .before .before .before .before .pre in
-    omega (arith, pre .sized .counted .fewCredentials)
+credential-requires c κs = search needs
 
 with-automaton-requires : tie.Need-with-automaton-requires Inv-loop μ-loop
-with-automaton-requires c κs =
-    let pre = c .before .before .before .before .before .before .pre in
-    automaton-few _ pre _ (record { first = omega arith; last = omega arith }) _ (c .credential .ensures)
+with-automaton-requires c κs = automaton-few _ (c .before .before .before .before .before .before .before .pre) _ (omega arith) _ (c .credential .ensures)
 
 add-i : tie.Need-add-i Inv-loop μ-loop
 add-i c = search needs
@@ -60,14 +45,15 @@ loop-less c = search needs
 
 loop-again : tie.Need-loop-again Inv-loop μ-loop
 loop-again c =
-    let loop = c .before .before .before .loop in
-    (omega arith, c .with-automaton .ensures ∙ automata-next _ _ _ _ _ (c .before .credential .ensures) (loop .inv .1))
+    let so-far = c .before .before .before .loop .inv .1 in
+    let mask = ⊎-elim (λ w. w .3 ∙ w .2 .ensures ∙ automata-more _ _ _ so-far (sym (c .before .has .ensures) ∙ w .0 .taken) (w .1 .ensures))
+    (λ w. w .1 ∙ automata-same _ _ _ so-far (sym (c .before .has .ensures) ∙ w .0 .left)) (c .if1 .came) in
+    (omega arith, mask)
 
 returns : tie.Need-returns Inv-loop μ-loop
 unfolding automataOf
 returns c =
-    let args = c .before .before .before .before .before .args in
-    let all : c .before .loop .i ≡ credentials (now (args .table)) = omega arith in
+    let all : c .before .loop .i ≡ credentials (now (c .before .before .before .before .args .table)) = omega arith in
     rw all at (c .before .loop .inv .1)
 
 pub automata-of-spec : {M : Type 1} → statement M
@@ -76,13 +62,11 @@ automata-of-spec =
     (tie.spec
     Inv-loop
     μ-loop
-    shared-slice-read-wide
-    wide-requires
+    credentials-requires
     loop-holds
+    has-requires
     add-credential
     credential-requires
-    cast-with-automaton
-    shr-with-automaton
     with-automaton-requires
     add-i
     loop-less

@@ -1,32 +1,26 @@
--- `derivation::attached::with_automaton` meets its contract: one bit is added, or none. Assumes nothing.
-use Prim.Native.Nat.{_-_}
-use native.Mathlib.Omega.{arith}
+-- `derivation::attached::with_automaton` meets its contract: one automaton is added, or none. Assumes nothing.
 use borrow.Author.Needs.{needs}
 use borrow.Author.Tests.{eq-eqb, ne-eqb}
-use Rattle.sets.specs.Logic.{_and_, pick}
-use Rattle.sets.proofs.Members.{one-bit}
+use Rattle.sets.specs.Logic.{pick}
 use Rattle.derivation.proofs.attached.with_automaton.Statement.{statement}
 use Rattle.derivation.proofs.attached.with_automaton.Tie as tie
 
 returns : tie.Need-returns
-unfolding _and_ pick
-returns c = rw (ne-eqb _ 1 (c .if1 .taken))
+unfolding pick
+returns c = rw (eq-eqb _ 0 (c .if1 .taken))
+
+wide-requires : tie.Need-wide-requires
+wide-requires c κs = search needs
+
+sub-with-16 : tie.Need-sub-with-16
+sub-with-16 c = search needs
+
+with-16-requires : tie.Need-with-16-requires
+with-16-requires c κs = search needs
 
 returns-2 : tie.Need-returns-2
-unfolding _and_ pick
-returns-2 c = rw (eq-eqb _ 1 (c .before .if1 .left), eq-eqb _ 0 (c .if2 .taken))
-
-sub-result : tie.Need-sub-result
-sub-result c = search needs
-
-shl-result : tie.Need-shl-result
-shl-result c = search needs
-
-returns-3 : tie.Need-returns-3
-unfolding _and_ pick
-returns-3 c =
-    let args = c .before .before .args in
-    rw (eq-eqb _ 1 (c .before .if1 .left), ne-eqb _ 0 (c .if2 .left), one-bit 16 (args .automaton - 1) (omega arith))
+unfolding pick
+returns-2 c = rw (ne-eqb _ 0 (c .before .before .if1 .left), ← c .before .wide .ensures .0) (c .with-16 .ensures)
 
 pub with-automaton-spec : {M : Type 1} → statement M
-with-automaton-spec = tie.close (tie.spec returns returns-2 sub-result shl-result returns-3)
+with-automaton-spec = tie.close (tie.spec returns wide-requires sub-with-16 with-16-requires returns-2)

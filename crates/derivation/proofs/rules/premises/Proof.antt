@@ -21,7 +21,7 @@ there : (at : tie.After-credential) → Numbered (credentials (now (start at .ar
 there at = record { first = omega arith; last = omega arith }
 
 found : (at : tie.After-credential) → at .credential .result ≡ credential (now (start at .args .table)) (start at .args .c)
-found at = at .credential .ensures ∙ ap (credential _) (at .before .wide .ensures .0)
+found at = at .credential .ensures ∙ ap (credential _) (at .before .before .before .wide .ensures .0)
 
 -- where its role is the goal's, what it asks are the premises
 own : (at : tie.Else3) → let read = at .before .before in
@@ -38,25 +38,20 @@ not-applying-requires c κs = search needs
 returns : tie.Need-returns
 returns c = answer-is (c .not-applying .ensures) (no-credential _ _ _ _ (c .before .if1 .taken))
 
-shared-slice-read-if2 : tie.Need-shared-slice-read-if2
-shared-slice-read-if2 c =
-    let pre = c .before .before .before .pre in
-    omega (arith, pre .sized .counted .head)
+wide-requires : tie.Need-wide-requires
+wide-requires c κs = search needs
+
+credentials-requires : tie.Need-credentials-requires
+credentials-requires c κs = search needs
 
 not-applying-requires-2 : tie.Need-not-applying-requires-2
 not-applying-requires-2 c κs = search needs
 
 returns-2 : tie.Need-returns-2
-returns-2 c = answer-is (c .not-applying2 .ensures) (credential-over _ _ _ _ (c .before .if2 .taken))
-
-wide-requires : tie.Need-wide-requires
-wide-requires c κs = search needs
+returns-2 c = answer-is (c .not-applying2 .ensures) (credential-over _ _ _ _ (omega arith))
 
 credential-requires : tie.Need-credential-requires
-credential-requires c κs =
-    let pre = c .before .before .before .before .before .pre in
-    let if1 = c .before .before .before .if1 in
-    (pre .sized, (record { first = omega (arith, if1 .left); last = omega (arith, c .before .if2 .left) }))
+credential-requires c κs = search needs
 
 same-requires : tie.Need-same-requires
 same-requires c κs = search needs
@@ -119,10 +114,10 @@ premises-spec =
     (tie.spec
     not-applying-requires
     returns
-    shared-slice-read-if2
+    wide-requires
+    credentials-requires
     not-applying-requires-2
     returns-2
-    wide-requires
     credential-requires
     same-requires
     not-applying-requires-3

@@ -7,15 +7,17 @@ use Prim.Native.Nat.{ℕ}
 use native.Mathlib.Decide.{ℕ-discrete}
 use borrow.Author.Tests.{eqb-true}
 use Rattle.table.specs.Limits.{mostPrincipals}
-use Rattle.table.specs.Layout.{Numbered, credential, name, parts, principal, role}
+use Rattle.table.specs.Layout.{Numbered, credential, credentials, name, parts, principal, role}
+use Rattle.table.specs.Holding.{WellFormed}
 use Rattle.table.specs.declared.Role.{Role}
 use Rattle.table.specs.declared.Credential.{Credential}
 use Rattle.table.specs.declared.Goal.{Goal}
 use Rattle.sets.proofs.Tests.{and-first, and-second}
 use Rattle.table.proofs.Fields.{principal-range}
+use Rattle.table.proofs.WellFormed.{wf-chain}
 use Rattle.derivation.specs.Rules.{asks, goal, premises}
 use Rattle.derivation.proofs.Asking.{asks-1, asks-2, asks-3, asks-4, asks-none}
-use Rattle.derivation.proofs.Applying.{applies-asks, none-some, picked, when-some}
+use Rattle.derivation.proofs.Applying.{applies-asks, applies-numbered, cons-nil, none-some, picked, some-parts, when-some}
 
 -- a kind is one of the four, or none of them
 pub by-kind : {A : Type 0} (k : ℕ) → (k ≡ 1 → A) → (k ≡ 2 → A) → (k ≡ 3 → A) → (k ≡ 4 → A)
@@ -68,3 +70,16 @@ module _ (t : List ℕ) (g : Goal) (c : Credential) (m : ℕ) (goals : List Goal
 pub rule-applied : (t : List ℕ) (g : Goal) (c m : ℕ) (goals : List Goal) → premises t g c m ≡ some goals
     → Rule t g (credential t c) m goals
 rule-applied t g c m goals applies = rule-asked t g (credential t c) m goals (applies-asks t g c m goals applies)
+
+-- nothing is asked, so the kind is 1: a chain has parts
+pub asks-nothing : (t : List ℕ) → WellFormed t → (g : Goal) (c m : ℕ) → premises t g c m ≡ some [] → credential t c .kind ≡ 1
+asks-nothing t wf g c m applies = by-rule (rule-applied t g c m [] applies)
+  where
+    there : Numbered (credentials t) c
+    there = applies-numbered t g c m [] applies
+
+    by-rule : Rule t g (credential t c) m [] → credential t c .kind ≡ 1
+    by-rule (membership one same none e) = one
+    by-rule (containment two none e) = absurd (cons-nil e)
+    by-rule (linking three middle e) = absurd (cons-nil e)
+    by-rule (intersection four none e) = absurd (some-parts t _ (credential t c .first) (wf-chain t wf c there four .least) e)
