@@ -6,3 +6,5 @@ pub mod Sizes
 pub mod Chains
 pub mod Parts
 pub mod WellFormed
+pub mod Encoding
+pub mod Opened
