@@ -1,41 +1,42 @@
 // What a single record must be, given by value: the ranges of document 01, "The table", by kind and by label.
-use crate::Cell;
-use crate::Credential;
-use crate::EVERY_ROLE;
-use crate::Edge;
-use crate::INTERSECTION_CONTAINMENT;
-use crate::LINKING_CONTAINMENT;
-use crate::Name;
-use crate::Number;
-use crate::OTHER_ROLES;
-use crate::Principal;
-use crate::Role;
-use crate::SIMPLE_CONTAINMENT;
-use crate::SIMPLE_MEMBERSHIP;
-use crate::THIS_ROLE;
-use crate::layout::LAST_STATE;
-use crate::layout::MOST_NAMES;
-use crate::layout::MOST_PRINCIPALS;
-use crate::layout::wide;
+use table::Cell;
+use table::Credential;
+use table::EVERY_ROLE;
+use table::Edge;
+use table::INTERSECTION_CONTAINMENT;
+use table::LINKING_CONTAINMENT;
+use table::Name;
+use table::Number;
+use table::OTHER_ROLES;
+use table::Principal;
+use table::Role;
+use table::SIMPLE_CONTAINMENT;
+use table::SIMPLE_MEMBERSHIP;
+use table::THIS_ROLE;
+use table::layout::LAST_STATE;
+use table::layout::MOST_NAMES;
+use table::layout::MOST_PRINCIPALS;
+use table::layout::wide;
 ghost use mathlib.Core.Path.{_≡_};
 ghost use Rattle.table.specs.Checks;
 
-pub fn within(low: Number, high: Number, x: Number) -> bool
+pub fn within(low: usize, high: usize, x: Number) -> bool
     ensures { λ r. ⌜ r ≡ Checks.within low high x ⌝ }
 {
+    let x = wide(x);
     low <= x && x <= high
 }
 
 pub fn is_principal(p: Principal) -> bool
     ensures { λ r. ⌜ r ≡ Checks.isPrincipal p ⌝ }
 {
-    within(1, MOST_PRINCIPALS, p.0)
+    within(1, MOST_PRINCIPALS as usize, p.0)
 }
 
 pub fn is_name(n: Name) -> bool
     ensures { λ r. ⌜ r ≡ Checks.isName n ⌝ }
 {
-    within(1, MOST_NAMES, n.0)
+    within(1, MOST_NAMES as usize, n.0)
 }
 
 pub fn is_role(role: Role) -> bool
@@ -45,7 +46,7 @@ pub fn is_role(role: Role) -> bool
 }
 
 // Whether first and second are what the kind allows, where there are `cells` part cells.
-pub fn meaning_ok(kind: Number, first: Number, second: Number, cells: Number) -> bool
+pub fn meaning_ok(kind: Number, first: Number, second: Number, cells: usize) -> bool
     ensures { λ r. ⌜ r ≡ Checks.meaningOk kind first second cells ⌝ }
 {
     match kind {
@@ -57,17 +58,19 @@ pub fn meaning_ok(kind: Number, first: Number, second: Number, cells: Number) ->
     }
 }
 
-pub fn credential_ok(c: Credential, cells: Number, automata: Number) -> bool
+pub fn credential_ok(c: Credential, cells: usize, automata: usize) -> bool
     ensures { λ r. ⌜ r ≡ Checks.credentialOk cells automata c ⌝ }
 {
-    is_role(c.role) && (meaning_ok(c.kind, c.first, c.second, cells) && c.automaton <= automata)
+    is_role(c.role)
+        && (meaning_ok(c.kind, c.first, c.second, cells) && wide(c.automaton) <= automata)
 }
 
 // Whether cell j is in range: its chain ends with it, or goes on to a greater cell.
-pub fn cell_ok(c: Cell, j: usize, cells: Number) -> bool
+pub fn cell_ok(c: Cell, j: usize, cells: usize) -> bool
     ensures { λ r. ⌜ r ≡ Checks.cellOk cells j c ⌝ }
 {
-    is_role(c.role) && (c.next == 0 || (j < wide(c.next) && c.next <= cells))
+    let next = wide(c.next);
+    is_role(c.role) && (next == 0 || (j < next && next <= cells))
 }
 
 // Whether the label is one of the three, with a role where it names one and zeros where it names none.
@@ -82,7 +85,7 @@ pub fn label_ok(label: Number, role: Role) -> bool
     }
 }
 
-pub fn edge_ok(e: Edge, automata: Number) -> bool
+pub fn edge_ok(e: Edge, automata: usize) -> bool
     ensures { λ r. ⌜ r ≡ Checks.edgeOk automata e ⌝ }
 {
     within(1, automata, e.automaton)

@@ -1,38 +1,90 @@
-// The rows of checks over a whole table: the head, then each kind of record by ascending number. A row's refusal names the
-// first record that fails; the rows after the head are asked only of a table with the length that its head says.
-use crate::INTERSECTION_CONTAINMENT;
-use crate::Number;
-use crate::Refusal;
+// The rows of checks over a whole table: the head, then the records by ascending number. A row's refusal names the first record
+// that fails; the rows after the head are asked only of a table with the length that its head says.
 use crate::TableCheck;
-use crate::layout;
-use crate::layout::HEAD_SIZE;
-use crate::layout::LEAST_PARTS;
-use crate::layout::MOST_AUTOMATA;
-use crate::layout::MOST_CELLS;
-use crate::layout::MOST_CREDENTIALS;
-use crate::layout::MOST_EDGES;
-use crate::layout::MOST_PARTS;
 use crate::ranges;
+use table::INTERSECTION_CONTAINMENT;
+use table::Number;
+use table::Reason;
+use table::Refusal;
+use table::layout;
+use table::layout::HEAD_SIZE;
+use table::layout::LEAST_PARTS;
+use table::layout::MOST_AUTOMATA;
+use table::layout::MOST_CELLS;
+use table::layout::MOST_CREDENTIALS;
+use table::layout::MOST_EDGES;
+use table::layout::MOST_PARTS;
 ghost use mathlib.Core.Path.{_≡_};
 ghost use Prim.Native.Nat.{_≤_};
 ghost use lib.ListN.{length};
-ghost use Rattle.table.specs.Layout.{headSize};
-ghost use Rattle.table.specs.Holding.{Sized};
-ghost use Rattle.table.specs.Checks.{countsOk, tableTold, headOutcome, credentialsOutcome, cellsOutcome, chainsOutcome, edgesOutcome};
-ghost use Rattle.table.specs.Outcome.{Outcome};
+ghost use Rattle.table.specs.Outcome.{Outcome, demandEach};
+ghost use Rattle.table.specs.Layout;
+ghost use Rattle.table.specs.Layout.{Numbered, headSize};
+ghost use Rattle.table.specs.Holding.{Counted, Sized};
+ghost use Rattle.table.specs.Checks.{countsOk, goodChain, headOutcome, numberOf};
+ghost use Rattle.checks.specs.Told.{tableTold};
+ghost use Rattle.checks.specs.Rows;
+ghost use Rattle.checks.specs.Rows.{good, reasonOf, rowOutcome};
+ghost use Rattle.checks.specs.declared.rows.Row.the-variants as row;
+
+// The rows that ask every record of one kind by itself: 4, 5 and 7.
+pub enum Row {
+    Credentials,
+    Cells,
+    Edges,
+}
+
+impl Row {
+    fn records(self, table: &[Number]) -> usize
+        requires { ⌜ Counted (now table) ⌝ }
+        ensures { λ r. ⌜ r ≡ Rows.records (now (table .entry)) self ⌝ }
+    {
+        match self {
+            Row::Credentials => layout::credentials(table),
+            Row::Cells => layout::cells(table),
+            Row::Edges => layout::edges(table),
+        }
+    }
+
+    fn is_good(self, table: &[Number], i: usize) -> bool
+        requires { ⌜ Sized (now table) ⌝ }
+        requires { ⌜ Numbered (Rows.records (now table) self) i ⌝ }
+        ensures { λ r. ⌜ r ≡ good (now (table .entry)) self i ⌝ }
+    {
+        match self {
+            Row::Credentials => ranges::credential_ok(
+                layout::credential(table, i),
+                layout::cells(table),
+                layout::automata(table),
+            ),
+            Row::Cells => ranges::cell_ok(layout::cell(table, i), i, layout::cells(table)),
+            Row::Edges => ranges::edge_ok(layout::edge(table, i), layout::automata(table)),
+        }
+    }
+
+    fn reason(self) -> Reason
+        ensures { λ r. ⌜ r ≡ reasonOf self ⌝ }
+    {
+        match self {
+            Row::Credentials => Reason::Credential,
+            Row::Cells => Reason::Cell,
+            Row::Edges => Reason::Edge,
+        }
+    }
+}
 
 // Rows 1 to 3.
 pub fn check_head(table: &[Number]) -> TableCheck
     ensures { λ r. ⌜ tableTold r ≡ headOutcome (now (table .entry)) ⌝ }
 {
     if table.len() < HEAD_SIZE {
-        return TableCheck::Refused(Refusal::ShortHead);
+        return refused(Reason::ShortHead, 0);
     }
     if !counts_ok(table) {
-        return TableCheck::Refused(Refusal::CountOverLimit);
+        return refused(Reason::CountOverLimit, 0);
     }
     if table.len() != layout::table_length(table) {
-        return TableCheck::Refused(Refusal::WrongLength);
+        return refused(Reason::WrongLength, 0);
     }
     TableCheck::Accepted
 }
@@ -46,33 +98,17 @@ fn counts_ok(table: &[Number]) -> bool
         && (table[1] <= MOST_CELLS && (table[2] <= MOST_AUTOMATA && table[3] <= MOST_EDGES))
 }
 
-// Row 4.
-pub fn check_credentials(table: &[Number]) -> TableCheck
+// Rows 4, 5 and 7, each over its records by ascending number.
+pub fn check_records(table: &[Number], row: Row) -> TableCheck
     requires { ⌜ Sized (now table) ⌝ }
-    ensures { λ r. ⌜ tableTold r ≡ credentialsOutcome (now (table .entry)) ⌝ }
+    ensures { λ r. ⌜ tableTold r ≡ rowOutcome (now (table .entry)) row ⌝ }
 {
-    let n = layout::wide(table[0]);
+    let n = row.records(table);
     let mut i = 0;
     while i < n {
         i += 1;
-        if !ranges::credential_ok(layout::credential(table, i), table[1], table[2]) {
-            return TableCheck::Refused(Refusal::Credential(i));
-        }
-    }
-    TableCheck::Accepted
-}
-
-// Row 5.
-pub fn check_cells(table: &[Number]) -> TableCheck
-    requires { ⌜ Sized (now table) ⌝ }
-    ensures { λ r. ⌜ tableTold r ≡ cellsOutcome (now (table .entry)) ⌝ }
-{
-    let q = layout::wide(table[1]);
-    let mut j = 0;
-    while j < q {
-        j += 1;
-        if !ranges::cell_ok(layout::cell(table, j), j, table[1]) {
-            return TableCheck::Refused(Refusal::Cell(j));
+        if !row.is_good(table, i) {
+            return refused(row.reason(), i);
         }
     }
     TableCheck::Accepted
@@ -81,11 +117,11 @@ pub fn check_cells(table: &[Number]) -> TableCheck
 // Row 6: the chain of each kind 4 credential has 2 to 4 cells. It is left as soon as a fifth cell is met.
 pub fn check_chains(table: &[Number]) -> TableCheck
     requires { ⌜ Sized (now table) ⌝ }
-    requires { ⌜ credentialsOutcome (now table) ≡ Outcome.accepted 0 ⌝ }
-    requires { ⌜ cellsOutcome (now table) ≡ Outcome.accepted 0 ⌝ }
-    ensures { λ r. ⌜ tableTold r ≡ chainsOutcome (now (table .entry)) ⌝ }
+    requires { ⌜ rowOutcome (now table) row.Credentials ≡ Outcome.accepted 0 ⌝ }
+    requires { ⌜ rowOutcome (now table) row.Cells ≡ Outcome.accepted 0 ⌝ }
+    ensures { λ r. ⌜ tableTold r ≡ demandEach (goodChain (now (table .entry))) (Layout.credentials (now (table .entry))) 6 ⌝ }
 {
-    let n = layout::wide(table[0]);
+    let n = layout::credentials(table);
     let mut i = 0;
     'credentials: loop {
         if i == n {
@@ -101,28 +137,21 @@ pub fn check_chains(table: &[Number]) -> TableCheck
         while j != 0 {
             met += 1;
             if MOST_PARTS < met {
-                break 'credentials TableCheck::Refused(Refusal::Chain(i));
+                break 'credentials refused(Reason::Chain, i);
             }
             j = layout::cell(table, layout::wide(j)).next;
         }
         if met < LEAST_PARTS {
-            break TableCheck::Refused(Refusal::Chain(i));
+            break refused(Reason::Chain, i);
         }
     }
 }
 
-// Row 7.
-pub fn check_edges(table: &[Number]) -> TableCheck
-    requires { ⌜ Sized (now table) ⌝ }
-    ensures { λ r. ⌜ tableTold r ≡ edgesOutcome (now (table .entry)) ⌝ }
+fn refused(reason: Reason, position: usize) -> TableCheck
+    ensures { λ r. ⌜ tableTold r ≡ Outcome.refused (numberOf reason) position ⌝ }
 {
-    let e = layout::wide(table[3]);
-    let mut k = 0;
-    while k < e {
-        k += 1;
-        if !ranges::edge_ok(layout::edge(table, k), table[2]) {
-            return TableCheck::Refused(Refusal::Edge(k));
-        }
-    }
-    TableCheck::Accepted
+    TableCheck::Refused(Refusal {
+        reason: reason,
+        position: position,
+    })
 }

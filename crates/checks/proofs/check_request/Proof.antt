@@ -1,10 +1,12 @@
--- `table::check_request` meets its contract: rows 1 to 7 are those of the table, then row 8. Assumes nothing.
+-- `checks::check_request` meets its contract: rows 1 to 7 are those of the table, then row 8. Assumes nothing.
 use mathlib.Core.Path.{_∙_, ap, sym}
 use borrow.Author.Needs.{needs}
-use Rattle.table.proofs.Stages.{stage-passed, stage-stops, then-on}
-use Rattle.table.specs.Checks.{queryTold, requestOutcome, tableTold}
-use Rattle.table.proofs.check_request.Statement.{statement}
-use Rattle.table.proofs.check_request.Tie as tie
+use Rattle.table.specs.Checks.{requestOutcome}
+use Rattle.table.proofs.Stages.{then-on}
+use Rattle.checks.specs.Told.{queryTold, tableTold}
+use Rattle.checks.proofs.Told.{stage-passed, stage-stops}
+use Rattle.checks.proofs.check_request.Statement.{statement}
+use Rattle.checks.proofs.check_request.Tie as tie
 
 check-table-requires : tie.Need-check-table-requires
 check-table-requires c κs = search needs

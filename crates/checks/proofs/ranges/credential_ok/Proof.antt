@@ -1,10 +1,10 @@
--- `table::ranges::credential_ok` meets its contract: the role, what the kind allows, then the automaton. Assumes nothing.
+-- `checks::ranges::credential_ok` meets its contract: the role, what the kind allows, then the automaton. Assumes nothing.
 use mathlib.Core.Path.{_∙_}
 use borrow.Author.Needs.{needs}
 use Rattle.sets.proofs.Tests.{flag-off, flag-on}
 use Rattle.table.specs.Checks.{credentialOk}
-use Rattle.table.proofs.ranges.credential_ok.Statement.{statement}
-use Rattle.table.proofs.ranges.credential_ok.Tie as tie
+use Rattle.checks.proofs.ranges.credential_ok.Statement.{statement}
+use Rattle.checks.proofs.ranges.credential_ok.Tie as tie
 
 is-role-requires : tie.Need-is-role-requires
 is-role-requires c κs = search needs
@@ -12,13 +12,16 @@ is-role-requires c κs = search needs
 meaning-ok-requires : tie.Need-meaning-ok-requires
 meaning-ok-requires c κs = search needs
 
+wide-requires : tie.Need-wide-requires
+wide-requires c κs = search needs
+
 returns : tie.Need-returns
 unfolding credentialOk
 returns c =
     let meaning-ok = c .before .before .meaning-ok in
     let is-role = c .before .before .before .before .is-role in
     let if1 = c .before .before .before .if1 in
-    flag-on (meaning-ok .ensures) (c .before .if2 .taken) ∙ flag-on (is-role .ensures) (if1 .taken)
+    rw (← c .wide .ensures .0) (flag-on (meaning-ok .ensures) (c .before .if2 .taken) ∙ flag-on (is-role .ensures) (if1 .taken))
 
 returns-2 : tie.Need-returns-2
 unfolding credentialOk
@@ -33,4 +36,4 @@ returns-3 c = flag-off _ (c .before .is-role .ensures) (c .if1 .left)
 
 pub credential-ok-spec : {M : Type 1} → statement M
 credential-ok-spec =
-    tie.close (tie.spec is-role-requires meaning-ok-requires returns returns-2 returns-3)
+    tie.close (tie.spec is-role-requires meaning-ok-requires wide-requires returns returns-2 returns-3)

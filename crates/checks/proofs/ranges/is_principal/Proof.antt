@@ -1,8 +1,11 @@
--- `table::ranges::is_principal` meets its contract: by that of `within`. Assumes nothing.
+-- `checks::ranges::is_principal` meets its contract: by that of `within`. Assumes nothing.
 use borrow.Author.Needs.{needs}
 use Rattle.table.specs.Checks.{isPrincipal}
-use Rattle.table.proofs.ranges.is_principal.Statement.{statement}
-use Rattle.table.proofs.ranges.is_principal.Tie as tie
+use Rattle.checks.proofs.ranges.is_principal.Statement.{statement}
+use Rattle.checks.proofs.ranges.is_principal.Tie as tie
+
+cast-within : tie.Need-cast-within
+cast-within c = search needs
 
 within-requires : tie.Need-within-requires
 within-requires c κs = search needs
@@ -12,4 +15,4 @@ unfolding isPrincipal
 returns c = c .within .ensures
 
 pub is-principal-spec : {M : Type 1} → statement M
-is-principal-spec = tie.close (tie.spec within-requires returns)
+is-principal-spec = tie.close (tie.spec cast-within within-requires returns)

@@ -1,17 +1,21 @@
--- `table::ranges::within` meets its contract: each test decides its part. Assumes nothing.
+-- `checks::ranges::within` meets its contract: each test decides its part. Assumes nothing.
+use borrow.Author.Needs.{needs}
 use borrow.Author.Tests.{le-leb, lt-leb}
+use Rattle.sets.proofs.Tests.{and-off, and-on}
 use Rattle.table.specs.Checks.{within}
-use Rattle.sets.specs.Logic.{_and_}
-use Rattle.table.proofs.ranges.within.Statement.{statement}
-use Rattle.table.proofs.ranges.within.Tie as tie
+use Rattle.checks.proofs.ranges.within.Statement.{statement}
+use Rattle.checks.proofs.ranges.within.Tie as tie
+
+wide-requires : tie.Need-wide-requires
+wide-requires c κs = search needs
 
 returns : tie.Need-returns
-unfolding within _and_
-returns c = rw (le-leb _ _ (c .if1 .taken))
+unfolding within
+returns c = rw (← c .before .wide .ensures .0) (and-on (le-leb _ _ (c .if1 .taken)))
 
 returns-2 : tie.Need-returns-2
-unfolding within _and_
-returns-2 c = rw (lt-leb _ _ (c .if1 .left))
+unfolding within
+returns-2 c = rw (← c .before .wide .ensures .0) (and-off _ (lt-leb _ _ (c .if1 .left)))
 
 pub within-spec : {M : Type 1} → statement M
-within-spec = tie.close (tie.spec returns returns-2)
+within-spec = tie.close (tie.spec wide-requires returns returns-2)

@@ -1,11 +1,11 @@
--- `table::rows::counts_ok` meets its contract: count by count. Assumes nothing.
+-- `checks::rows::counts_ok` meets its contract: count by count. Assumes nothing.
 use mathlib.Core.Path.{_∙_}
 use borrow.Author.Needs.{needs}
 use borrow.Author.Tests.{le-leb, lt-leb}
 use Rattle.sets.proofs.Tests.{and-off, and-on}
 use Rattle.table.specs.Checks.{countsOk}
-use Rattle.table.proofs.rows.counts_ok.Statement.{statement}
-use Rattle.table.proofs.rows.counts_ok.Tie as tie
+use Rattle.checks.proofs.rows.counts_ok.Statement.{statement}
+use Rattle.checks.proofs.rows.counts_ok.Tie as tie
 
 shared-slice-read-if1 : tie.Need-shared-slice-read-if1
 shared-slice-read-if1 c = search needs

@@ -1,0 +1,4 @@
+-- Laws that belong to no one function.
+pub mod Told
+pub mod Chains
+pub mod Queries

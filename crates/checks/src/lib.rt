@@ -1,0 +1,86 @@
+// The checks that stop a bad table or a bad query: rows 1 to 8 of document 01, "Where each input is stopped". Every slice of every
+// length gets "accepted" or exactly its refusal, and nothing is written. What the checks mean is in table's specs/Checks.antt.
+mod ranges; // ranges.rt: what a single record or query must be
+mod rows; // rows.rt: the rows of checks over all records
+
+use rows::Row;
+use table::Number;
+use table::Query;
+use table::Reason;
+use table::Refusal;
+use table::layout::MOST_DEPTH;
+ghost use mathlib.Core.Path.{_≡_};
+ghost use Rattle.table.specs.Outcome.{Outcome};
+ghost use Rattle.table.specs.Checks.{queryOutcome, requestOutcome, tableOutcome};
+ghost use Rattle.checks.specs.Told.{queryTold, tableTold};
+
+pub enum TableCheck {
+    Accepted,
+    Refused(Refusal),
+}
+
+pub enum QueryCheck {
+    Valid,
+    Refused(Refusal),
+}
+
+// Whether the table is accepted: rows 1 to 7, for any slice.
+pub fn check_table(table: &[Number]) -> TableCheck
+    ensures { λ r. ⌜ tableTold r ≡ tableOutcome (now (table .entry)) ⌝ }
+{
+    let head = rows::check_head(table);
+    let TableCheck::Accepted = head else {
+        return head;
+    };
+    let credentials = rows::check_records(table, Row::Credentials);
+    let TableCheck::Accepted = credentials else {
+        return credentials;
+    };
+    let cells = rows::check_records(table, Row::Cells);
+    let TableCheck::Accepted = cells else {
+        return cells;
+    };
+    let chains = rows::check_chains(table);
+    let TableCheck::Accepted = chains else {
+        return chains;
+    };
+    rows::check_records(table, Row::Edges)
+}
+
+// Whether the table is accepted and the query valid: rows 1 to 8, which every call with a query makes first.
+pub fn check_request(table: &[Number], query: Query) -> QueryCheck
+    ensures { λ r. ⌜ queryTold r ≡ requestOutcome (now (table .entry)) query ⌝ }
+{
+    match check_table(table) {
+        TableCheck::Accepted => check_query(query),
+        TableCheck::Refused(why) => QueryCheck::Refused(why),
+    }
+}
+
+// Whether the query is valid: row 8. Of several bad fields the first is told.
+pub fn check_query(query: Query) -> QueryCheck
+    ensures { λ r. ⌜ queryTold r ≡ queryOutcome query ⌝ }
+{
+    if !ranges::is_principal(query.principal) {
+        return bad_field(1);
+    }
+    if !ranges::is_principal(query.owner) {
+        return bad_field(2);
+    }
+    if !ranges::is_name(query.name) {
+        return bad_field(3);
+    }
+    if !ranges::within(1, MOST_DEPTH as usize, query.depth) {
+        return bad_field(4);
+    }
+    QueryCheck::Valid
+}
+
+fn bad_field(field: usize) -> QueryCheck
+    ensures { λ r. ⌜ queryTold r ≡ Outcome.refused 8 field ⌝ }
+{
+    QueryCheck::Refused(Refusal {
+        reason: Reason::Query,
+        position: field,
+    })
+}
