@@ -8,7 +8,8 @@ use Rattle.table.specs.Outcome.{_andThen_, demandEach}
 use Rattle.table.specs.Outcome.Outcome.{accepted, refused}
 use Rattle.table.specs.Layout.{automata}
 use Rattle.table.specs.Holding.{WellFormed}
-use Rattle.table.specs.Checks.{Valid, requestOutcome}
+use Rattle.table.proofs.WellFormed.{well-formed}
+use Rattle.table.specs.Checks.{AcceptedTable, Valid, requestOutcome}
 use Rattle.table.specs.declared.Query.{Query}
 use Rattle.table.proofs.Stages.{FirstFailure, each-all, each-first, each-ok, each-refused}
 use Rattle.table.proofs.Stages.{refused-accepted, then-first, then-refused, then-second}
@@ -28,10 +29,10 @@ same-value : {v w : ℕ} → accepted v ≡ accepted w → v ≡ w
 same-value e = cc
 
 -- on an accepted table and a valid query the verdict is the reading's
-verdict-judged : (t : List ℕ) (q : Query) (rec : List ℕ) → WellFormed t → Valid q
+verdict-judged : (t : List ℕ) (q : Query) (rec : List ℕ) → AcceptedTable t → Valid q
     → verdict t q rec ≡ judged t (queried t q rec)
 unfolding verdict requestOutcome _andThen_
-verdict-judged t q rec wf valid = rw (wf, valid)
+verdict-judged t q rec table valid = rw (table, valid)
 
 -- how the reading of a whole record ends
 abbrev EndsFor : List ℕ → Query → List ℕ → Reading → Type 0
@@ -61,8 +62,9 @@ module _ (t : List ℕ) (wf : WellFormed t) (q : Query) (S : ℕ) where
       rw (← a .whole, ← append-nil (written (a .forest)), reader-complete (a .derives) [] 1, all-met, a .uses)
 
 pub demand-two : DemandTwo
-demand-two t q rec S wf valid =
-    let told = verdict-judged t q rec wf valid in
+demand-two t q rec S table valid =
+    let told = verdict-judged t q rec table valid in
+    let wf = well-formed t table in
     ((λ e. judged-accepts t wf q S (ends-for t q rec) (sym told ∙ e)), (λ a. told ∙ accepts-judged t wf q S a))
 
 pub one-derivation : OneDerivation
@@ -111,6 +113,6 @@ module _ (t : List ℕ) (q : Query) where
       rw (whole, ← append-nil (written f), reader-complete d [] 1, row)
 
 pub every-refusal : EveryRefusal
-every-refusal t q rec number position wf valid =
-    let told = verdict-judged t q rec wf valid in
+every-refusal t q rec number position table valid =
+    let told = verdict-judged t q rec table valid in
     ((λ e. judged-refuses t q (ends-for t q rec) (sym told ∙ e)), (λ r. told ∙ refuses-judged t q r))

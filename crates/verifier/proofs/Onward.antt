@@ -49,12 +49,12 @@ room-kept : (rec rest : List ℕ) (nodes before : ℕ) → 2 ≤ length rec
     → nodes + length rest ≤ before + 1 + length (take (length rec - 2) (drop 2 rec)) → nodes + length rest ≤ before + length rec
 room-kept rec rest nodes before long h = omega (arith, part-length rec 2 long)
 
--- reading has stopped
+-- reading has stopped, and the whole record is handed back
 stops-told : {t : List ℕ} {levels : ℕ} {branch : List Goal} {g : Goal} {s : StateSets} {rec : List ℕ} {used nodes every : ℕ}
-    {rest : List ℕ} {used′ nodes′ every′ refusal : ℕ} → (refusal ≡ 0 → ⊥)
+    {used′ nodes′ every′ refusal : ℕ} → (refusal ≡ 0 → ⊥)
     → stopped refusal nodes′ ≡ tallyOn t levels branch (g ∷ []) s rec used nodes every
-    → ReadOn t levels branch g s rec used nodes every rest used′ nodes′ every′ refusal
-stops-told stops told = record { told = stopped-told _ _ _ _ _ stops ∙ told; room = λ e. absurd (stops e) }
+    → ReadOn t levels branch g s rec used nodes every rec used′ nodes′ every′ refusal
+stops-told stops told = record { told = stopped-told _ _ _ _ _ stops ∙ told; room = λ e. absurd (stops e); whole = λ h. refl }
 
 -- the first i children have been read, none was refused, and the others are still to be read
 pub record Onward (t : List ℕ) (levels : ℕ) (branch goals : List Goal) (len : ℕ) (s : StateSets) (rest₀ : List ℕ) (used₀ nodes₀ every₀ : ℕ)
@@ -169,20 +169,20 @@ module _ {t : List ℕ} {levels : ℕ} {branch : Branch} {g : Goal} {s : StateSe
     pub children-read : step .len ≤ i → ReadOn t levels (above branch) g s rec used nodes every rest used′ nodes′ every′ refusal
     children-read all =
         let passes = passed-told rest used′ nodes′ every′ refusal (o .no-refusal) in
-        record { told = passes ∙ onward-ends o all ∙ node-whole; room = λ e. left }
+        record { told = passes ∙ onward-ends o all ∙ node-whole; room = λ e. left; whole = λ stops. absurd (stops (o .no-refusal)) }
 
-    pub child-stops : {last rest″ : List ℕ} {used″ nodes″ every″ refusal″ : ℕ} → i < step .len
+    pub child-stops : {rest″ : List ℕ} {used″ nodes″ every″ refusal″ : ℕ} → i < step .len
         → ReadOn t (levels - 1) (above deeper) (getD (step .goals) i noGoal) below rest used′ nodes′ every′
         rest″ used″ nodes″ every″ refusal″
-        → (refusal″ ≡ 0 → ⊥) → ReadOn t levels (above branch) g s rec used nodes every last used″ nodes″ every″ refusal″
+        → (refusal″ ≡ 0 → ⊥) → ReadOn t levels (above branch) g s rec used nodes every rec used″ nodes″ every″ refusal″
     child-stops less child stops =
         stops-told stops (onward-stops o less child stops ∙ node-whole)
 
 -- a node that the code could not enter
-pub node-halts : {t : List ℕ} {levels : ℕ} {g : Goal} {s : StateSets} {rec rest : List ℕ} {used nodes every : ℕ}
+pub node-halts : {t : List ℕ} {levels : ℕ} {g : Goal} {s : StateSets} {rec : List ℕ} {used nodes every : ℕ}
     (branch : Branch) (step : Step) → stepped step rec ≡ entry t (may levels (above branch) g) g rec → (step .refusal ≡ 0 → ⊥)
-    → ReadOn t levels (above branch) g s rec used nodes every rest used (nodes + 1) every (step .refusal)
-node-halts {t} {levels} {g} {s} {rec} {rest} {used} {nodes} {every} branch step enters stops =
+    → ReadOn t levels (above branch) g s rec used nodes every rec used (nodes + 1) every (step .refusal)
+node-halts {t} {levels} {g} {s} {rec} {used} {nodes} {every} branch step enters stops =
     let halts = sym enters ∙ step-halts step rec stops in
     let here = node-stops t levels (above branch) g s rec used nodes every (step .refusal) halts in
     stops-told stops (ap (stopped (step .refusal)) (add-one nodes) ∙ here)

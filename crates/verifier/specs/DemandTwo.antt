@@ -9,8 +9,7 @@ use mathlib.Core.Logic.{_↔_}
 use lib.ListN.{length}
 use Rattle.table.specs.Outcome.Outcome.{accepted, refused}
 use Rattle.table.specs.Layout.{Numbered, automata}
-use Rattle.table.specs.Holding.{WellFormed}
-use Rattle.table.specs.Checks.{Valid}
+use Rattle.table.specs.Checks.{AcceptedTable, Valid}
 use Rattle.table.specs.declared.Goal.{Goal}
 use Rattle.table.specs.declared.Query.{Query}
 use Rattle.derivation.specs.Rules.{fresh, goalOf, premises}
@@ -25,7 +24,7 @@ use Rattle.verifier.specs.Verdict.{verdict}
 abbrev pub DemandTwo : Type 0
 DemandTwo =
     (t : List ℕ) (q : Query) (rec : List ℕ) (S : ℕ)
-    → WellFormed t → Valid q → ((verdict t q rec ≡ accepted S) ↔ Accepted t q rec S)
+    → AcceptedTable t → Valid q → ((verdict t q rec ≡ accepted S) ↔ Accepted t q rec S)
 
 -- a record has at most one derivation
 abbrev pub OneDerivation : Type 0
@@ -81,4 +80,4 @@ pub data Refuses (t : List ℕ) (q : Query) (rec : List ℕ) : ℕ → ℕ → T
 abbrev pub EveryRefusal : Type 0
 EveryRefusal =
     (t : List ℕ) (q : Query) (rec : List ℕ) (number position : ℕ)
-    → WellFormed t → Valid q → ((verdict t q rec ≡ refused number position) ↔ Refuses t q rec number position)
+    → AcceptedTable t → Valid q → ((verdict t q rec ≡ refused number position) ↔ Refuses t q rec number position)

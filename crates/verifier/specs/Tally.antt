@@ -47,11 +47,13 @@ numbersTold rest used nodes every refusal = pick (eqb refusal 0) (passed rest us
 unfoldable pub tallyOn : List ℕ → ℕ → List Goal → List Goal → StateSets → List ℕ → ℕ → ℕ → ℕ → Told
 tallyOn t levels branch goals s rec used nodes every = tally t s used nodes every (reader t levels branch goals rec (suc nodes))
 
--- what the code's reader of one goal gives: the numbers tell the reading, and where it passed each node has taken two numbers
+-- what the code's reader of one goal gives: the numbers tell the reading; where it passed each node has taken two numbers, and where
+-- it stopped the whole record is handed back
 pub record ReadOn (t : List ℕ) (levels : ℕ) (branch : List Goal) (g : Goal) (s : StateSets)
     (rec : List ℕ) (used nodes every : ℕ) (rest : List ℕ) (used′ nodes′ every′ refusal : ℕ) : Type 0 where
   pub told : numbersTold rest used′ nodes′ every′ refusal ≡ tallyOn t levels branch (g ∷ []) s rec used nodes every
   pub room : refusal ≡ 0 → nodes′ + length rest ≤ nodes + length rec
+  pub whole : (refusal ≡ 0 → ⊥) → rest ≡ rec
 
 -- automaton k is attached to no credential of the used set, or it has accepted every word
 unfoldable pub keeps : List ℕ → ℕ → ℕ → ℕ → Bool

@@ -5,10 +5,12 @@ mod reader; // reader.rt: a record, node by node
 mod words; // words.rt: row 14
 
 use automata::StateSets;
+use checks::QueryCheck;
 use derivation::Branch;
+use sets::CredentialSet;
 use table::Number;
 use table::Query;
-use table::QueryCheck;
+use table::Reason;
 use table::Refusal;
 use table::layout;
 ghost use mathlib.Core.Path.{_≡_};
@@ -16,14 +18,14 @@ ghost use mathlib.Core.List.{[], _∷_};
 ghost use Prim.Native.Nat.{_≤_};
 ghost use Rattle.table.specs.Outcome.{Outcome};
 ghost use Rattle.table.specs.Holding.{WellFormed};
-ghost use Rattle.table.specs.Checks.{Valid, told};
+ghost use Rattle.table.specs.Checks.{Valid, numberOf};
 ghost use Rattle.derivation.specs.Rules.{goalOf};
 ghost use Rattle.verifier.specs.Reading.{reader};
 ghost use Rattle.verifier.specs.Verdict.{judged, verdict, verdictTold};
 
 // Accepted, with the used set: credential i counts 2^(i-1).
 pub enum Verdict {
-    Accepted(u32),
+    Accepted(CredentialSet),
     Refused(Refusal),
 }
 
@@ -31,7 +33,7 @@ pub enum Verdict {
 pub fn verify(table: &[Number], query: Query, rec: &[Number]) -> Verdict
     ensures { λ r. ⌜ verdictTold r ≡ verdict (now (table .entry)) query (now (rec .entry)) ⌝ }
 {
-    match table::check_request(table, query) {
+    match checks::check_request(table, query) {
         QueryCheck::Valid => judge(table, query, rec),
         QueryCheck::Refused(why) => Verdict::Refused(why),
     }
@@ -64,24 +66,33 @@ fn judge(table: &[Number], query: Query, rec: &[Number]) -> Verdict
         &mut refusal,
     );
     if refusal != 0 {
-        return Verdict::Refused(reason(refusal, nodes));
+        return refused(reason_of(refusal), nodes);
     }
     if rest.len() != 0 {
-        return Verdict::Refused(Refusal::RecordLength(nodes + 1));
+        return refused(Reason::RecordLength, nodes + 1);
     }
     words::judge_words(table, used, every)
 }
 
 // The reason with which reading stops at a node.
-fn reason(refusal: u32, node: usize) -> Refusal
+fn reason_of(refusal: u32) -> Reason
     requires { ⌜ (11 ≤ refusal) × (refusal ≤ 13) ⌝ }
-    ensures { λ r. ⌜ told r ≡ Outcome.refused refusal node ⌝ }
+    ensures { λ r. ⌜ numberOf r ≡ refusal ⌝ }
 {
     if refusal == 11 {
-        return Refusal::RecordLength(node);
+        return Reason::RecordLength;
     }
     if refusal == 12 {
-        return Refusal::Node(node);
+        return Reason::Node;
     }
-    Refusal::Branch(node)
+    Reason::Branch
+}
+
+fn refused(reason: Reason, position: usize) -> Verdict
+    ensures { λ r. ⌜ verdictTold r ≡ Outcome.refused (numberOf reason) position ⌝ }
+{
+    Verdict::Refused(Refusal {
+        reason: reason,
+        position: position,
+    })
 }

@@ -80,7 +80,7 @@ fn with_credential(used: CredentialSet, c: Number) -> CredentialSet
     requires { ⌜ Numbered mostCredentials c ⌝ }
     ensures { λ r. ⌜ r ≡ bitOr used (2 ^ (c - 1)) ⌝ }
 {
-    used | (1 << (c - 1))
+    sets::with(used, layout::wide(c) - 1)
 }
 
 // The automata that have accepted every word, once a node is entered: a node that asks nothing ends a word.

@@ -1,9 +1,10 @@
 // Row 14: a used automaton that has rejected some word, the lowest such.
 use crate::Verdict;
+use crate::refused;
 use sets::AutomatonSet;
 use sets::CredentialSet;
 use table::Number;
-use table::Refusal;
+use table::Reason;
 use table::layout;
 ghost use mathlib.Core.Path.{_≡_};
 ghost use mathlib.Core.Bool.{not};
@@ -27,12 +28,12 @@ pub fn judge_words(table: &[Number], used: CredentialSet, every: AutomatonSet) -
         ≡ (demandEach (keeps (now (table .entry)) used every) (automata (now (table .entry))) 14 andThen Outcome.accepted used) ⌝ }
 {
     let imposed = derivation::automata_of(table, used);
-    let a = layout::wide(table[2]);
+    let a = layout::automata(table);
     let mut k = 0;
     while k < a {
         k += 1;
         if !is_kept(imposed, every, k) {
-            return Verdict::Refused(Refusal::Word(k));
+            return refused(Reason::Word, k);
         }
     }
     Verdict::Accepted(used)
@@ -43,8 +44,8 @@ fn is_kept(imposed: AutomatonSet, every: AutomatonSet, k: usize) -> bool
     requires { ⌜ Numbered mostAutomata k ⌝ }
     ensures { λ r. ⌜ r ≡ (not (inSet imposed (k - 1)) or inSet every (k - 1)) ⌝ }
 {
-    if (imposed >> (k - 1)) % 2 != 1 {
+    if !sets::has_16(imposed, k - 1) {
         return true;
     }
-    (every >> (k - 1)) % 2 == 1
+    sets::has_16(every, k - 1)
 }

@@ -4,10 +4,9 @@ use Prim.Native.Nat.{ℕ, _+_, _≤_}
 use native.Mathlib.Omega.{arith}
 use borrow.Author.Needs.{needs}
 use denote.Ref.{now}
-use Rattle.table.specs.Checks.{told}
+use Rattle.table.specs.Checks.{numberOf}
 use Rattle.table.specs.Limits.{mostDepth}
 use Rattle.derivation.specs.Held.{above}
-use Rattle.verifier.specs.Verdict.{verdictTold}
 use Rattle.derivation.proofs.Above.{depth-fits}
 use Rattle.verifier.proofs.Judged.{Begins, stops-number, verdict-leftover, verdict-stops, verdict-words}
 use Rattle.verifier.proofs.judge.Statement.{statement}
@@ -55,29 +54,37 @@ read-requires c κs =
     let pre = start at .pre in
     (pre .0, ((at .empty .ensures .0, levels-fit at), (omega (arith, start at .good .1 .1), refl)))
 
-reason-requires : tie.Need-reason-requires
-reason-requires c κs =
+reason-of-requires : tie.Need-reason-of-requires
+reason-of-requires c κs =
     let at = begun (c .before) in
     stops-number (start at .pre .0) (begins at) (c .before .read .ensures) (c .if1 .taken)
 
-returns : tie.Need-returns
-unfolding verdictTold
-returns c =
-    let read = c .before .before in
-    let at = begun read in
-    c .reason .ensures ∙ verdict-stops (start at .pre .0) (begins at) (read .read .ensures) (c .before .if1 .taken)
+refused-requires : tie.Need-refused-requires
+refused-requires c κs = search needs
 
-add-t24 : tie.Need-add-t24
-add-t24 c =
+returns : tie.Need-returns
+returns c =
+    let read = c .before .before .before in
+    let at = begun read in
+    let number = c .before .reason-of .ensures in
+    rw number at (c .refused .ensures)
+    ∙ verdict-stops (start at .pre .0) (begins at) (read .read .ensures) (c .before .before .if1 .taken)
+
+add-refused : tie.Need-add-refused
+add-refused c =
     let read = c .before .before in
     omega (arith, read .read .ensures .room (c .before .if1 .left), start (begun read) .good .1 .1)
 
+refused-requires-2 : tie.Need-refused-requires-2
+refused-requires-2 c κs = search needs
+
 returns-2 : tie.Need-returns-2
-unfolding verdictTold told
+unfolding numberOf
 returns-2 c =
-    let read = c .before .before in
+    let read = c .before .before .before in
     let at = begun read in
-    verdict-leftover (start at .pre .0) (begins at) (read .read .ensures) (c .before .if1 .left) (c .if2 .taken)
+    let left-over = verdict-leftover (start at .pre .0) (begins at) (read .read .ensures) in
+    c .refused2 .ensures ∙ left-over (c .before .before .if1 .left) (c .before .if2 .taken)
 
 judge-words-requires : tie.Need-judge-words-requires
 judge-words-requires c κs = search needs
@@ -98,9 +105,11 @@ judge-spec =
     start-requires
     empty-requires
     read-requires
-    reason-requires
+    reason-of-requires
+    refused-requires
     returns
-    add-t24
+    add-refused
+    refused-requires-2
     returns-2
     judge-words-requires
     returns-3)

@@ -1,7 +1,8 @@
 -- `verifier::verify` meets its contract: rows 1 to 8 are those of the request, then the record is judged. Assumes nothing.
 use mathlib.Core.Path.{_∙_, ap, sym}
 use borrow.Author.Needs.{needs}
-use Rattle.table.specs.Checks.{queryTold, told}
+use Rattle.table.specs.Checks.{told}
+use Rattle.checks.specs.Told.{queryTold}
 use Rattle.table.proofs.Stages.{refused-then, then-on}
 use Rattle.table.proofs.WellFormed.{request-accepted}
 use Rattle.verifier.specs.Verdict.{verdict, verdictTold}

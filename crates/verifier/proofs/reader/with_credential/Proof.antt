@@ -1,22 +1,19 @@
--- `verifier::reader::with_credential` meets its contract: one bit is added. Assumes nothing.
-use Prim.Native.Nat.{_-_}
-use native.Mathlib.Omega.{arith}
+-- `verifier::reader::with_credential` meets its contract: one credential is added. Assumes nothing.
 use borrow.Author.Needs.{needs}
-use Rattle.sets.proofs.Members.{one-bit}
 use Rattle.verifier.proofs.reader.with_credential.Statement.{statement}
 use Rattle.verifier.proofs.reader.with_credential.Tie as tie
 
-sub-result : tie.Need-sub-result
-sub-result c = search needs
+wide-requires : tie.Need-wide-requires
+wide-requires c κs = search needs
 
-cast-result : tie.Need-cast-result
-cast-result c = search needs
+sub-with : tie.Need-sub-with
+sub-with c = search needs
 
-shl-result : tie.Need-shl-result
-shl-result c = search needs
+with-requires : tie.Need-with-requires
+with-requires c κs = search needs
 
 returns : tie.Need-returns
-returns c = rw (one-bit 32 (c .args .c - 1) (omega arith))
+returns c = rw (← c .before .wide .ensures .0) (c .with .ensures)
 
 pub with-credential-spec : {M : Type 1} → statement M
-with-credential-spec = tie.close (tie.spec sub-result cast-result shl-result returns)
+with-credential-spec = tie.close (tie.spec wide-requires sub-with with-requires returns)

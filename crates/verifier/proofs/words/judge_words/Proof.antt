@@ -5,7 +5,7 @@ use Prim.Native.Nat.{ℕ, _+_, _-_, _≤_}
 use native.Mathlib.Omega.{arith}
 use borrow.Author.Needs.{needs}
 use denote.Ref.{now}
-use Rattle.table.specs.Checks.{told}
+use Rattle.table.specs.Checks.{numberOf}
 use Rattle.table.specs.Layout.{automata}
 use Rattle.table.specs.Outcome.{demandEach}
 use Rattle.table.specs.Outcome.Outcome.{accepted}
@@ -25,25 +25,20 @@ abbrev μ-loop : tie.MeasureT-loop
 
 -- where automaton k + 1 has been looked at: the code's flag is the test
 abbrev start : tie.At-loop Inv-loop μ-loop → tie.Start Inv-loop μ-loop
-start at = at .before .before .before .before .before
+start at = at .before .before .before .before
 
 abbrev test : tie.At-loop Inv-loop μ-loop → ℕ → Bool
 test at = let from = start at .args in keeps (now (from .table)) (from .used) (from .every)
 
 kept : (at : tie.After-is-kept Inv-loop μ-loop) → let loop = at .before .before in
     at .is-kept .result ≡ test loop (loop .loop .k + 1)
-kept at = at .is-kept .ensures ∙ kept-flag _ _ _ _ _ (at .before .before .before .before .before .automata-of .ensures)
+kept at = at .is-kept .ensures ∙ kept-flag _ _ _ _ _ (at .before .before .before .before .automata-of .ensures)
 
 automata-of-requires : tie.Need-automata-of-requires Inv-loop μ-loop
-automata-of-requires c κs = c .before .pre
+automata-of-requires c κs = search needs
 
-shared-slice-read-wide : tie.Need-shared-slice-read-wide Inv-loop μ-loop
-shared-slice-read-wide c =
-    let pre = c .before .before .before .pre in
-    omega (arith, pre .sized .counted .head)
-
-wide-requires : tie.Need-wide-requires Inv-loop μ-loop
-wide-requires c κs = search needs
+automata-requires : tie.Need-automata-requires Inv-loop μ-loop
+automata-requires c κs = search needs
 
 loop-holds : tie.Need-loop-holds Inv-loop μ-loop
 unfolding demandEach
@@ -53,17 +48,19 @@ add-k : tie.Need-add-k Inv-loop μ-loop
 add-k c = search needs
 
 is-kept-requires : tie.Need-is-kept-requires Inv-loop μ-loop
-is-kept-requires c κs =
-    let pre = c .before .before .before .before .before .before .pre in
-    record { first = omega arith; last = omega (arith, pre .sized .counted .fewAutomata) }
+is-kept-requires c κs = search needs
+
+refused-requires : tie.Need-refused-requires Inv-loop μ-loop
+refused-requires c κs = search needs
 
 returns : tie.Need-returns Inv-loop μ-loop
-unfolding verdictTold told
+unfolding numberOf
 returns c =
-    let loop = c .before .before .before in
-    let stops = failed (kept (c .before)) (c .if1 .taken) in
+    let loop = c .before .before .before .before in
+    let stops = failed (kept (c .before .before)) (c .before .if1 .taken) in
     let all = automata (now (start loop .args .table)) in
-    refused-then _ (each-stops (test loop) 14 (loop .loop .k) all (omega arith) (loop .loop .inv .1) stops)
+    c .refused .ensures
+    ∙ refused-then _ (each-stops (test loop) 14 (loop .loop .k) all (omega arith) (loop .loop .inv .1) stops)
 
 loop-less : tie.Need-loop-less Inv-loop μ-loop
 loop-less c = search needs
@@ -87,11 +84,11 @@ judge-words-spec =
     Inv-loop
     μ-loop
     automata-of-requires
-    shared-slice-read-wide
-    wide-requires
+    automata-requires
     loop-holds
     add-k
     is-kept-requires
+    refused-requires
     returns
     loop-less
     loop-again
