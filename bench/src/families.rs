@@ -5,7 +5,7 @@ use reference::generate::wallets::{self, Place, Plan, Wallet};
 use reference::generate::wide;
 use reference::query::{Query, DEEPEST};
 use reference::random::Random;
-use reference::records::{Head, Records};
+use reference::records::{CellRecord, CredentialRecord, Head, Records};
 use reference::shop;
 
 /// Who is asked about in the tables that are made here.
@@ -151,7 +151,7 @@ pub fn growing() -> Vec<(String, Wallet)> {
 }
 
 /// The table with these records, and the query for the member in role 1.1.
-fn from_records(credentials: Vec<[u16; 6]>, cells: Vec<[u16; 3]>) -> Wallet {
+fn from_records(credentials: Vec<CredentialRecord>, cells: Vec<CellRecord>) -> Wallet {
     let records = Records {
         credentials,
         cells,

@@ -8,6 +8,9 @@ use crate::refusal::Refusal;
 use crate::sorts::{Goal, Role};
 use crate::table::Table;
 
+/// How many numbers a record has for each node: its credential and its middle.
+pub const NODE: usize = 2;
+
 /// A derivation: a goal, the credential through which it is proved, and a
 /// derivation of each goal on which it rests.
 #[derive(Clone, Debug, PartialEq, Eq)]

@@ -2,14 +2,17 @@
 
 use crate::refusal::Refusal;
 
+/// How many numbers a record of each sort has, in the order of the head.
+const SIZES: [usize; 4] = [6, 3, 2, 6];
+
 /// A credential as written: owner, name, kind, first, second, automaton.
-pub type CredentialRecord = [u16; 6];
+pub type CredentialRecord = [u16; SIZES[0]];
 /// A part cell as written: principal, name, next.
-pub type CellRecord = [u16; 3];
+pub type CellRecord = [u16; SIZES[1]];
 /// An automaton as written: starting set, accepting set.
-pub type AutomatonRecord = [u16; 2];
+pub type AutomatonRecord = [u16; SIZES[2]];
 /// An edge as written: automaton, from, label, owner, name, to.
-pub type EdgeRecord = [u16; 6];
+pub type EdgeRecord = [u16; SIZES[3]];
 
 /// How many records of each sort a table has.
 #[derive(Clone, Copy, Debug, PartialEq, Eq)]
@@ -40,8 +43,10 @@ impl Head {
 
     /// How many numbers a table with this head has: 4 + 6n + 3q + 2a + 6e.
     pub fn length(self) -> usize {
-        let [n, q, a, e] = self.numbers().map(usize::from);
-        4 + 6 * n + 3 * q + 2 * a + 6 * e
+        let records = self.numbers().into_iter().zip(SIZES);
+        4 + records
+            .map(|(count, size)| usize::from(count) * size)
+            .sum::<usize>()
     }
 
     /// Whether no count is over its limit.

@@ -1,47 +1,56 @@
 //! Answers worked out by hand, each refusal with its number and position.
 
+use reference::records::Records;
 use reference::shop::{Q, T, U};
 use reference::{check, check_query, Query, Refusal};
 
 /// A table with two credentials of kind 4, six cells (two chains, one of them
 /// inside the other, and an unused cell), an automaton and three edges.
-const PARTS: [u16; 4 + 6 * 3 + 3 * 6 + 2 + 6 * 3] = [
-    3, 6, 1, 3, //
-    1, 1, 4, 1, 0, 0, // credential 1: the chain 1, 2, 4, 5
-    1, 2, 4, 4, 0, 1, // credential 2: the chain 4, 5
-    2, 1, 2, 3, 1, 0, // credential 3
-    2, 1, 2, // cell 1
-    2, 1, 4, // cell 2: the same role again
-    9, 9, 0, // cell 3: unused
-    64, 64, 5, // cell 4
-    3, 1, 0, // cell 5
-    5, 5, 0, // cell 6: unused
-    0, 65535, // automaton 1
-    1, 0, 1, 1, 1, 15, // edge 1
-    1, 15, 2, 0, 0, 0, // edge 2
-    1, 3, 3, 64, 64, 3, // edge 3
-];
-
-/// Where the numbers of a record of `PARTS` begin.
-fn credential(number: usize) -> usize {
-    4 + 6 * (number - 1)
-}
-
-fn cell(number: usize) -> usize {
-    4 + 6 * 3 + 3 * (number - 1)
-}
-
-fn edge(number: usize) -> usize {
-    4 + 6 * 3 + 3 * 6 + 2 + 6 * (number - 1)
-}
-
-/// The answer to `PARTS` with these numbers changed.
-fn changed(changes: &[(usize, u16)]) -> Result<(), Refusal> {
-    let mut table = PARTS;
-    for &(index, value) in changes {
-        table[index] = value;
+fn parts() -> Records {
+    Records {
+        credentials: vec![
+            [1, 1, 4, 1, 0, 0], // credential 1: the chain 1, 2, 4, 5
+            [1, 2, 4, 4, 0, 1], // credential 2: the chain 4, 5
+            [2, 1, 2, 3, 1, 0], // credential 3
+        ],
+        cells: vec![
+            [2, 1, 2],   // cell 1
+            [2, 1, 4],   // cell 2: the same role again
+            [9, 9, 0],   // cell 3: unused
+            [64, 64, 5], // cell 4
+            [3, 1, 0],   // cell 5
+            [5, 5, 0],   // cell 6: unused
+        ],
+        automata: vec![[0, 65535]],
+        edges: vec![
+            [1, 0, 1, 1, 1, 15],  // edge 1
+            [1, 15, 2, 0, 0, 0],  // edge 2
+            [1, 3, 3, 64, 64, 3], // edge 3
+        ],
     }
-    check(&table)
+}
+
+/// Another number for a field of a record of the table above. Records count
+/// from 1, fields from 0.
+#[derive(Clone, Copy)]
+enum Change {
+    Credential(usize, usize, u16),
+    Cell(usize, usize, u16),
+    Edge(usize, usize, u16),
+}
+use Change::{Cell, Credential, Edge};
+
+/// The answer to the table above with these changes.
+fn changed(changes: &[Change]) -> Result<(), Refusal> {
+    let mut records = parts();
+    for &change in changes {
+        match change {
+            Credential(number, field, value) => records.credentials[number - 1][field] = value,
+            Cell(number, field, value) => records.cells[number - 1][field] = value,
+            Edge(number, field, value) => records.edges[number - 1][field] = value,
+        }
+    }
+    check(&records.numbers())
 }
 
 fn refused(number: u32, position: u64) -> Result<(), Refusal> {
@@ -58,7 +67,7 @@ fn the_shop_is_accepted() {
 
 #[test]
 fn a_table_with_parts_is_accepted() {
-    assert_eq!(check(&PARTS), Ok(()));
+    assert_eq!(check(&parts().numbers()), Ok(()));
 }
 
 #[test]
@@ -81,14 +90,14 @@ fn refusal_2_a_head_count_over_its_limit() {
     assert_eq!(check(&[0, 0, 9, 0]), refused(2, 0));
     assert_eq!(check(&[0, 0, 0, 129]), refused(2, 0));
     // 129 edges of the one automaton, all of them right.
-    let mut table = vec![0, 0, 1, 129, 1, 1];
-    table.extend([1, 0, 2, 0, 0, 0].repeat(129));
-    assert_eq!(check(&table), refused(2, 0));
+    let mut records = parts();
+    records.edges = vec![[1, 0, 2, 0, 0, 0]; 129];
+    assert_eq!(check(&records.numbers()), refused(2, 0));
 }
 
 #[test]
 fn refusal_3_a_wrong_length() {
-    assert_eq!(check(&T[..27]), refused(3, 0));
+    assert_eq!(check(&T[..T.len() - 1]), refused(3, 0));
     assert_eq!(check(&[T.as_slice(), &[0]].concat()), refused(3, 0));
     assert_eq!(check(&[20, 63, 8, 128]), refused(3, 0));
     assert_eq!(check(&[0, 0, 0, 0, 0]), refused(3, 0));
@@ -96,14 +105,14 @@ fn refusal_3_a_wrong_length() {
 
 #[test]
 fn refusal_4_owner_name_kind_and_automaton() {
-    assert_eq!(changed(&[(credential(1), 0)]), refused(4, 1));
-    assert_eq!(changed(&[(credential(2), 65)]), refused(4, 2));
-    assert_eq!(changed(&[(credential(3) + 1, 0)]), refused(4, 3));
-    assert_eq!(changed(&[(credential(3) + 1, 64)]), Ok(()));
-    assert_eq!(changed(&[(credential(3) + 2, 0)]), refused(4, 3));
-    assert_eq!(changed(&[(credential(3) + 2, 5)]), refused(4, 3));
-    assert_eq!(changed(&[(credential(3) + 5, 1)]), Ok(()));
-    assert_eq!(changed(&[(credential(3) + 5, 2)]), refused(4, 3));
+    assert_eq!(changed(&[Credential(1, 0, 0)]), refused(4, 1));
+    assert_eq!(changed(&[Credential(2, 0, 65)]), refused(4, 2));
+    assert_eq!(changed(&[Credential(3, 1, 0)]), refused(4, 3));
+    assert_eq!(changed(&[Credential(3, 1, 64)]), Ok(()));
+    assert_eq!(changed(&[Credential(3, 2, 0)]), refused(4, 3));
+    assert_eq!(changed(&[Credential(3, 2, 5)]), refused(4, 3));
+    assert_eq!(changed(&[Credential(3, 5, 1)]), Ok(()));
+    assert_eq!(changed(&[Credential(3, 5, 2)]), refused(4, 3));
 }
 
 #[test]
@@ -127,8 +136,8 @@ fn refusal_4_first_and_second_by_kind() {
         (4, 7, 0, refused(4, 3)),
         (4, 6, 0, refused(6, 3)),
     ] {
-        let start = credential(3);
-        let changes = [(start + 2, kind), (start + 3, first), (start + 4, second)];
+        let changes = [(2, kind), (3, first), (4, second)];
+        let changes = changes.map(|(field, value)| Credential(3, field, value));
         assert_eq!(changed(&changes), answer, "kind {kind}, {first}, {second}");
     }
 }
@@ -141,45 +150,45 @@ fn refusal_4_a_chain_where_there_are_no_cells() {
 
 #[test]
 fn refusal_5_part_cells() {
-    assert_eq!(changed(&[(cell(1), 0)]), refused(5, 1));
-    assert_eq!(changed(&[(cell(4), 65)]), refused(5, 4));
-    assert_eq!(changed(&[(cell(5) + 1, 0)]), refused(5, 5));
-    assert_eq!(changed(&[(cell(6) + 1, 65)]), refused(5, 6));
-    assert_eq!(changed(&[(cell(3) + 2, 3)]), refused(5, 3));
-    assert_eq!(changed(&[(cell(3) + 2, 2)]), refused(5, 3));
-    assert_eq!(changed(&[(cell(3) + 2, 6)]), Ok(()));
-    assert_eq!(changed(&[(cell(3) + 2, 7)]), refused(5, 3));
-    assert_eq!(changed(&[(cell(6) + 2, 6)]), refused(5, 6));
+    assert_eq!(changed(&[Cell(1, 0, 0)]), refused(5, 1));
+    assert_eq!(changed(&[Cell(4, 0, 65)]), refused(5, 4));
+    assert_eq!(changed(&[Cell(5, 1, 0)]), refused(5, 5));
+    assert_eq!(changed(&[Cell(6, 1, 65)]), refused(5, 6));
+    assert_eq!(changed(&[Cell(3, 2, 3)]), refused(5, 3));
+    assert_eq!(changed(&[Cell(3, 2, 2)]), refused(5, 3));
+    assert_eq!(changed(&[Cell(3, 2, 6)]), Ok(()));
+    assert_eq!(changed(&[Cell(3, 2, 7)]), refused(5, 3));
+    assert_eq!(changed(&[Cell(6, 2, 6)]), refused(5, 6));
 }
 
 #[test]
 fn refusal_6_chains() {
     // The chain 1, 2, 4, 5, 6 has five cells; 4, 5, 6 is right.
-    assert_eq!(changed(&[(cell(5) + 2, 6)]), refused(6, 1));
+    assert_eq!(changed(&[Cell(5, 2, 6)]), refused(6, 1));
     // 2, 4, 5, 6 is right too.
-    let both = [(cell(5) + 2, 6), (credential(1) + 3, 2)];
+    let both = [Cell(5, 2, 6), Credential(1, 3, 2)];
     assert_eq!(changed(&both), Ok(()));
     // The chain 5 has one cell, and so has 4 once it ends there.
-    assert_eq!(changed(&[(credential(2) + 3, 5)]), refused(6, 2));
-    assert_eq!(changed(&[(cell(4) + 2, 0)]), refused(6, 2));
+    assert_eq!(changed(&[Credential(2, 3, 5)]), refused(6, 2));
+    assert_eq!(changed(&[Cell(4, 2, 0)]), refused(6, 2));
 }
 
 #[test]
 fn refusal_7_edges() {
-    assert_eq!(changed(&[(edge(1), 0)]), refused(7, 1));
-    assert_eq!(changed(&[(edge(2), 2)]), refused(7, 2));
-    assert_eq!(changed(&[(edge(2) + 1, 16)]), refused(7, 2));
-    assert_eq!(changed(&[(edge(3) + 5, 16)]), refused(7, 3));
-    assert_eq!(changed(&[(edge(3) + 2, 0)]), refused(7, 3));
-    assert_eq!(changed(&[(edge(3) + 2, 4)]), refused(7, 3));
-    assert_eq!(changed(&[(edge(3) + 2, 2)]), refused(7, 3));
-    assert_eq!(changed(&[(edge(1) + 3, 0)]), refused(7, 1));
-    assert_eq!(changed(&[(edge(1) + 4, 65)]), refused(7, 1));
-    assert_eq!(changed(&[(edge(2) + 3, 1)]), refused(7, 2));
-    assert_eq!(changed(&[(edge(2) + 4, 1)]), refused(7, 2));
-    assert_eq!(changed(&[(edge(3) + 3, 65)]), refused(7, 3));
-    assert_eq!(changed(&[(edge(3) + 4, 0)]), refused(7, 3));
-    assert_eq!(changed(&[(edge(1) + 2, 3)]), Ok(()));
+    assert_eq!(changed(&[Edge(1, 0, 0)]), refused(7, 1));
+    assert_eq!(changed(&[Edge(2, 0, 2)]), refused(7, 2));
+    assert_eq!(changed(&[Edge(2, 1, 16)]), refused(7, 2));
+    assert_eq!(changed(&[Edge(3, 5, 16)]), refused(7, 3));
+    assert_eq!(changed(&[Edge(3, 2, 0)]), refused(7, 3));
+    assert_eq!(changed(&[Edge(3, 2, 4)]), refused(7, 3));
+    assert_eq!(changed(&[Edge(3, 2, 2)]), refused(7, 3));
+    assert_eq!(changed(&[Edge(1, 3, 0)]), refused(7, 1));
+    assert_eq!(changed(&[Edge(1, 4, 65)]), refused(7, 1));
+    assert_eq!(changed(&[Edge(2, 3, 1)]), refused(7, 2));
+    assert_eq!(changed(&[Edge(2, 4, 1)]), refused(7, 2));
+    assert_eq!(changed(&[Edge(3, 3, 65)]), refused(7, 3));
+    assert_eq!(changed(&[Edge(3, 4, 0)]), refused(7, 3));
+    assert_eq!(changed(&[Edge(1, 2, 3)]), Ok(()));
 }
 
 #[test]
@@ -204,18 +213,18 @@ fn refusal_8_the_first_wrong_field_of_the_query() {
 
 #[test]
 fn rows_come_before_records() {
-    let (four, five) = ((credential(3), 0), (cell(1), 0));
-    let (six, seven) = ((credential(1) + 3, 5), (edge(1), 0));
+    let (four, five) = (Credential(3, 0, 0), Cell(1, 0, 0));
+    let (six, seven) = (Credential(1, 3, 5), Edge(1, 0, 0));
     assert_eq!(changed(&[four, five, six, seven]), refused(4, 3));
     assert_eq!(changed(&[five, six, seven]), refused(5, 1));
     assert_eq!(changed(&[six, seven]), refused(6, 1));
-    assert_eq!(changed(&[(edge(3), 0), seven]), refused(7, 1));
+    assert_eq!(changed(&[Edge(3, 0, 0), seven]), refused(7, 1));
 }
 
 #[test]
 fn the_table_is_checked_before_the_query() {
     let query = Query { depth: 0, ..Q };
-    assert_eq!(check_query(&T[..27], query), refused(3, 0));
+    assert_eq!(check_query(&T[..T.len() - 1], query), refused(3, 0));
     assert_eq!(check_query(&[], query), refused(1, 0));
     assert_eq!(check_query(&T, query), refused(8, 4));
 }

@@ -3,6 +3,7 @@
 
 use std::collections::{BTreeMap, BTreeSet};
 
+use reference::derivation::NODE;
 use reference::generate::claims::{Claim, Grown};
 use reference::generate::constraints::{self, Constraint};
 use reference::generate::growth::{Node, Policy, Wish};
@@ -194,7 +195,7 @@ fn every_simple_way_of_spoiling_the_shop() {
         record: shop::R.to_vec(),
     };
     for (claim, wrong) in every::cut(&claim) {
-        let node = claim.record.len() as u64 / 2 + 1;
+        let node = (claim.record.len() / NODE) as u64 + 1;
         assert_eq!(judge(&claim), Err(Refusal::new(11, node)), "{wrong}");
     }
     for (claim, wrong) in every::longer(&claim) {
@@ -264,7 +265,7 @@ fn constraints_accept_what_they_say() {
 fn wide_records_have_very_many_nodes() {
     for levels in 1..=6 {
         let record = wide::record(levels);
-        assert_eq!(record.len() as u64, 2 * wide::nodes(levels));
+        assert_eq!((record.len() / NODE) as u64, wide::nodes(levels));
         let table = wide::records(levels).numbers();
         let used = (1 << levels) - 1;
         assert_eq!(verify(&table, wide::query(levels), &record), Ok(used));

@@ -3,6 +3,7 @@
 
 use std::collections::BTreeSet;
 
+use reference::derivation::NODE;
 use reference::generate::listings::{self, Listing};
 use reference::generate::wallets::{self, Place, Plan};
 use reference::listing::minimal_sets_within;
@@ -176,7 +177,7 @@ fn every_credential_that_is_to_bear_on_the_query_does() {
             return;
         };
         looked_at += 1;
-        let nodes = records.iter().flat_map(|record| record.chunks(2));
+        let nodes = records.iter().flat_map(|record| record.chunks(NODE));
         let used: BTreeSet<u16> = nodes.map(|node| node[0]).collect();
         assert_eq!(used, (1..=plan.bearing).collect(), "{wallet:?}");
     });

@@ -1,8 +1,9 @@
 //! Lists of minimal sets, worked out by hand, with every cell of the buffer.
 
+use reference::derivation::NODE;
 use reference::generate::wide;
 use reference::listing::minimal_sets;
-use reference::records::Records;
+use reference::records::{CellRecord, CredentialRecord, EdgeRecord, Records};
 use reference::shop::{Q, T, U};
 use reference::table::Table;
 use reference::{list, verify, Query, Refusal};
@@ -26,48 +27,48 @@ const ASKED: Query = Query {
 };
 
 /// A credential that defines a role, of kind 1, 2 or 4, or of kind 3.
-fn member(role: [u16; 2], principal: u16) -> [u16; 6] {
+fn member(role: [u16; 2], principal: u16) -> CredentialRecord {
     [role[0], role[1], 1, principal, 0, 0]
 }
 
-fn from(role: [u16; 2], other: [u16; 2]) -> [u16; 6] {
+fn from(role: [u16; 2], other: [u16; 2]) -> CredentialRecord {
     [role[0], role[1], 2, other[0], other[1], 0]
 }
 
-fn linked(role: [u16; 2], first: u16, second: u16) -> [u16; 6] {
+fn linked(role: [u16; 2], first: u16, second: u16) -> CredentialRecord {
     [role[0], role[1], 3, first, second, 0]
 }
 
-fn in_every(role: [u16; 2], cell: u16) -> [u16; 6] {
+fn in_every(role: [u16; 2], cell: u16) -> CredentialRecord {
     [role[0], role[1], 4, cell, 0, 0]
 }
 
 /// The same credential with automaton 1.
-fn kept(mut credential: [u16; 6]) -> [u16; 6] {
+fn kept(mut credential: CredentialRecord) -> CredentialRecord {
     credential[5] = 1;
     credential
 }
 
 /// An edge of automaton 1 on exactly a role, on every role, on all but one.
-fn on(from: u16, role: [u16; 2], to: u16) -> [u16; 6] {
+fn on(from: u16, role: [u16; 2], to: u16) -> EdgeRecord {
     [1, from, 1, role[0], role[1], to]
 }
 
-fn on_every(from: u16, to: u16) -> [u16; 6] {
+fn on_every(from: u16, to: u16) -> EdgeRecord {
     [1, from, 2, 0, 0, to]
 }
 
-fn on_all_but(from: u16, role: [u16; 2], to: u16) -> [u16; 6] {
+fn on_all_but(from: u16, role: [u16; 2], to: u16) -> EdgeRecord {
     [1, from, 3, role[0], role[1], to]
 }
 
 /// The table with these records, and with automaton 1 if it has edges: it
 /// starts in state 0 and accepts in these states.
 fn table(
-    credentials: &[[u16; 6]],
-    parts: &[[u16; 3]],
+    credentials: &[CredentialRecord],
+    parts: &[CellRecord],
     accepting: u16,
-    edges: &[[u16; 6]],
+    edges: &[EdgeRecord],
 ) -> Vec<u16> {
     let automata = match edges {
         [] => vec![],
@@ -83,7 +84,7 @@ fn table(
 }
 
 /// The table with these credentials alone.
-fn plain(credentials: &[[u16; 6]]) -> Vec<u16> {
+fn plain(credentials: &[CredentialRecord]) -> Vec<u16> {
     table(credentials, &[], 0, &[])
 }
 
@@ -101,7 +102,7 @@ fn sets(table: &[u16], query: Query) -> Vec<u32> {
     let minimal = minimal_sets(&read, query.read().expect("a valid query"));
     for set in &minimal {
         let record = set.witness.record();
-        assert_eq!(set.witness.nodes(), record.len() as u64 / 2);
+        assert_eq!(set.witness.nodes(), (record.len() / NODE) as u64);
         assert_eq!(verify(table, query, &record), Ok(set.set));
     }
     let sets: Vec<u32> = minimal.iter().map(|minimal| minimal.set).collect();
@@ -274,7 +275,7 @@ fn no_role_occurs_twice_on_a_branch() {
 fn the_depth_limit_counts_levels() {
     let role = |level| [1, level];
     let steps = (1..16).map(|level| from(role(level), role(level + 1)));
-    let ladder: Vec<[u16; 6]> = steps.chain([member(role(16), 9)]).collect();
+    let ladder: Vec<CredentialRecord> = steps.chain([member(role(16), 9)]).collect();
     let ladder = plain(&ladder);
     assert_eq!(sets(&ladder, ASKED), [65_535]);
     assert!(is_none(&ladder, Query { depth: 15, ..ASKED }));

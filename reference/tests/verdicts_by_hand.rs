@@ -1,9 +1,9 @@
 //! Verdicts on records, worked out by hand, each refusal with its number and
 //! position.
 
-use reference::derivation::Derivation;
+use reference::derivation::{Derivation, NODE};
 use reference::generate::wide;
-use reference::records::Records;
+use reference::records::{AutomatonRecord, CellRecord, CredentialRecord, EdgeRecord, Records};
 use reference::shop::{Q, R, T, U};
 use reference::sorts::Role;
 use reference::table::Table;
@@ -24,10 +24,10 @@ fn depth(depth: u16) -> Query {
 
 /// The table with these records.
 fn table(
-    credentials: &[[u16; 6]],
-    cells: &[[u16; 3]],
-    automata: &[[u16; 2]],
-    edges: &[[u16; 6]],
+    credentials: &[CredentialRecord],
+    cells: &[CellRecord],
+    automata: &[AutomatonRecord],
+    edges: &[EdgeRecord],
 ) -> Vec<u16> {
     let records = Records {
         credentials: credentials.to_vec(),
@@ -39,7 +39,7 @@ fn table(
 }
 
 /// The shop's table T with one automaton, attached to one of the credentials.
-fn shop(credential: usize, automaton: [u16; 2], edges: &[[u16; 6]]) -> Vec<u16> {
+fn shop(credential: usize, automaton: AutomatonRecord, edges: &[EdgeRecord]) -> Vec<u16> {
     let mut records = Records::read(&T).expect("T is accepted");
     records.credentials[credential - 1][5] = 1;
     records.automata.push(automaton);
@@ -80,12 +80,12 @@ fn the_other_records_of_the_shop() {
 
 #[test]
 fn the_table_comes_first_then_the_query_then_the_record() {
-    let mut wrong_kind = T;
-    wrong_kind[6] = 5;
+    let mut wrong_kind = Records::read(&T).expect("T is accepted");
+    wrong_kind.credentials[0][2] = 5;
     assert_eq!(verify(&T[..3], depth(0), &[]), refused(1, 0));
     assert_eq!(verify(&[21, 0, 0, 0], depth(0), &[]), refused(2, 0));
-    assert_eq!(verify(&T[..27], depth(0), &[]), refused(3, 0));
-    assert_eq!(verify(&wrong_kind, depth(0), &[]), refused(4, 1));
+    assert_eq!(verify(&T[..T.len() - 1], depth(0), &[]), refused(3, 0));
+    assert_eq!(verify(&wrong_kind.numbers(), depth(0), &[]), refused(4, 1));
     assert_eq!(verify(&T, depth(0), &[]), refused(8, 4));
     assert_eq!(verify(&T, Q, &[]), refused(11, 1));
 }
@@ -292,7 +292,7 @@ fn a_level_is_counted_from_the_goal() {
 
 #[test]
 fn sixteen_levels_are_allowed() {
-    let mut credentials: Vec<[u16; 6]> = (1..16).map(|n| [1, n, 2, 1, n + 1, 0]).collect();
+    let mut credentials: Vec<CredentialRecord> = (1..16).map(|n| [1, n, 2, 1, n + 1, 0]).collect();
     credentials.push([1, 16, 1, 4, 0, 0]);
     let ladder = table(&credentials, &[], &[], &[]);
     let record: Vec<u16> = (1..=16).flat_map(|number| [number, 0]).collect();
@@ -351,14 +351,14 @@ fn the_used_set_reaches_the_twentieth_credential() {
 fn positions_exceed_16_bits() {
     let (table, query) = (wide::records(9).numbers(), wide::query(9));
     let record = wide::record(9);
-    assert_eq!(record.len(), 2 * 87_381);
+    assert_eq!(record.len(), NODE * 87_381);
     assert_eq!(verify(&table, query, &record), Ok(511));
     let less = Query { depth: 8, ..query };
     assert_eq!(verify(&table, less, &record), refused(13, 9));
     let mut damaged = record.clone();
-    damaged[2 * 87_380] = 1;
+    damaged[NODE * 87_380] = 1;
     assert_eq!(verify(&table, query, &damaged), refused(12, 87_381));
-    damaged.truncate(2 * 87_380 + 1);
+    damaged.truncate(NODE * 87_380 + 1);
     assert_eq!(verify(&table, query, &damaged), refused(11, 87_381));
     let longer = [record, vec![0]].concat();
     assert_eq!(verify(&table, query, &longer), refused(11, 87_382));
@@ -374,7 +374,7 @@ fn a_record_of_more_than_a_million_nodes() {
     records.credentials[10][5] = 1;
     let (table, record) = (records.numbers(), wide::record(11));
     assert_eq!(wide::nodes(11), 1_398_101);
-    assert_eq!(record.len(), 2 * 1_398_101);
+    assert_eq!(record.len(), NODE * 1_398_101);
     assert_eq!(verify(&table, wide::query(11), &record), Ok(2047));
 }
 

@@ -1,5 +1,6 @@
 //! Small listings of every sort, for tests.
 
+use bwlchareg::layout;
 use reference::generate::listings::made_up;
 use reference::random::Random;
 
@@ -7,7 +8,7 @@ use crate::listing::Listing;
 
 /// No more credentials than these: with many more, some tables have too many
 /// derivations to go through.
-const CREDENTIALS: u16 = 10;
+const CREDENTIALS: usize = 10;
 
 /// So many made-up listings that both sides accept, the same in every run:
 /// grown wallets, tables with cycles, and queries of which nothing is known.
@@ -18,7 +19,7 @@ pub fn listings(count: usize) -> Vec<Listing> {
         let made_up = made_up(&mut random);
         let (table, query) = (made_up.table, made_up.query);
         let is_valid = reference::check_query(&table, query).is_ok();
-        if is_valid && table[0] <= CREDENTIALS {
+        if is_valid && layout::counts(&table)[0] <= CREDENTIALS {
             listings.push(Listing { table, query });
         }
     }

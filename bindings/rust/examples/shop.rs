@@ -4,7 +4,7 @@
 
 use std::fmt::Debug;
 
-use bwlchareg::{check, check_query, list, verify, Query, Refusal};
+use bwlchareg::{check, check_query, layout, list, verify, Query, Refusal};
 
 /// Principals Shop 1, School 2, Ann 4; names discount 1, student 2, accredited 3.
 const T: [u16; 28] = [
@@ -60,7 +60,8 @@ fn main() {
     );
 
     let mut mistaken = T;
-    mistaken[4 + 6 * 2 + 3] = 65; // credential 3 names principal 65
+    let third = layout::credential(&T, 3);
+    mistaken[third][3] = 65; // it names principal 65
     tell(
         "table T with principal 65 in credential 3",
         check(&mistaken),

@@ -17,7 +17,7 @@ use crate::{ffi, Query, Refusal};
 /// # Examples
 ///
 /// ```
-/// use bwlchareg::check;
+/// use bwlchareg::{check, layout};
 ///
 /// let mut table = [
 ///     2, 0, 0, 0, // two credentials, and nothing else
@@ -26,8 +26,9 @@ use crate::{ffi, Query, Refusal};
 /// ];
 /// assert_eq!(check(&table), Ok(()));
 ///
-/// // Principals go up to 64.
-/// table[13] = 65;
+/// // Principals go up to 64; a credential of kind 1 names one behind its kind.
+/// let second = layout::credential(&table, 2);
+/// table[second][3] = 65;
 /// let refusal = check(&table).unwrap_err();
 /// assert_eq!((refusal.number, refusal.position), (4, 2));
 ///

@@ -11,7 +11,8 @@
 //! | [`list`] | which minimal sets of credentials prove the queried membership? |
 //! | [`verify`] | is this record a proof of it that keeps to every constraint it uses? |
 //!
-//! Everything is given as numbers; [`layout`] says what each of them means.
+//! Everything is given as numbers; [`layout`] says what each of them means and
+//! where it lies.
 //! Every call takes any slices and any query. What is not accepted is answered
 //! with a [`Refusal`]: a number, a position, and both in words.
 //!
@@ -68,12 +69,10 @@
 mod answer;
 mod calls;
 mod ffi;
+pub mod layout;
 mod query;
 mod refusal;
 mod sets;
-
-#[doc = include_str!("../../LAYOUT.md")]
-pub mod layout {}
 
 // The README's program is run with the other examples.
 #[cfg(doctest)]

@@ -4,7 +4,7 @@
 
 mod drawn;
 
-use bwlchareg::{check, check_query, list, verify, Query, Refusal};
+use bwlchareg::{check, check_query, layout, list, verify, Query, Refusal};
 use drawn::{Random, LONGEST};
 
 const SEED: u64 = 2015;
@@ -96,45 +96,39 @@ fn surrounded(slice: &[u16], random: &mut Random) -> (Vec<u16>, usize) {
     (larger, front)
 }
 
-/// One of the head's counts, 0 where there is no head.
-fn count(table: &[u16], place: usize) -> u64 {
-    table.get(place).copied().unwrap_or(0).into()
-}
-
 /// Whether docs/DEFINITION.md allows this position for a refusal of this number.
 fn is_place(refusal: Refusal, table: &[u16], nodes: usize) -> bool {
-    let nodes = nodes as u64;
+    let [credentials, cells, automata, edges] = layout::counts(table);
     let most = match refusal.number {
         1..=3 | 9 | 10 => return refusal.position == 0,
-        4 | 6 => count(table, 0),
-        5 => count(table, 1),
-        7 => count(table, 3),
+        4 | 6 => credentials,
+        5 => cells,
+        7 => edges,
         8 => 4,
         11 => nodes + 1,
         12 | 13 => nodes,
-        14 => count(table, 2),
+        14 => automata,
         _ => return false,
     };
-    (1..=most).contains(&refusal.position)
+    (1..=most as u64).contains(&refusal.position)
 }
 
 /// The refusals of rows 1 to 3, by the head and the length alone.
 fn head_refusal(table: &[u16]) -> Option<u32> {
-    if table.len() < 4 {
+    if table.len() < layout::HEAD {
         return Some(1);
     }
-    let [n, q, a, e] = [0, 1, 2, 3].map(|place| count(table, place));
+    let [n, q, a, e] = layout::counts(table);
     if n > 20 || q > 63 || a > 8 || e > 128 {
         return Some(2);
     }
-    let length = 4 + 6 * n + 3 * q + 2 * a + 6 * e;
-    (table.len() as u64 != length).then_some(3)
+    (table.len() != layout::length(table)).then_some(3)
 }
 
 /// What every answer must be, whatever the input.
 fn judge(input: &Input, answers: &Answers) {
     let table = &input.table;
-    let nodes = input.record.len() / 2;
+    let nodes = input.record.len() / layout::NODE;
     let place = |refusal: Refusal| is_place(refusal, table, nodes);
 
     match (answers.check, head_refusal(table)) {
@@ -172,7 +166,7 @@ fn number<Value>(answer: Result<Value, Refusal>) -> u32 {
 fn judge_verdict(verdict: Result<u32, Refusal>, table: &[u16], nodes: usize) {
     match verdict {
         Ok(used) => {
-            assert!(used != 0 && u64::from(used) < 1 << count(table, 0));
+            assert!(used != 0 && used < 1 << layout::counts(table)[0]);
             assert!(used.count_ones() as usize <= nodes);
         }
         Err(refusal) => {
@@ -196,7 +190,7 @@ fn judge_cells(answers: &Answers, table: &[u16]) {
         .copied()
         .eq((written..).map(before).take(rest.len())));
     for (index, set) in sets.iter().enumerate() {
-        assert!(*set != 0 && u64::from(*set) < 1 << count(table, 0));
+        assert!(*set != 0 && *set < 1 << layout::counts(table)[0]);
         for later in &sets[index + 1..] {
             assert!(set < later && set & later != *set);
         }
@@ -289,7 +283,7 @@ fn long_records_are_read_with_an_accepted_table() {
         let mut record = vec![random.between(0, 2); random.up_to(LONGEST)];
         record.truncate(random.up_to(LONGEST));
         let verdict = verify(&table, query, &record);
-        judge_verdict(verdict, &table, record.len() / 2);
+        judge_verdict(verdict, &table, record.len() / layout::NODE);
         // The tree is one node; whatever follows is left over.
         let mut record = vec![1, 0];
         record.resize(random.up_to(LONGEST - 3) + 3, 1);
@@ -331,14 +325,14 @@ fn full_tree() -> (Vec<u16>, Query, Vec<u16>) {
 #[test]
 fn a_record_of_21845_nodes_is_read_to_its_end() {
     let (table, query, record) = full_tree();
-    assert_eq!(record.len(), 2 * 21_845);
+    assert_eq!(record.len(), layout::NODE * 21_845);
     assert_eq!(verify(&table, query, &record), Ok(255));
     let mut random = Random::new(SEED + 3);
     for _ in 0..100 {
         // Cut anywhere, the first node that is not whole is told.
         let length = random.up_to(record.len() - 1);
         let refusal = verify(&table, query, &record[..length]).unwrap_err();
-        let node = length as u64 / 2 + 1;
+        let node = (length / layout::NODE) as u64 + 1;
         assert_eq!((refusal.number, refusal.position), (11, node));
     }
     let longer = [record, vec![1]].concat();

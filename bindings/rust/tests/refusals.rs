@@ -2,7 +2,7 @@
 //! input that meets it: its number, its position, and that the message has the
 //! words for it.
 
-use bwlchareg::{check, check_query, list, verify, Query, Refusal};
+use bwlchareg::{check, check_query, layout, list, verify, Query, Refusal};
 
 /// A table with a credential of each kind, an automaton and an edge.
 const TABLE: [u16; 48] = [
@@ -17,10 +17,6 @@ const TABLE: [u16; 48] = [
     1, 1, // automaton 1 starts and accepts in state 0
     1, 0, 3, 1, 4, 0, // edge 1, of automaton 1: from 0 by all but 1.4 to 0
 ];
-
-const CREDENTIALS: usize = 4;
-const CELLS: usize = CREDENTIALS + 5 * 6;
-const EDGES: usize = CELLS + 2 * 3 + 2;
 
 /// Is principal 4 in 1.1, within three levels?
 const QUERY: Query = Query {
@@ -47,8 +43,8 @@ fn told<Value: std::fmt::Debug>(
 }
 
 /// The table with another number at a place.
-fn with(place: usize, number: u16) -> [u16; 48] {
-    let mut table = TABLE;
+fn with(place: usize, number: u16) -> Vec<u16> {
+    let mut table = TABLE.to_vec();
     table[place] = number;
     table
 }
@@ -68,7 +64,7 @@ fn heads() {
         told(check(&with(place, over - 1)), 3, 0, "length is not what");
     }
     told(
-        check(&TABLE[..47]),
+        check(&TABLE[..TABLE.len() - 1]),
         3,
         0,
         "length is not what its head says",
@@ -77,22 +73,23 @@ fn heads() {
 
 #[test]
 fn records_of_the_table() {
-    let third = CREDENTIALS + 2 * 6;
-    for (field, number) in [0, 65, 5, 65, 1, 2].into_iter().enumerate() {
-        told(check(&with(third + field, number)), 4, 3, "credential 3");
+    for (place, number) in layout::credential(&TABLE, 3).zip([0, 65, 5, 65, 1, 2]) {
+        told(check(&with(place, number)), 4, 3, "credential 3");
     }
+    let [first, second] = [1, 2].map(|number| layout::cell(&TABLE, number).start);
     for (field, number) in [0, 65].into_iter().enumerate() {
-        let table = with(CELLS + 3 + field, number);
+        let table = with(second + field, number);
         told(check(&table), 5, 2, "part cell 2 has a principal or name");
     }
     for next in [1, 2, 3] {
-        let table = with(CELLS + 5, next);
+        let table = with(second + 2, next);
         told(check(&table), 5, 2, "next that is neither 0 nor a greater");
     }
-    let table = with(CELLS + 2, 0);
+    let table = with(first + 2, 0);
     told(check(&table), 6, 5, "credential 5 has a chain");
+    let edge = layout::edge(&TABLE, 1).start;
     for (field, number) in [(0, 2), (1, 16), (2, 4), (5, 16)] {
-        let table = with(EDGES + field, number);
+        let table = with(edge + field, number);
         told(
             check(&table),
             7,
@@ -100,7 +97,7 @@ fn records_of_the_table() {
             "edge 1 has an automaton, state or label",
         );
     }
-    let table = with(EDGES + 2, 2);
+    let table = with(edge + 2, 2);
     told(
         check(&table),
         7,
@@ -151,8 +148,8 @@ fn lists() {
 
 #[test]
 fn records_that_end_too_soon_or_too_late() {
-    for length in 0..6 {
-        let node = length as u64 / 2 + 1;
+    for length in 0..RECORD.len() {
+        let node = (length / layout::NODE) as u64 + 1;
         let words = format!("node {node} has fewer than two numbers left");
         told(verify(&TABLE, QUERY, &RECORD[..length]), 11, node, &words);
     }
@@ -171,7 +168,7 @@ fn nodes_that_do_not_fit_their_goals() {
     told(of(&[2, 0]), 12, 1, "defines another role");
     told(of(&[1, 4, 2, 0]), 12, 2, "names another principal");
     for record in [&[1, 0][..], &[1, 65], &[4, 1], &[1, 2, 2, 2]] {
-        let node = record.len() as u64 / 2;
+        let node = (record.len() / layout::NODE) as u64;
         told(of(record), 12, node, "its middle is wrong");
     }
 }
@@ -185,7 +182,7 @@ fn branches_and_words() {
     told(verify(&TABLE, QUERY, &[4, 0, 4, 0]), 13, 2, words);
 
     // Principal 4 in 1.4 asks for 4 in 1.3 too, so credential 2 is made 4's.
-    let table = with(CREDENTIALS + 6 + 3, 4);
+    let table = with(layout::credential(&TABLE, 2).start + 3, 4);
     let query = Query { name: 4, ..QUERY };
     let words = "automaton 1 rejects a word";
     told(verify(&table, query, &[5, 0, 3, 0, 2, 0]), 14, 1, words);

@@ -3,7 +3,7 @@
 use std::collections::BTreeSet;
 use std::fmt;
 
-use reference::derivation::Derivation;
+use reference::derivation::{Derivation, NODE};
 use reference::generate::claims::Claim;
 use reference::query::DEEPEST;
 use reference::table::{Members, Table};
@@ -65,7 +65,7 @@ impl Feature {
             Feature::Kind(kind) => uses.kinds.contains(&kind),
             Feature::AtTheLimit => shape.levels == usize::from(asked.depth),
             Feature::SixteenLevels => shape.levels == usize::from(DEEPEST),
-            Feature::ManyNodes => claim.record.len() > 2 * usize::from(u16::MAX),
+            Feature::ManyNodes => claim.record.len() > NODE * usize::from(u16::MAX),
         };
         let all = Feature::all().into_iter();
         all.filter(|&feature| has(feature)).collect()

@@ -1,5 +1,6 @@
 //! A record spoiled in every simple way, one after the other.
 
+use crate::derivation::NODE;
 use crate::generate::claims::Claim;
 use crate::generate::wrongs::{Part, Value, Wrong};
 use crate::sorts::HIGHEST;
@@ -7,7 +8,7 @@ use crate::sorts::HIGHEST;
 /// Every number in turn with every value that is worth trying.
 pub fn change(claim: &Claim) -> impl Iterator<Item = (Claim, Wrong)> + '_ {
     (0..claim.record.len()).flat_map(move |index| {
-        let part = match index % 2 {
+        let part = match index % NODE {
             0 => Part::Credential,
             _ => Part::Middle,
         };
@@ -40,7 +41,7 @@ pub fn cut(claim: &Claim) -> impl Iterator<Item = (Claim, Wrong)> + '_ {
     (0..claim.record.len()).map(|length| {
         let mut cut = claim.clone();
         cut.record.truncate(length);
-        let wrong = match length % 2 {
+        let wrong = match length % NODE {
             0 => Wrong::CutBetweenNodes,
             _ => Wrong::CutInsideNode,
         };

@@ -1,6 +1,7 @@
 //! Records that are right number by number, but do not fit their goal, their
 //! query or their table.
 
+use crate::derivation::NODE;
 use crate::generate::claims::{levels, numbers, query, written, Claim, Grown};
 use crate::generate::constraints::{Constraint, Role};
 use crate::generate::growth::{Node, Wish};
@@ -94,7 +95,7 @@ pub fn middle_of_kind(random: &mut Random, grown: &Grown, kind: u16) -> Option<C
     let index = node(random, grown, |node| grown.kind(node) == kind)?;
     let Node { middle, goal, .. } = grown.nodes[index];
     let mut claim = grown.claim();
-    claim.record[2 * index + 1] = match kind {
+    claim.record[NODE * index + 1] = match kind {
         3 => *random.pick(&[0, HIGHEST + 1, middle + 256, u16::MAX]),
         _ => *random.pick(&[1, goal.principal.number(), HIGHEST, 256, u16::MAX]),
     };
@@ -115,7 +116,7 @@ pub fn no_member(random: &mut Random, grown: &Grown) -> Option<Claim> {
     };
     let outside: Vec<Principal> = principals.filter(is_outside).collect();
     let mut claim = grown.claim();
-    claim.record[2 * index + 1] = random.pick(&outside).number();
+    claim.record[NODE * index + 1] = random.pick(&outside).number();
     Some(claim)
 }
 
@@ -129,8 +130,8 @@ pub fn other_role(random: &mut Random, grown: &Grown) -> Option<Claim> {
     let number = credential(random, grown, near).or(credential(random, grown, far))?;
     let kind = grown.records.credentials[usize::from(number) - 1][2];
     let mut claim = grown.claim();
-    claim.record[2 * index] = number;
-    claim.record[2 * index + 1] = match kind {
+    claim.record[NODE * index] = number;
+    claim.record[NODE * index + 1] = match kind {
         3 => random.between(1, HIGHEST),
         _ => 0,
     };
@@ -145,7 +146,7 @@ pub fn other_principal(random: &mut Random, grown: &Grown) -> Option<Claim> {
         (owner, name) == written(goal) && kind == 1 && first != goal.principal.number()
     })?;
     let mut claim = grown.claim();
-    claim.record[2 * index] = number;
+    claim.record[NODE * index] = number;
     Some(claim)
 }
 

@@ -1,5 +1,6 @@
 //! Right records spoiled in a wanted way.
 
+use crate::derivation::NODE;
 use crate::generate::claims::{Claim, Grown};
 use crate::generate::misfits::{
     broken, middle_of_kind, no_member, other_goal, other_principal, other_role, repeated, too_deep,
@@ -53,8 +54,8 @@ fn changed(random: &mut Random, grown: &Grown, part: Part, value: Value) -> Opti
     let mut claim = grown.claim();
     let node = random.below(grown.nodes.len());
     let number = match part {
-        Part::Credential => &mut claim.record[2 * node],
-        Part::Middle => &mut claim.record[2 * node + 1],
+        Part::Credential => &mut claim.record[NODE * node],
+        Part::Middle => &mut claim.record[NODE * node + 1],
     };
     let own = *number;
     *number = new_value(random, own, value);
@@ -81,7 +82,9 @@ fn new_value(random: &mut Random, own: u16, value: Value) -> u16 {
 /// The record without the nodes from some node on.
 fn cut_between(random: &mut Random, grown: &Grown) -> Claim {
     let mut claim = grown.claim();
-    claim.record.truncate(2 * random.below(grown.nodes.len()));
+    claim
+        .record
+        .truncate(NODE * random.below(grown.nodes.len()));
     claim
 }
 
@@ -90,7 +93,7 @@ fn cut_inside(random: &mut Random, grown: &Grown) -> Claim {
     let mut claim = grown.claim();
     claim
         .record
-        .truncate(2 * random.below(grown.nodes.len()) + 1);
+        .truncate(NODE * random.below(grown.nodes.len()) + 1);
     claim
 }
 
@@ -109,7 +112,7 @@ fn longer(random: &mut Random, grown: &Grown, count: usize) -> Claim {
 /// Some numbers more than one after the record, or just as many again.
 fn more(random: &mut Random, grown: &Grown) -> Claim {
     let count = match random.below(8) {
-        0 => 2 * grown.nodes.len(),
+        0 => NODE * grown.nodes.len(),
         _ => 2 + random.below(12),
     };
     longer(random, grown, count)
@@ -118,15 +121,15 @@ fn more(random: &mut Random, grown: &Grown) -> Claim {
 /// The claim with something at a node that is wrong whatever the goal is.
 fn hopeless(random: &mut Random, mut claim: Claim, node: usize) -> Claim {
     match random.below(2) {
-        0 => claim.record[2 * node] = *random.pick(&[0, 21, u16::MAX]),
-        _ => claim.record[2 * node + 1] = *random.pick(&[65, u16::MAX]),
+        0 => claim.record[NODE * node] = *random.pick(&[0, 21, u16::MAX]),
+        _ => claim.record[NODE * node + 1] = *random.pick(&[65, u16::MAX]),
     }
     claim
 }
 
 /// The claim with a record that ends before a node, or inside it.
 fn cut_at(random: &mut Random, mut claim: Claim, node: usize) -> Claim {
-    claim.record.truncate(2 * node + random.below(2));
+    claim.record.truncate(NODE * node + random.below(2));
     claim
 }
 
@@ -134,8 +137,8 @@ fn cut_at(random: &mut Random, mut claim: Claim, node: usize) -> Claim {
 fn cut_and_changed(random: &mut Random, grown: &Grown) -> Claim {
     let mut claim = grown.claim();
     let node = random.below(grown.nodes.len());
-    claim.record[2 * node] = *random.pick(&[0, 21, u16::MAX]);
-    claim.record.truncate(2 * node + 1);
+    claim.record[NODE * node] = *random.pick(&[0, 21, u16::MAX]);
+    claim.record.truncate(NODE * node + 1);
     claim
 }
 

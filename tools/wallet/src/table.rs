@@ -4,6 +4,10 @@
 //! part cell, an automaton or an edge takes these. `Table::numbers` and
 //! `Table::of_numbers` go from one to the other and lose nothing.
 
+use std::ops::Range;
+
+use bwlchareg::layout;
+
 /// A role: an owner, who is a principal, and a role name, both 1 to 64.
 #[derive(Clone, Copy, Debug, PartialEq, Eq, PartialOrd, Ord)]
 pub struct Role {
@@ -119,9 +123,6 @@ pub struct Table {
     pub edges: Vec<Edge>,
 }
 
-/// The numbers of a table's head.
-const HEAD: usize = 4;
-
 impl Table {
     /// The table as numbers: the head's four counts, then the records.
     pub fn numbers(&self) -> Vec<u16> {
@@ -142,18 +143,19 @@ impl Table {
     /// other.
     pub fn of_numbers(numbers: &[u16]) -> Result<Table, bwlchareg::Refusal> {
         bwlchareg::check(numbers)?;
-        let counts = &numbers[..HEAD];
-        let mut rest = &numbers[HEAD..];
-        let mut records = |count: u16, size: usize| {
-            let (these, behind) = rest.split_at(usize::from(count) * size);
-            rest = behind;
-            these.chunks_exact(size)
+        let [credentials, cells, automata, edges] = layout::counts(numbers);
+        let records = |count, place: fn(&[u16], usize) -> Range<usize>| {
+            (1..=count).map(move |number| &numbers[place(numbers, number)])
         };
         Ok(Table {
-            credentials: records(counts[0], 6).map(credential).collect(),
-            cells: records(counts[1], 3).map(cell).collect(),
-            automata: records(counts[2], 2).map(automaton).collect(),
-            edges: records(counts[3], 6).map(edge).collect(),
+            credentials: records(credentials, layout::credential)
+                .map(credential)
+                .collect(),
+            cells: records(cells, layout::cell).map(cell).collect(),
+            automata: records(automata, layout::automaton)
+                .map(automaton)
+                .collect(),
+            edges: records(edges, layout::edge).map(edge).collect(),
         })
     }
 
@@ -170,7 +172,7 @@ impl Table {
     }
 }
 
-fn credential_numbers(credential: &Credential) -> [u16; 6] {
+fn credential_numbers(credential: &Credential) -> [u16; layout::CREDENTIAL] {
     let (kind, first, second) = match credential.body {
         Body::Member(principal) => (1, principal, 0),
         Body::Contained(role) => (2, role.owner, role.name),
@@ -181,11 +183,11 @@ fn credential_numbers(credential: &Credential) -> [u16; 6] {
     [owner, name, kind, first, second, credential.automaton]
 }
 
-fn cell_numbers(cell: &Cell) -> [u16; 3] {
+fn cell_numbers(cell: &Cell) -> [u16; layout::CELL] {
     [cell.role.owner, cell.role.name, cell.next]
 }
 
-fn edge_numbers(edge: &Edge) -> [u16; 6] {
+fn edge_numbers(edge: &Edge) -> [u16; layout::EDGE] {
     let (label, owner, name) = match edge.label {
         Label::Only(role) => (1, role.owner, role.name),
         Label::Any => (2, 0, 0),

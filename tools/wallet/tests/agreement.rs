@@ -7,7 +7,7 @@ mod shown;
 
 use std::collections::{BTreeMap, BTreeSet};
 
-use bwlchareg::{Query, Refusal};
+use bwlchareg::{layout, Query, Refusal};
 use reference::derivation::Derivation;
 use reference::generate::claims::{Claim, Grown};
 use reference::generate::growth::Policy;
@@ -71,7 +71,7 @@ fn check_fault(wallet: &Wallet, claim: &Claim, judged: &Judged, tally: &mut Tall
     *tally.entry(why.to_string()).or_default() += 1;
     if let Why::Remaining(count) = fault.why {
         assert_eq!(fault.node, nodes.len() + 1);
-        assert_eq!(2 * nodes.len() + count, claim.record.len());
+        assert_eq!(layout::NODE * nodes.len() + count, claim.record.len());
         assert!(count > 0 && judged.faulty().is_none());
     } else {
         assert_eq!(fault.node, nodes.len());
@@ -84,7 +84,7 @@ fn check_fault(wallet: &Wallet, claim: &Claim, judged: &Judged, tally: &mut Tall
 /// docs/DEFINITION.md, "Records".
 fn first_reason(wallet: &Wallet, claim: &Claim, judged: &Judged, node: &Node) -> Why {
     let Goal { principal, role } = node.goal;
-    let rest = &claim.record[2 * (node.number - 1)..];
+    let rest = &claim.record[layout::NODE * (node.number - 1)..];
     let &[number, middle, ..] = rest else {
         return match rest {
             [] => Why::NoneLeft,
@@ -95,8 +95,8 @@ fn first_reason(wallet: &Wallet, claim: &Claim, judged: &Judged, node: &Node) ->
     if number == 0 || usize::from(number) > count {
         return Why::NoCredential(number);
     }
-    let place = 4 + 6 * (usize::from(number) - 1);
-    let [owner, name, kind, first, ..] = claim.table[place..] else {
+    let place = layout::credential(&claim.table, number.into());
+    let [owner, name, kind, first, ..] = claim.table[place] else {
         panic!("a table with {count} credentials");
     };
     if (owner, name) != (role.owner, role.name) {
@@ -131,7 +131,7 @@ fn check_tree(wallet: &Wallet, claim: &Claim, judged: &Judged) {
         read(&wallet.table, judged.query, &claim.record),
         (judged.nodes.clone(), None)
     );
-    assert_eq!(2 * judged.nodes.len(), claim.record.len());
+    assert_eq!(layout::NODE * judged.nodes.len(), claim.record.len());
     let used = used_credentials(&judged.nodes);
     let set: u32 = used.iter().map(|number| 1 << (number - 1)).sum();
     let words = words(wallet, judged);

@@ -2,7 +2,7 @@
 //! again. Most are no tables at all; some are accepted, so that every refusal
 //! is reached.
 
-use bwlchareg::Query;
+use bwlchareg::{layout, Query};
 
 /// SplitMix64: a counter that goes up by a fixed odd step, whose bits are then
 /// mixed.
@@ -85,8 +85,9 @@ pub fn table(random: &mut Random) -> Vec<u16> {
 
 /// Lets every chain begin at the second cell of its pair, which is its last.
 fn begin_chains_late(table: &mut [u16]) {
-    let end = 4 + 6 * usize::from(table[0]);
-    for credential in table[4..end].chunks_exact_mut(6) {
+    for number in 1..=layout::counts(table)[0] {
+        let place = layout::credential(table, number);
+        let credential = &mut table[place];
         if credential[2] == 4 {
             credential[3] += 1;
         }
@@ -124,7 +125,7 @@ pub fn accepted(random: &mut Random) -> Vec<u16> {
     table
 }
 
-fn credential(random: &mut Random, pairs: u16, automata: u16) -> [u16; 6] {
+fn credential(random: &mut Random, pairs: u16, automata: u16) -> [u16; layout::CREDENTIAL] {
     let [owner, name] = role(random);
     let [first, second] = role(random);
     let automaton = match random.up_to(3) {
@@ -142,7 +143,7 @@ fn credential(random: &mut Random, pairs: u16, automata: u16) -> [u16; 6] {
     }
 }
 
-fn edge(random: &mut Random, automata: u16) -> [u16; 6] {
+fn edge(random: &mut Random, automata: u16) -> [u16; layout::EDGE] {
     let label = random.between(1, 3);
     let [owner, name] = match label {
         2 => [0, 0],
@@ -221,9 +222,9 @@ pub fn record(random: &mut Random, table: &[u16], query: Query) -> Vec<u16> {
 
 /// The credentials that a slice has room for, with their numbers.
 fn credentials(table: &[u16]) -> impl Iterator<Item = (u16, &[u16])> {
-    let count = table.first().copied().unwrap_or(0).min(20);
-    let records = table.get(4..).unwrap_or(&[]).chunks_exact(6);
-    (1..=count).zip(records)
+    let count = layout::counts(table)[0].min(20);
+    let records = (1..=count).map_while(|number| table.get(layout::credential(table, number)));
+    (1..).zip(records)
 }
 
 /// Whether a credential defines a goal's role, and of kind 1 is the goal's.
@@ -238,12 +239,10 @@ fn premises(table: &[u16], credential: &[u16], principal: u16, middle: u16) -> V
         2 => vec![[principal, first, second]],
         3 => vec![[principal, middle, second], [middle, owner, first]],
         4 => {
-            let cells = 4 + 6 * usize::from(table[0]);
-            let at = cells + 3 * usize::from(first.saturating_sub(1));
-            let pair = table.get(at..at + 6).unwrap_or(&[]).chunks_exact(3);
-            pair.rev()
-                .map(|cell| [principal, cell[0], cell[1]])
-                .collect()
+            let first = usize::from(first.max(1));
+            let pair = [first + 1, first].map(|number| table.get(layout::cell(table, number)));
+            let pair = pair.into_iter().flatten();
+            pair.map(|cell| [principal, cell[0], cell[1]]).collect()
         }
         _ => vec![],
     }
