@@ -20,7 +20,7 @@
 //! - [`listing`]: the minimal sets among that (refusals 9 and 10)
 //! - [`shop`]: the worked example
 //! - [`random`] and [`generate`]: made-up inputs, valid and damaged
-//! - [`stored`]: cases with their expected answers, for other programs
+//! - [`stored`], [`blocks`]: the cases of the test program `crates/rows`
 
 #![forbid(unsafe_code)]
 #![warn(missing_docs)]

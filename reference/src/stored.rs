@@ -1,212 +1,191 @@
-//! Cases with their expected answers, to be stored and run by other programs.
+//! The cases that the test program `crates/rows` runs.
 //!
-//! A case is a line of words and decimal numbers, in parts that a colon parts:
+//! They are for what neither a theorem nor the comparison shows: that the
+//! programs which the kit's interpreter and its compiler make of the proved code
+//! give the right answers. So they are few and small: all rows of the shop
+//! example, then every refusal, kind, label and size of buffer.
 //!
-//! - `list` principal owner name depth `:` table `:` cells before `:` number
-//!   value `:` cells after
-//! - `verify` principal owner name depth `:` table `:` record `:` number value
+//! To add a case, add a line to [`cases`], at the end of its part, and make the
+//! program's two files anew, which the module [`blocks`](crate::blocks) lays
+//! out:
 //!
-//! Number 0 is an accepted input, with the count or the used set as its value;
-//! else it is the refusal's number, with its position. The first cases are all
-//! rows of the shop example; the others are made up, and as many of each class
-//! of answer as it has a quota for.
+//! ```sh
+//! blocks="cargo run --release --offline --quiet --package reference --bin blocks --"
+//! $blocks input > crates/rows/stdin
+//! $blocks output > crates/rows/stdout
+//! ```
+//!
+//! The answers are this implementation's. `rt check rows` then compares them
+//! with those of the proved program, and `rt try rows` with the interpreter's
+//! and the compiler's at every level; the interpreter stops after ten million
+//! steps.
 
-use std::collections::BTreeMap;
-use std::fmt::Display;
-
-use crate::generate::claims::{Claim, Grown};
-use crate::generate::growth::Policy;
-use crate::generate::spoil::spoil;
-use crate::generate::wrongs::Wrong;
-use crate::generate::{listings, policies};
-use crate::listing::minimal_sets_within;
-use crate::patience::Patience;
+use crate::generate::wide;
 use crate::query::Query;
-use crate::random::Random;
-use crate::refusal::Refusal;
-use crate::shop;
-use crate::table::Table;
-use crate::{list, verify};
+use crate::records::Records;
+use crate::shop::{Q, R, T, U};
 
-/// The seed of the made-up cases.
-pub const SEED: u64 = 2015;
-/// A listing that takes more steps is not stored.
-const STEPS: u64 = 20_000;
-/// What the first cell holds before a listing; the next cells hold the next
-/// numbers. No set is so great.
-const CELL: u32 = 4_000_000_000;
-/// A record of more numbers is not stored.
-const LONGEST: usize = 200;
+/// A case: what a call is given.
+#[derive(Clone, Debug, PartialEq, Eq)]
+pub struct Case {
+    /// The table's numbers.
+    pub table: Vec<u16>,
+    /// The query.
+    pub query: Query,
+    /// What else, by the call.
+    pub given: Given,
+}
 
-/// All cases, one a line.
-pub fn cases() -> String {
-    let mut lines = shop_cases();
-    let mut random = Random::new(SEED);
-    lines.extend(made_up_lists(&mut random));
-    lines.extend(made_up_verdicts(&mut random));
-    lines.into_iter().map(|line| line + "\n").collect()
+/// What a call is given beside the table and the query.
+#[derive(Clone, Debug, PartialEq, Eq)]
+pub enum Given {
+    /// The listing call: a buffer of so many cells.
+    Cells(usize),
+    /// The verifying call: a record.
+    Record(Vec<u16>),
+}
+
+/// All cases, in their order.
+pub fn cases() -> Vec<Case> {
+    [shop(), lists(), refused_tables(), verdicts()].concat()
+}
+
+fn list(table: &[u16], query: Query, cells: usize) -> Case {
+    let (table, given) = (table.to_vec(), Given::Cells(cells));
+    Case {
+        table,
+        query,
+        given,
+    }
+}
+
+fn verify(table: &[u16], query: Query, record: &[u16]) -> Case {
+    let (table, given) = (table.to_vec(), Given::Record(record.to_vec()));
+    Case {
+        table,
+        query,
+        given,
+    }
 }
 
 /// The rows of the shop example, in its order.
-fn shop_cases() -> Vec<String> {
-    let depth = |depth| Query { depth, ..shop::Q };
-    let student = Query {
-        owner: 2,
-        name: 2,
-        ..depth(1)
-    };
-    let claim = |table: &[u16], query, record: &[u16]| {
-        let (table, record) = (table.to_vec(), record.to_vec());
-        verify_line(&Claim {
-            table,
-            query,
-            record,
-        })
-    };
+fn shop() -> Vec<Case> {
+    let depth = |depth| Query { depth, ..Q };
     vec![
-        list_line(&shop::T, shop::Q, 3),
-        list_line(&shop::T, depth(1), 3),
-        list_line(&shop::U, shop::Q, 3),
-        list_line(&shop::U, student, 3),
-        list_line(&shop::T, shop::Q, 1),
-        list_line(&[0, 0, 0, 0], shop::Q, 3),
-        claim(&shop::T, shop::Q, &shop::R),
-        claim(&shop::U, shop::Q, &shop::R),
-        claim(&shop::T, depth(1), &shop::R),
-        claim(&shop::T, shop::Q, &[1, 2, 2, 0]),
-        claim(&shop::T, shop::Q, &[1, 4, 2, 0, 3, 0]),
-        list_line(&shop::T, depth(0), 3),
-        list_line(&shop::T, depth(17), 3),
-        claim(&shop::T, depth(0), &shop::R),
-        claim(&shop::T, depth(17), &shop::R),
+        list(&T, Q, 3),
+        list(&T, depth(1), 3),
+        list(&U, Q, 3),
+        list(&U, Query::from_numbers([4, 2, 2, 1]), 3),
+        list(&T, Q, 1),
+        list(&[0, 0, 0, 0], Q, 3),
+        verify(&T, Q, &R),
+        verify(&U, Q, &R),
+        verify(&T, depth(1), &R),
+        verify(&T, Q, &[1, 2, 2, 0]),
+        verify(&T, Q, &[1, 4, 2, 0, 3, 0]),
+        list(&T, depth(0), 3),
+        list(&T, depth(17), 3),
+        verify(&T, depth(0), &R),
+        verify(&T, depth(17), &R),
     ]
 }
 
-/// How many cases of each class are still wanted.
-struct Quota<Class>(BTreeMap<Class, usize>);
-
-impl<Class: Ord> Quota<Class> {
-    /// Whether a case of this class is wanted; it is taken then.
-    fn takes(&mut self, class: Class) -> bool {
-        match self.0.get_mut(&class) {
-            Some(left) if *left > 0 => {
-                *left -= 1;
-                true
-            }
-            _ => false,
-        }
-    }
-
-    /// Whether some are still wanted.
-    fn wants_more(&self) -> bool {
-        self.0.values().any(|&left| left > 0)
+/// A wallet with every kind and label. Principal 9 is in 1.1 by credentials 1,
+/// 2, 3 and 7; by 1 to 6 too, but for automaton 2, which rejects every word
+/// with 1.4. Automaton 1 accepts the words that begin with 1.1.
+fn wallet() -> Records {
+    Records {
+        credentials: vec![
+            [1, 1, 4, 1, 0, 0], // 1: whoever is in 1.2 and in 1.3 is in 1.1
+            [1, 2, 2, 2, 1, 0], // 2: whoever is in 2.1 is in 1.2
+            [2, 1, 1, 9, 0, 1], // 3: principal 9 is in 2.1, under automaton 1
+            [1, 3, 3, 4, 5, 0], // 4: whoever is in M.5, for some M in 1.4, is in 1.3
+            [1, 4, 1, 3, 0, 0], // 5: principal 3 is in 1.4
+            [3, 5, 1, 9, 0, 2], // 6: principal 9 is in 3.5, under automaton 2
+            [1, 3, 1, 9, 0, 0], // 7: principal 9 is in 1.3
+            [1, 2, 2, 1, 1, 0], // 8: whoever is in 1.1 is in 1.2
+        ],
+        cells: vec![[1, 2, 2], [1, 3, 0]],
+        automata: vec![[1, 2], [1, 1]],
+        edges: vec![
+            [1, 0, 1, 1, 1, 1], // of automaton 1: from 0 by 1.1 to 1
+            [1, 1, 2, 0, 0, 1], // of automaton 1: from 1 by every role to 1
+            [2, 0, 3, 1, 4, 0], // of automaton 2: from 0 by all but 1.4 to 0
+        ],
     }
 }
 
-/// Made-up listings. Their classes are the answer's number with, for an
-/// accepted list, 1, 2, 3 or 10 for as many sets at the least.
-fn made_up_lists(random: &mut Random) -> Vec<String> {
-    let lists = [1, 2, 3, 10].map(|least| ((0, least), 20));
-    let refusals = (1..=8).map(|number| ((number, 0), 4));
-    let others = [((9, 0), 20), ((10, 0), 30)];
-    let mut quota = Quota(lists.into_iter().chain(refusals).chain(others).collect());
-    let mut lines = Vec::new();
-    while quota.wants_more() {
-        let listing = listings::made_up(random);
-        let Some(sets) = sets(&listing.table, listing.query) else {
-            continue;
-        };
-        let fewer = sets.saturating_sub(1);
-        let cells = *random.pick(&[0, 1, fewer, sets, sets + 1, sets + 3]);
-        let answer = list(&listing.table, listing.query, &mut vec![0; cells]);
-        let class = match answer {
-            Ok(count) => [10, 3, 2, 1].into_iter().find(|&least| least <= count),
-            Err(_) => Some(0),
-        };
-        if quota.takes((number(&answer), class.unwrap_or(0))) {
-            lines.push(list_line(&listing.table, listing.query, cells));
-        }
-    }
-    lines
+/// Principal 9 in 1.1, within three levels.
+const ASKED: Query = Query {
+    principal: 9,
+    owner: 1,
+    name: 1,
+    depth: 3,
+};
+
+/// The wallet with a change, as numbers.
+fn changed(change: impl FnOnce(&mut Records)) -> Vec<u16> {
+    let mut wallet = wallet();
+    change(&mut wallet);
+    wallet.numbers()
 }
 
-/// How many minimal sets there are, none where the input is refused. There is
-/// no answer where it takes too many steps.
-fn sets(table: &[u16], query: Query) -> Option<usize> {
-    let (Ok(table), Ok(asked)) = (Table::read(table), query.read()) else {
-        return Some(0);
+/// Lists of the wallet, of the wallet without its second constraint, which has
+/// two sets, and of a chain of four roles that two credentials define each.
+fn lists() -> Vec<Case> {
+    let wallet = wallet().numbers();
+    let free = changed(|wallet| wallet.credentials[5][5] = 0);
+    let twice = |name| [[1, name, 1, 9, 0, 0]; 2];
+    let chain = Records {
+        credentials: [vec![[1, 1, 4, 1, 0, 0]], (2..=5).flat_map(twice).collect()].concat(),
+        cells: vec![[1, 2, 2], [1, 3, 3], [1, 4, 4], [1, 5, 0]],
+        automata: vec![],
+        edges: vec![],
     };
-    let sets = minimal_sets_within(Patience::new(STEPS), &table, asked)?;
-    Some(sets.len())
+    let nobody = Query {
+        principal: 3,
+        ..ASKED
+    };
+    vec![
+        list(&wallet, ASKED, 1),
+        list(&wallet, nobody, 0),
+        list(&free, ASKED, 2),
+        list(&free, ASKED, 4),
+        list(&free, ASKED, 0),
+        list(&free, ASKED, 1),
+        list(&chain.numbers(), ASKED, 16),
+        list(&chain.numbers(), ASKED, 15),
+    ]
 }
 
-/// Made-up records, right ones and spoiled ones. Their classes are the
-/// verdict's number.
-fn made_up_verdicts(random: &mut Random) -> Vec<String> {
-    let refusals = (1..=8).map(|number| (number, 2));
-    let others = [(0, 30), (11, 15), (12, 15), (13, 15), (14, 20)];
-    let mut quota = Quota(refusals.chain(others).collect());
-    let mut lines = Vec::new();
-    let wrongs = Wrong::all();
-    while quota.wants_more() {
-        let policy = Policy::new(policies::records(random));
-        let Some(grown) = Grown::new(random, &policy) else {
-            continue;
-        };
-        let wrong = *random.pick(&wrongs);
-        let spoiled = spoil(random, &grown, wrong);
-        for claim in [Some(grown.claim()), spoiled].into_iter().flatten() {
-            let verdict = verify(&claim.table, claim.query, &claim.record);
-            if claim.record.len() <= LONGEST && quota.takes(number(&verdict)) {
-                lines.push(verify_line(&claim));
-            }
-        }
-    }
-    lines
+/// Every refusal of a table, 1 to 7, by one damage to the wallet.
+fn refused_tables() -> Vec<Case> {
+    let wallet = wallet().numbers();
+    vec![
+        list(&wallet[..3], ASKED, 0),
+        list(&[21, 0, 0, 0], ASKED, 1),
+        list(&wallet[..wallet.len() - 1], ASKED, 2),
+        list(&changed(|wallet| wallet.credentials[6][3] = 65), ASKED, 2),
+        list(&changed(|wallet| wallet.cells[1][2] = 2), ASKED, 2),
+        list(&changed(|wallet| wallet.cells[0][2] = 0), ASKED, 2),
+        list(&changed(|wallet| wallet.edges[2][2] = 4), ASKED, 2),
+        verify(&changed(|wallet| wallet.edges[1][4] = 1), ASKED, &[]),
+    ]
 }
 
-/// 0 for an accepted input, else the refusal's number.
-fn number<Value>(answer: &Result<Value, Refusal>) -> u32 {
-    answer.as_ref().err().map_or(0, |refusal| refusal.number)
-}
-
-/// A listing with a buffer of so many cells, and its answer.
-fn list_line(table: &[u16], query: Query, cells: usize) -> String {
-    let before: Vec<u32> = (CELL..).take(cells).collect();
-    let mut after = before.clone();
-    let answer = list(table, query, &mut after);
-    let parts = [
-        format!("list {}", written(&query.numbers())),
-        written(table),
-        written(&before),
-        answered(answer),
-        written(&after),
-    ];
-    parts.join(" : ")
-}
-
-/// A record, and the verdict on it.
-fn verify_line(claim: &Claim) -> String {
-    let verdict = verify(&claim.table, claim.query, &claim.record);
-    let parts = [
-        format!("verify {}", written(&claim.query.numbers())),
-        written(&claim.table),
-        written(&claim.record),
-        answered(verdict),
-    ];
-    parts.join(" : ")
-}
-
-/// An answer's number and its value or position.
-fn answered<Value: Display>(answer: Result<Value, Refusal>) -> String {
-    match answer {
-        Ok(value) => format!("0 {value}"),
-        Err(refusal) => format!("{} {}", refusal.number, refusal.position),
-    }
-}
-
-/// Numbers in decimal, one after the other.
-fn written<Number: ToString>(numbers: &[Number]) -> String {
-    let words: Vec<String> = numbers.iter().map(Number::to_string).collect();
-    words.join(" ")
+/// Records for the wallet, and one of 85 nodes.
+fn verdicts() -> Vec<Case> {
+    let wallet = wallet().numbers();
+    vec![
+        verify(&wallet, ASKED, &[1, 0, 2, 0, 3, 0, 7, 0]),
+        verify(&wallet, ASKED, &[1, 0, 2, 0, 3, 0, 7, 0, 1]),
+        verify(&wallet, ASKED, &[1, 0, 2, 0, 3, 0, 4, 65, 5, 0, 6, 0]),
+        verify(&wallet, ASKED, &[1, 0, 8, 0, 1, 0]),
+        verify(&wallet, ASKED, &[1, 0, 2, 0, 3, 0, 4, 3, 5, 0, 6, 0]),
+        verify(
+            &wide::records(4).numbers(),
+            wide::query(4),
+            &wide::record(4),
+        ),
+    ]
 }

@@ -1,66 +1,76 @@
-//! The stored cases are those that the reference makes, and are worth storing.
+//! The test program `crates/rows` has the stored cases, and they are worth
+//! storing: every answer, kind, label and size of buffer is among them.
 
 use std::collections::BTreeSet;
 
 use reference::blocks;
-use reference::stored::cases;
+use reference::records::Records;
+use reference::stored::{cases, Given};
 
-const STORED: &str = include_str!("../cases/cases.txt");
+const STDOUT: &str = include_str!("../../crates/rows/stdout");
 
-/// The parts of a line, each as its words.
-fn parts(line: &str) -> Vec<Vec<&str>> {
-    let parts = line.split(':');
-    parts
-        .map(|part| part.split_whitespace().collect())
-        .collect()
+/// The numbers of each line that the program prints.
+fn lines() -> Vec<Vec<u32>> {
+    let number = |word: &str| word.parse().expect("a number");
+    let line = |line: &str| line.split(' ').map(number).collect();
+    STDOUT.lines().map(line).collect()
 }
 
 #[test]
-fn the_file_is_what_the_generator_makes() {
-    assert!(cases() == STORED, "make reference/cases/cases.txt anew");
-}
-
-#[test]
-fn the_test_program_has_the_same_cases() {
-    let input = include_bytes!("../../crates/rows/stdin");
-    let output = include_str!("../../crates/rows/stdout");
+fn the_test_program_has_these_cases() {
+    let stdin = include_bytes!("../../crates/rows/stdin");
     assert!(
-        blocks::input(STORED) == input,
+        blocks::input(&cases()) == stdin,
         "make crates/rows/stdin anew"
     );
     assert!(
-        blocks::output(STORED) == output,
+        blocks::output(&cases()) == STDOUT,
         "make crates/rows/stdout anew"
     );
-    assert!(output.lines().count() >= 215);
-}
-
-#[test]
-fn there_are_enough_and_every_answer_is_among_them() {
-    assert!(STORED.lines().count() >= 215);
-    let mut answers = BTreeSet::new();
-    for line in STORED.lines() {
-        let parts = parts(line);
-        let answer: u32 = parts[3][0].parse().expect("a number");
-        answers.insert((parts[0][0], answer));
-    }
-    let listed = (0..=10).map(|number| ("list", number));
-    let verified = (0..=8).chain(11..=14).map(|number| ("verify", number));
-    assert_eq!(answers, listed.chain(verified).collect());
 }
 
 #[test]
 fn the_first_lines_are_the_shop_example() {
-    let answers: Vec<String> = STORED
-        .lines()
-        .take(13)
-        .map(|line| parts(line)[3].join(" "))
-        .collect();
-    let expected = [
-        "0 2", "0 1", "0 1", "0 1", "10 0", "9 0", "0 7", "14 1", "13 2", "11 3", "12 2", "8 4",
-        "8 4",
-    ];
-    assert_eq!(answers, expected);
-    let first = STORED.lines().next().expect("a line");
-    assert!(first.ends_with(": 4000000000 4000000001 4000000002 : 0 2 : 7 8 4000000002"));
+    let answers: Vec<_> = lines().iter().map(|line| (line[0], line[1])).collect();
+    let lists = [(0, 2), (0, 1), (0, 1), (0, 1), (10, 0), (9, 0)];
+    let verdicts = [(0, 7), (14, 1), (13, 2), (11, 3), (12, 2)];
+    assert_eq!(answers[..6], lists);
+    assert_eq!(answers[6..11], verdicts);
+    assert_eq!(answers[11..15], [(8, 4); 4]);
+    assert!(STDOUT.starts_with("0 2 7 8 2863311530\n0 1 8 2863311530 2863311530\n"));
+}
+
+#[test]
+fn every_answer_is_among_them() {
+    let told: BTreeSet<u32> = lines().iter().map(|line| line[0]).collect();
+    assert_eq!(told, (0..=14).collect());
+}
+
+#[test]
+fn every_kind_and_label_is_among_them() {
+    let tables = cases().into_iter().map(|case| case.table);
+    let records: Vec<Records> = tables.flat_map(|table| Records::read(&table)).collect();
+    let credentials = records.iter().flat_map(|records| &records.credentials);
+    let kinds: BTreeSet<u16> = credentials.map(|credential| credential[2]).collect();
+    let edges = records.iter().flat_map(|records| &records.edges);
+    let labels: BTreeSet<u16> = edges.map(|edge| edge[2]).collect();
+    assert!(kinds.is_superset(&(1..=4).collect()), "{kinds:?}");
+    assert!(labels.is_superset(&(1..=3).collect()), "{labels:?}");
+}
+
+/// No cell, too few, just enough and more, by the answer's number, the number of
+/// cells, and the count or position.
+#[test]
+fn every_size_of_buffer_is_among_them() {
+    let mut sizes = BTreeSet::new();
+    for (case, line) in cases().iter().zip(lines()) {
+        if let Given::Cells(cells) = case.given {
+            sizes.insert((line[0], cells, line[1] as usize));
+        }
+    }
+    let refused = [(9, 0, 0), (9, 3, 0), (10, 0, 0), (10, 1, 0)];
+    let listed = [(0, 1, 1), (0, 3, 1), (0, 2, 2), (0, 4, 2)];
+    for size in [refused, listed].concat() {
+        assert!(sizes.contains(&size), "{size:?}: {sizes:?}");
+    }
 }
