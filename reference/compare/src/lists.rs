@@ -1,6 +1,7 @@
 //! Counts of what the listing call was compared on.
 
 use std::collections::BTreeMap;
+use std::ops::Add;
 
 use reference::generate::listings::{Listing, Source};
 use reference::listing::{minimal_sets_within, write, Minimal};
@@ -45,6 +46,7 @@ pub fn patience() -> Patience {
 /// agree; an accepted list counts under number 0.
 pub struct Lists {
     seed: u64,
+    strand: u64,
     listings: u64,
     agreed: u64,
     differed: u64,
@@ -58,10 +60,11 @@ pub struct Lists {
 }
 
 impl Lists {
-    /// Nothing counted yet, in a run with this seed.
-    pub fn new(seed: u64) -> Lists {
+    /// Nothing counted yet, on this strand of a run with this seed.
+    pub fn new(seed: u64, strand: u64) -> Lists {
         Lists {
             seed,
+            strand,
             listings: 0,
             agreed: 0,
             differed: 0,
@@ -125,7 +128,8 @@ impl Lists {
     /// Prints what is needed to look into a difference.
     fn print_difference(&self, listing: &Listing, library: &Answered, reference: &Answered) {
         println!("difference, listing call:");
-        println!("  seed {}, listing {} of the run", self.seed, self.listings);
+        let place = format!("listing {} of strand {}", self.listings, self.strand);
+        println!("  seed {}, {place}", self.seed);
         println!("  table of {}", listed(&listing.table));
         println!("  query: {:?}, cells: {}", listing.query, library.1.size());
         println!("  library: {}", words(library));
@@ -193,6 +197,39 @@ impl Lists {
         lines.extend(word.map(|(what, count)| (what.into(), Some(count), 1)));
         lines
     }
+}
+
+impl Add for Lists {
+    type Output = Lists;
+
+    /// Both strands together.
+    fn add(self, other: Lists) -> Lists {
+        Lists {
+            seed: self.seed,
+            strand: self.strand,
+            listings: self.listings + other.listings,
+            agreed: self.agreed + other.agreed,
+            differed: self.differed + other.differed,
+            passed_over: self.passed_over + other.passed_over,
+            answers: together(self.answers, other.answers),
+            lengths: together(self.lengths, other.lengths),
+            sizes: together(self.sizes, other.sizes),
+            sources: together(self.sources, other.sources),
+            marks: together(self.marks, other.marks),
+            word: self.word + other.word,
+        }
+    }
+}
+
+/// The counts of both strands.
+fn together<Key: Ord>(
+    mut one: BTreeMap<Key, u64>,
+    other: BTreeMap<Key, u64>,
+) -> BTreeMap<Key, u64> {
+    for (key, count) in other {
+        *one.entry(key).or_default() += count;
+    }
+    one
 }
 
 /// The class of a list with so many sets, at least one.

@@ -5,7 +5,8 @@
 //! listings, beside the fixed ones. Every table is given to the table call, and
 //! with a query to the query call. Every record, and several spoiled forms of
 //! it, is given to the verifying call. Every listing is given to the listing
-//! call with a buffer, and the verifier is asked about what it lists. The last
+//! call with a buffer, and the verifier is asked about what it lists. Tables,
+//! records and two strands of listings are compared at the same time. The last
 //! line printed is `N passed, M failed`; the exit status tells whether any
 //! failed.
 
@@ -25,6 +26,7 @@ mod verdicts;
 mod word;
 
 use std::process::ExitCode;
+use std::thread;
 
 use arguments::Arguments;
 use buffers::Size;
@@ -33,7 +35,6 @@ use claims::Submitted;
 use lists::Lists;
 use reference::random::Random;
 use reference::Refusal;
-use report::Outcome;
 use tally::{Call, Tally};
 use verdicts::Verdicts;
 
@@ -52,8 +53,15 @@ fn main() -> ExitCode {
         }
     };
     println!("seed {}", arguments.seed);
-    let outcome =
-        compare_tables(&arguments) + compare_records(&arguments) + compare_lists(&arguments);
+    let arguments = &arguments;
+    let (tally, verdicts, lists) = thread::scope(|scope| {
+        let strands = [0, 1].map(|strand| scope.spawn(move || compare_lists(arguments, strand)));
+        let tally = compare_tables(arguments);
+        let verdicts = compare_records(arguments);
+        let [first, second] = strands.map(|strand| strand.join().expect("a strand that ends"));
+        (tally, verdicts, first + second)
+    });
+    let outcome = tally.report() + verdicts.report() + lists.report();
     println!("{} passed, {} failed", outcome.passed, outcome.failed);
     if outcome.failed == 0 {
         ExitCode::SUCCESS
@@ -63,39 +71,43 @@ fn main() -> ExitCode {
 }
 
 /// Compares the table call and the query call.
-fn compare_tables(arguments: &Arguments) -> Outcome {
+fn compare_tables(arguments: &Arguments) -> Tally {
     let mut tally = Tally::new(arguments.seed);
     cases::fixed(&mut |case| compare(&case, &mut tally));
     let mut random = Random::new(arguments.seed);
     for _ in 0..arguments.count {
         compare(&cases::made_up(&mut random), &mut tally);
     }
-    tally.report()
+    tally
 }
 
 /// Compares the verifying call.
-fn compare_records(arguments: &Arguments) -> Outcome {
+fn compare_records(arguments: &Arguments) -> Verdicts {
     let mut verdicts = Verdicts::new(arguments.seed);
     claims::fixed(&mut |submitted| compare_verdicts(&submitted, &mut verdicts));
     let mut random = Random::new(arguments.seed);
     claims::made_up(&mut random, arguments.records, &mut |submitted| {
         compare_verdicts(&submitted, &mut verdicts)
     });
-    verdicts.report()
+    verdicts
 }
 
-/// Compares the listing call: the fixed listings with every size of buffer, the
-/// others with one.
-fn compare_lists(arguments: &Arguments) -> Outcome {
-    let mut lists = Lists::new(arguments.seed);
-    let mut random = Random::new(0);
-    listings::fixed(&mut |listing| lists.compare(&mut random, &listing, &Size::ALL));
-    let mut random = Random::new(arguments.seed);
-    listings::made_up(&mut random, arguments.lists, &mut |random, listing| {
+/// Compares the listing call on one of two strands, 0 and 1: on the first, the
+/// fixed listings with every size of buffer; on each, half of the others with
+/// one, which the seed and the strand determine.
+fn compare_lists(arguments: &Arguments, strand: u64) -> Lists {
+    let seed = arguments.seed.wrapping_mul(2).wrapping_add(strand);
+    let mut lists = Lists::new(arguments.seed, strand);
+    if strand == 0 {
+        let mut random = Random::new(0);
+        listings::fixed(&mut |listing| lists.compare(&mut random, &listing, &Size::ALL));
+    }
+    let count = (arguments.lists + strand) / 2;
+    listings::made_up(&mut Random::new(seed), count, &mut |random, listing| {
         let size = *random.pick(&Size::ALL);
         lists.compare(random, &listing, &[size])
     });
-    lists.report()
+    lists
 }
 
 /// Makes the table call and the query call on both sides.

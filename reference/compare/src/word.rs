@@ -4,6 +4,8 @@
 //! verifier accepts, and if every record that it accepts uses all of a listed
 //! set. Of the second only samples can be taken: records grown at random.
 
+use std::ops::Add;
+
 use reference::generate::growth::{Policy, Wish};
 use reference::generate::listings::Listing;
 use reference::listing::Minimal;
@@ -88,6 +90,21 @@ impl Word {
             println!("  query: {:?}", listing.query);
             println!("  record of {}", listed(record));
             println!("  accepted with: {used:?}");
+        }
+    }
+}
+
+impl Add for Word {
+    type Output = Word;
+
+    fn add(self, other: Word) -> Word {
+        Word {
+            proved: self.proved + other.proved,
+            too_long: self.too_long + other.too_long,
+            same: self.same + other.same,
+            greater: self.greater + other.greater,
+            rejected: self.rejected + other.rejected,
+            failed: self.failed + other.failed,
         }
     }
 }
