@@ -3,7 +3,7 @@
 
 use std::time::Duration;
 
-use reference::records::Records;
+use reference::records::{CredentialRecord, Records};
 use reference::shop::{Q, T, U};
 use reference::Query;
 
@@ -75,7 +75,7 @@ fn one_goal_in_two_places() {
 /// A derivation of three levels, whose middle one is proved through one of these
 /// credentials and whose lowest role has this name. Only words of three roles
 /// are accepted.
-fn three_levels(through: [u16; 6], name: u16, fourth: [u16; 6]) -> Vec<u16> {
+fn three_levels(through: CredentialRecord, name: u16, fourth: CredentialRecord) -> Vec<u16> {
     let records = Records {
         credentials: vec![[1, name, 1, 9, 0, 1], [1, 1, 2, 1, 2, 0], through, fourth],
         cells: vec![[1, name, 2], [1, name, 0]],

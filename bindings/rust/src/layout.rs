@@ -1,6 +1,6 @@
 #![doc = include_str!("../../LAYOUT.md")]
 //!
-//! # Finding a record
+//! ## Finding a record
 //!
 //! The sizes of the records, and where each of them lies in a table.
 //!
