@@ -10,9 +10,9 @@ use lib.ListN.{getD, length, take}
 use Rattle.table.specs.Outcome.{Outcome, _andThen_}
 use Rattle.table.specs.Outcome.Outcome.{accepted, refused}
 use Rattle.table.specs.Holding.{WellFormed}
-use Rattle.table.specs.Checks.{Valid, requestOutcome, tableOutcome}
+use Rattle.table.specs.Checks.{AcceptedTable, Valid, requestOutcome, tableOutcome}
 use Rattle.table.specs.declared.Query.{Query}
-use Rattle.table.proofs.WellFormed.{request-accepted}
+use Rattle.table.proofs.WellFormed.{request-accepted, well-formed}
 use Rattle.sets.specs.Sets.{part}
 use Rattle.sets.proofs.Members.{part-refl}
 use Rattle.derivation.specs.Rules.{goalOf}
@@ -36,7 +36,7 @@ module _ (t : List ℕ) (wf : WellFormed t) (q : Query) (valid : Valid q) where
   -- rows 1 to 8 find nothing: the count of minimal sets is told, and they are laid into the buffer
   passes : requestOutcome t q ≡ accepted 0
   unfolding requestOutcome _andThen_
-  passes = rw (wf, valid)
+  passes = rw (wf .accepted, valid)
 
   listing-counts : (cells : ℕ) → listing t q cells ≡ counted cells (length (minimalSets t q))
   unfolding listing _andThen_
@@ -48,7 +48,7 @@ module _ (t : List ℕ) (wf : WellFormed t) (q : Query) (valid : Valid q) where
   -- an accepted record is that of a derivation, within the query's depth
   accepted-holdable : (rec : List ℕ) (S : ℕ) → verdict t q rec ≡ accepted S → Holdable rec
   accepted-holdable rec S e =
-      let a = demand-two t q rec S wf valid .0 e in
+      let a = demand-two t q rec S (wf .accepted) valid .0 e in
       rw (a .whole) at (none-excluded t (q .depth) [] (goalOf q) (a .forest) wf (depth-fits q valid) (a .derives))
 
   by-slice : (S : ℕ) → Used t q S → UsedBySlice t q S
@@ -100,8 +100,8 @@ module _ (t : List ℕ) (wf : WellFormed t) (q : Query) (valid : Valid q) where
             let same = m .only j l′ .least _ (m .only i l .used) (rw (cell i l, cell j l′) at within) in
             one-place sets (m .ascending) i j l l′ same
 
-demand-three : (t : List ℕ) (q : Query) (buffer : List ℕ) → WellFormed t → Valid q → DemandThree t q buffer
-demand-three t q buffer wf valid =
+demand-three : (t : List ℕ) (q : Query) (buffer : List ℕ) → AcceptedTable t → Valid q → DemandThree t q buffer
+demand-three t q buffer table valid =
     record {
       sets = sets;
       minimal = m;
@@ -112,6 +112,9 @@ demand-three t q buffer wf valid =
       listed = rw (told, buffer-laid t wf q valid buffer) (λ v e. whole v (accepted-counted cells count v e));
     }
   where
+    wf : WellFormed t
+    wf = well-formed t table
+
     sets : List ℕ
     sets = minimalSets t q
 
@@ -149,28 +152,32 @@ unfolding listing bufferAfter
 none-unchanged t q buffer e = none-laid (requestOutcome t q) (minimalSets t q) buffer e
 
 -- with 10 the buffer is filled with the first sets of the one list of minimal sets
-first-sets : (t : List ℕ) (q : Query) (buffer : List ℕ) → WellFormed t → Valid q → listing t q (length buffer) ≡ refused 10 0
+first-sets : (t : List ℕ) (q : Query) (buffer : List ℕ) → AcceptedTable t → Valid q → listing t q (length buffer) ≡ refused 10 0
     → (sets : List ℕ) → MinimalSets t q sets → bufferAfter t q buffer ≡ take (length buffer) sets
-first-sets t q buffer wf valid e sets m =
+first-sets t q buffer table valid e sets m =
+    let wf = well-formed t table in
     let more = more-counted (length buffer) _ .0 (sym (listing-counts t wf q valid (length buffer)) ∙ e) in
     let same = one-minimal-list t q (minimalSets t q) sets (minimal-sets t wf q valid) m in
     buffer-laid t wf q valid buffer ∙ laid-fills (minimalSets t q) buffer (omega arith) ∙ ap (take (length buffer)) same
 
 -- a verdict, with what refuses the record where it does
-judged-or-refused : (t : List ℕ) (q : Query) (rec : List ℕ) → WellFormed t → Valid q → (o : Outcome) → verdict t q rec ≡ o
+judged-or-refused : (t : List ℕ) (q : Query) (rec : List ℕ) → AcceptedTable t → Valid q → (o : Outcome) → verdict t q rec ≡ o
     → OneOf ((S : ℕ) × (verdict t q rec ≡ accepted S))
     ((number position : ℕ) × (verdict t q rec ≡ refused number position) × Refuses t q rec number position)
-judged-or-refused t q rec wf valid (accepted S) e = first (S, e)
-judged-or-refused t q rec wf valid (refused number position) e =
-    second (number, position, e, every-refusal t q rec number position wf valid .0 e)
+judged-or-refused t q rec table valid (accepted S) e = first (S, e)
+judged-or-refused t q rec table valid (refused number position) e =
+    second (number, position, e, every-refusal t q rec number position table valid .0 e)
+
+both-accepted : (t : List ℕ) (q : Query) → requestOutcome t q ≡ accepted 0 → AcceptedTable t × Valid q
+both-accepted t q e = let (wf, valid) = request-accepted t q e in (wf .accepted, valid)
 
 demand-one : (t : List ℕ) (q : Query) (rec buffer : List ℕ) → DemandOne t q rec buffer
 demand-one t q rec buffer =
     record {
       table = passes-or-stops 7 (tableOutcome t) (table-stage 7 t (omega arith)) (λ e. e);
-      request = passes-or-stops 8 (requestOutcome t q) (request-stage 8 t q (omega arith)) (request-accepted t q);
+      request = passes-or-stops 8 (requestOutcome t q) (request-stage 8 t q (omega arith)) (both-accepted t q);
       stopped = all-stopped t q rec buffer;
-      verdicts = λ wf valid. judged-or-refused t q rec wf valid (verdict t q rec) refl;
+      verdicts = λ table valid. judged-or-refused t q rec table valid (verdict t q rec) refl;
       unchanged = none-unchanged t q buffer;
       filled = first-sets t q buffer;
     }

@@ -23,21 +23,21 @@ module _ (t : List ℕ) (wf : WellFormed t) (q : Query) (valid : Valid q) where
   -- a used set admits: its record complies with all of its constraints
   pub used-admits : (S : ℕ) → Used t q S → admits t q S ≡ true
   unfolding admits
-  used-admits S (rec, e) = accepted-provable t wf q rec S (demand-two t q rec S wf valid .0 e)
+  used-admits S (rec, e) = accepted-provable t wf q rec S (demand-two t q rec S (wf .accepted) valid .0 e)
 
   pub admits-admitted : (S : ℕ) → admits t q S ≡ true → Admitted t q S
   unfolding admits
   admits-admitted S there =
       let (rec, T, a, within) = provable-accepted t wf q S there in
-      (T, (rec, demand-two t q rec T wf valid .1 a), within)
+      (T, (rec, demand-two t q rec T (wf .accepted) valid .1 a), within)
 
   pub used-fits : (S : ℕ) → Used t q S → S < 2 ^ credentials t
-  used-fits S (rec, e) = accepted-fits t q rec S (demand-two t q rec S wf valid .0 e)
+  used-fits S (rec, e) = accepted-fits t q rec S (demand-two t q rec S (wf .accepted) valid .0 e)
 
   pub minimal-used : (S : ℕ) → isMinimal t q S ≡ true → Used t q S
   minimal-used S h =
       let (rec, a) = minimal-accepted t wf q S h in
-      (rec, demand-two t q rec S wf valid .1 a)
+      (rec, demand-two t q rec S (wf .accepted) valid .1 a)
 
   pub is-minimal-set : (S : ℕ) → isMinimal t q S ≡ true → Minimal t q S
   is-minimal-set S h =

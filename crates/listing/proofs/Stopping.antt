@@ -7,7 +7,7 @@ use Prim.Native.Nat.{ℕ, _≤_}
 use native.Mathlib.Omega.{arith}
 use Rattle.table.specs.Outcome.{Outcome, _andThen_, demand, demandEach}
 use Rattle.table.specs.Outcome.Outcome.{accepted, refused}
-use Rattle.table.specs.Checks.{cellsOutcome, chainsOutcome, credentialsOutcome, edgesOutcome, headOutcome, queryOutcome, requestOutcome, tableOutcome}
+use Rattle.table.specs.Checks.{headOutcome, queryOutcome, requestOutcome, tableOutcome}
 use Rattle.table.specs.Checks.{goodCell, goodChain, goodCredential, goodEdge}
 use Rattle.table.specs.Layout.{cells, credentials, edges}
 use Rattle.table.specs.declared.Query.{Query}
@@ -55,7 +55,7 @@ module _ (last : ℕ) where
 
   -- rows 1 to 7
   pub table-stage : (t : List ℕ) → 7 ≤ last → Stage last (tableOutcome t)
-  unfolding tableOutcome headOutcome credentialsOutcome cellsOutcome chainsOutcome edgesOutcome
+  unfolding tableOutcome headOutcome
   table-stage t h =
       stage-then
       (stage-then (stage-demand _ 1 0 (omega arith) (omega arith))

@@ -9,8 +9,7 @@ use lib.ListN.{getD, length, take}
 use Rattle.table.specs.Outcome.{Outcome}
 use Rattle.table.specs.Outcome.Outcome.{accepted, refused}
 use Rattle.table.specs.Layout.{credentials}
-use Rattle.table.specs.Holding.{WellFormed}
-use Rattle.table.specs.Checks.{Valid, requestOutcome, tableOutcome}
+use Rattle.table.specs.Checks.{AcceptedTable, Valid, requestOutcome, tableOutcome}
 use Rattle.table.specs.declared.Query.{Query}
 use Rattle.sets.specs.Sets.{part}
 use Rattle.derivation.specs.Bounds.{Holdable}
@@ -90,21 +89,21 @@ pub data OneOf (A B : Type 0) : Type 0 where
 
 pub record DemandOne (t : List ℕ) (q : Query) (rec buffer : List ℕ) : Type 0 where
   -- the table call makes the checks of rows 1 to 7, and has nothing else to tell
-  pub table : OneOf (WellFormed t) (RefusedUpTo 7 (tableOutcome t))
+  pub table : OneOf (AcceptedTable t) (RefusedUpTo 7 (tableOutcome t))
   -- verifying and listing make the checks of rows 1 to 8 first, and what these refuse leaves the buffer unchanged
-  pub request : OneOf (WellFormed t × Valid q) (RefusedUpTo 8 (requestOutcome t q))
+  pub request : OneOf (AcceptedTable t × Valid q) (RefusedUpTo 8 (requestOutcome t q))
   pub stopped : (number position : ℕ) → requestOutcome t q ≡ refused number position
       → (verdict t q rec ≡ refused number position)
       × (listing t q (length buffer) ≡ refused number position)
       × (bufferAfter t q buffer ≡ buffer)
   -- past these a record is accepted, or refused by the first thing that applies to it
-  pub verdicts : WellFormed t → Valid q → OneOf ((S : ℕ) × (verdict t q rec ≡ accepted S)) (RefusedFirst t q rec)
+  pub verdicts : AcceptedTable t → Valid q → OneOf ((S : ℕ) × (verdict t q rec ≡ accepted S)) (RefusedFirst t q rec)
   -- and a list is accepted, or refused with 9, which leaves the buffer unchanged, or with 10, which fills it with the first sets
   pub unchanged : listing t q (length buffer) ≡ refused 9 0 → bufferAfter t q buffer ≡ buffer
-  pub filled : WellFormed t → Valid q → listing t q (length buffer) ≡ refused 10 0
+  pub filled : AcceptedTable t → Valid q → listing t q (length buffer) ≡ refused 10 0
       → (sets : List ℕ) → MinimalSets t q sets → bufferAfter t q buffer ≡ take (length buffer) sets
 
 abbrev pub Demands : Type 0
 Demands =
     ((t : List ℕ) (q : Query) (rec buffer : List ℕ) → DemandOne t q rec buffer)
-    × ((t : List ℕ) (q : Query) (buffer : List ℕ) → WellFormed t → Valid q → DemandThree t q buffer)
+    × ((t : List ℕ) (q : Query) (buffer : List ℕ) → AcceptedTable t → Valid q → DemandThree t q buffer)

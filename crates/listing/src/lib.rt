@@ -1,9 +1,11 @@
 // The holder's end: every minimal set of credentials that proves the queried membership, ascending (document 01, "The list").
 // It knows of derivations only what `derivation` promises. specs/Minimal.antt says what the answer and the buffer are;
 // specs/Demands.antt states that this is the list that the document means.
+use checks::QueryCheck;
+use sets::CredentialSet;
 use table::Number;
 use table::Query;
-use table::QueryCheck;
+use table::Reason;
 use table::Refusal;
 use table::layout;
 ghost use mathlib.Core.Path.{_≡_};
@@ -12,7 +14,8 @@ ghost use Prim.Native.Nat.{_+_, _^_, _<_, _≤_};
 ghost use lib.ListN.{getD, length, set};
 ghost use Rattle.sets.specs.Logic.{anyBelow};
 ghost use Rattle.table.specs.Holding.{WellFormed};
-ghost use Rattle.table.specs.Checks.{Valid};
+ghost use Rattle.table.specs.Checks.{Valid, numberOf};
+ghost use Rattle.table.specs.Outcome.{Outcome};
 ghost use Rattle.sets.specs.Sets.{part};
 ghost use Rattle.search.specs.Relevance.{Indexed};
 ghost use Rattle.search.specs.Search.{provable};
@@ -32,7 +35,7 @@ pub fn list(table: &[Number], query: Query, sets: &mut [u32]) -> Listing
     ensures { λ r. ⌜ (listingTold r ≡ listing (now (table .entry)) query (length (now (sets .entry))))
         × (now (sets .exit) ≡ bufferAfter (now (table .entry)) query (now (sets .entry))) ⌝ }
 {
-    match table::check_request(table, query) {
+    match checks::check_request(table, query) {
         QueryCheck::Valid => list_checked(table, query, sets),
         QueryCheck::Refused(why) => Listing::Refused(why),
     }
@@ -46,7 +49,7 @@ fn list_checked(table: &[Number], query: Query, sets: &mut [u32]) -> Listing
         × (now (sets .exit) ≡ laid (minimalSets (now (table .entry)) query) (now (sets .entry))) ⌝ }
 {
     let cells = sets.len();
-    let n = layout::wide(table[0]);
+    let n = layout::credentials(table);
     let all = (1 << n) - 1;
     let index = search::index(table);
     let usable = search::relevant(table, query, &index, all);
@@ -55,12 +58,22 @@ fn list_checked(table: &[Number], query: Query, sets: &mut [u32]) -> Listing
         below(table, query, &index, 0, usable, n, sets, &mut found);
     }
     if found == 0 {
-        return Listing::Refused(Refusal::NoMinimalSet);
+        return refused(Reason::NoMinimalSet);
     }
     if cells < found {
-        return Listing::Refused(Refusal::LongerThanBuffer);
+        return refused(Reason::LongerThanBuffer);
     }
     Listing::Listed(found)
+}
+
+// A refusal of the list as a whole has position 0.
+fn refused(reason: Reason) -> Listing
+    ensures { λ r. ⌜ listingTold r ≡ Outcome.refused (numberOf reason) 0 ⌝ }
+{
+    Listing::Refused(Refusal {
+        reason: reason,
+        position: 0,
+    })
 }
 
 // Finds the minimal sets that agree with `chosen` on the credentials above `next`: those without credential `next`, then those
@@ -69,8 +82,8 @@ fn below(
     table: &[Number],
     query: Query,
     index: &[u32],
-    chosen: u32,
-    usable: u32,
+    chosen: CredentialSet,
+    usable: CredentialSet,
     next: usize,
     sets: &mut [u32],
     found: &mut usize,
@@ -108,7 +121,12 @@ fn below(
 }
 
 // What is chosen can be used, and its constraints can be met.
-fn is_promising(table: &[Number], query: Query, chosen: u32, usable: u32) -> bool
+fn is_promising(
+    table: &[Number],
+    query: Query,
+    chosen: CredentialSet,
+    usable: CredentialSet,
+) -> bool
     requires { ⌜ WellFormed (now table) ⌝ }
     requires { ⌜ Valid query ⌝ }
     ensures { λ r. ⌜ r ≡ promising (now (table .entry)) query chosen usable ⌝ }
@@ -120,7 +138,13 @@ fn is_promising(table: &[Number], query: Query, chosen: u32, usable: u32) -> boo
 }
 
 // The constraints of `more` can be met, where those of `chosen` can: mostly they are the same.
-fn is_met(table: &[Number], query: Query, usable: u32, chosen: u32, more: u32) -> bool
+fn is_met(
+    table: &[Number],
+    query: Query,
+    usable: CredentialSet,
+    chosen: CredentialSet,
+    more: CredentialSet,
+) -> bool
     requires { ⌜ WellFormed (now table) ⌝ }
     requires { ⌜ Valid query ⌝ }
     requires { ⌜ provable (now table) query usable (automataOf (now table) chosen) ≡ true ⌝ }
@@ -134,7 +158,7 @@ fn is_met(table: &[Number], query: Query, usable: u32, chosen: u32, more: u32) -
 }
 
 // One of the first `found` sets is a part of the set.
-fn is_any_part(sets: &[u32], found: usize, set: u32) -> bool
+fn is_any_part(sets: &[u32], found: usize, set: CredentialSet) -> bool
     requires { ⌜ found ≤ length (now sets) ⌝ }
     ensures { λ r. ⌜ r ≡ anyBelow (λ i. part (getD (now (sets .entry)) i 0) set) found ⌝ }
 {
@@ -149,7 +173,7 @@ fn is_any_part(sets: &[u32], found: usize, set: u32) -> bool
 }
 
 // The next set of the list, where there is a cell for it; it counts in any case.
-fn put(sets: &mut [u32], found: &mut usize, chosen: u32)
+fn put(sets: &mut [u32], found: &mut usize, chosen: CredentialSet)
     requires { ⌜ now found ≤ length (now sets) ⌝ }
     ensures { λ r. ⌜ (now (found .exit) ≡ now (found .entry) + 1)
         × (now (sets .exit) ≡ set (now (sets .entry)) (now (found .entry)) chosen) ⌝ }

@@ -1,10 +1,10 @@
 -- `listing::list` meets its contract: rows 1 to 8 are those of the request, then the minimal sets are listed. Assumes nothing.
 use mathlib.Core.Path.{sym, ap, _∙_}
 use borrow.Author.Needs.{needs}
-use Rattle.table.specs.Checks.{queryTold, told}
-use Rattle.table.proofs.Stages.{then-on}
+use Rattle.table.specs.Checks.{told}
+use Rattle.checks.specs.Told.{queryTold}
+use Rattle.table.proofs.Stages.{refused-then, then-on}
 use Rattle.table.proofs.WellFormed.{request-accepted}
-use Rattle.table.proofs.Stages.{refused-then}
 use Rattle.listing.specs.Minimal.{listing, listingTold}
 use Rattle.listing.proofs.Whole.{buffer-accepted, buffer-refused}
 use Rattle.listing.proofs.list.Statement.{statement}
