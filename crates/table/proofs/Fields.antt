@@ -52,7 +52,8 @@ module _ (t : List ℕ) (i : ℕ) where
   unfolding goodCell cellOk
   cell-range good =
       let next = cell t i .next in
-      record { next = or-either (λ h. omega (arith, eqb-true next 0 h)) (λ h. leb-true _ _ (and-second _ _ h)) (and-second _ _ good) }
+      let either = and-second _ _ good in
+      record { next = or-either (λ h. omega (arith, eqb-true next 0 h)) (λ h. leb-true _ _ (and-second _ _ h)) either }
 
   pub edge-range : goodEdge t i ≡ true → EdgeRange (automata t) (edge t i)
   unfolding goodEdge edgeOk

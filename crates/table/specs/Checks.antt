@@ -9,8 +9,10 @@ use lib.Dec.{eqb, leb, ltb}
 use Rattle.sets.specs.Logic.{_and_, _or_, pick}
 use Rattle.table.specs.Outcome.{Outcome, _andThen_, demand, demandEach}
 use Rattle.table.specs.Outcome.Outcome.{accepted, refused}
-use Rattle.table.specs.Limits.{mostCredentials, mostCells, mostAutomata, mostEdges, mostPrincipals, mostNames, lastState, leastParts, mostParts, mostDepth}
-use Rattle.table.specs.Layout.{headSize, credentials, cells, automata, edges, tableLength, principal, name, credential, cell, edge, chain}
+use Rattle.table.specs.Limits.{mostCredentials, mostCells, mostAutomata, mostEdges}
+use Rattle.table.specs.Limits.{mostPrincipals, mostNames, lastState, leastParts, mostParts, mostDepth}
+use Rattle.table.specs.Layout.{headSize, credentials, cells, automata, edges, tableLength}
+use Rattle.table.specs.Layout.{principal, name, credential, cell, edge, chain}
 use Rattle.table.specs.declared.Principal.{Principal}
 use Rattle.table.specs.declared.Name.{Name}
 use Rattle.table.specs.declared.Role.{Role}

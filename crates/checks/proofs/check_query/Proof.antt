@@ -32,7 +32,9 @@ bad-field-requires : tie.Need-bad-field-requires
 bad-field-requires c κs = search needs
 
 returns : tie.Need-returns
-returns c = c .bad-field .ensures ∙ principal-refused _ (failed (c .before .before .is-principal .ensures) (c .before .if1 .taken))
+returns c =
+    let bad = failed (c .before .before .is-principal .ensures) (c .before .if1 .taken) in
+    c .bad-field .ensures ∙ principal-refused _ bad
 
 is-principal-requires-2 : tie.Need-is-principal-requires-2
 is-principal-requires-2 c κs = search needs

@@ -118,7 +118,8 @@ enum-told-4 c = search needs
 
 returns-2 : tie.Need-returns-2
 returns-2 c =
-    stage-stops (c .before .before .check-records .ensures) _ (c .enum-told4 .given .1) ∙ credentials-left (c .before .before .before)
+    let whole = credentials-left (c .before .before .before) in
+    stage-stops (c .before .before .check-records .ensures) _ (c .enum-told4 .given .1) ∙ whole
 
 check-records-requires-2 : tie.Need-check-records-requires-2
 check-records-requires-2 c κs = has-size (credentials-asked c)
@@ -131,7 +132,8 @@ enum-told-6 c = search needs
 
 returns-3 : tie.Need-returns-3
 returns-3 c =
-    stage-stops (c .before .before .check-records2 .ensures) _ (c .enum-told6 .given .1) ∙ cells-left (c .before .before .before)
+    let whole = cells-left (c .before .before .before) in
+    stage-stops (c .before .before .check-records2 .ensures) _ (c .enum-told6 .given .1) ∙ whole
 
 check-chains-requires : tie.Need-check-chains-requires
 check-chains-requires c κs =
@@ -146,7 +148,8 @@ enum-told-8 c = search needs
 
 returns-4 : tie.Need-returns-4
 returns-4 c =
-    stage-stops (c .before .before .check-chains .ensures) _ (c .enum-told8 .given .1) ∙ chains-left (c .before .before .before)
+    let whole = chains-left (c .before .before .before) in
+    stage-stops (c .before .before .check-chains .ensures) _ (c .enum-told8 .given .1) ∙ whole
 
 check-records-requires-3 : tie.Need-check-records-requires-3
 check-records-requires-3 c κs = has-size (credentials-asked (cells-asked (chains-asked c)))
