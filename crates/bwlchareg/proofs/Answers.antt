@@ -8,27 +8,28 @@ use Rattle.table.specs.Outcome.{Outcome}
 use Rattle.table.specs.declared.Query.{Query}
 use Rattle.listing.specs.Minimal.{bufferAfter, listing, listingTold}
 use Rattle.listing.specs.declared.Listing.{Listing}
-use Rattle.table.specs.Checks.{place, told}
-use Rattle.table.specs.declared.Refusal.{Refusal}
-use Rattle.table.specs.declared.Refusal.the-variants as reason
+use Rattle.table.specs.Outcome.Outcome.{refused}
+use Rattle.table.specs.Checks.{numberOf}
+use Rattle.table.specs.declared.Reason.{Reason}
+use Rattle.table.specs.declared.Reason.the-variants as reason
 use Rattle.bwlchareg.specs.Answer.{answered}
 
-pub answered-refusal : (why : Refusal) → answered (place why .0) (place why .1) ≡ told why
-unfolding answered told
-answered-refusal reason.ShortHead = refl
-answered-refusal reason.CountOverLimit = refl
-answered-refusal reason.WrongLength = refl
-answered-refusal (reason.Credential i) = refl
-answered-refusal (reason.Cell j) = refl
-answered-refusal (reason.Chain i) = refl
-answered-refusal (reason.Edge k) = refl
-answered-refusal (reason.Query field) = refl
-answered-refusal reason.NoMinimalSet = refl
-answered-refusal reason.LongerThanBuffer = refl
-answered-refusal (reason.RecordLength node) = refl
-answered-refusal (reason.Node node) = refl
-answered-refusal (reason.Branch node) = refl
-answered-refusal (reason.Word automaton) = refl
+pub answered-refusal : (r : Reason) (position : ℕ) → answered (numberOf r) position ≡ refused (numberOf r) position
+unfolding answered numberOf
+answered-refusal reason.ShortHead position = refl
+answered-refusal reason.CountOverLimit position = refl
+answered-refusal reason.WrongLength position = refl
+answered-refusal reason.Credential position = refl
+answered-refusal reason.Cell position = refl
+answered-refusal reason.Chain position = refl
+answered-refusal reason.Edge position = refl
+answered-refusal reason.Query position = refl
+answered-refusal reason.NoMinimalSet position = refl
+answered-refusal reason.LongerThanBuffer position = refl
+answered-refusal reason.RecordLength position = refl
+answered-refusal reason.Node position = refl
+answered-refusal reason.Branch position = refl
+answered-refusal reason.Word position = refl
 
 -- the callee answers r, which the call finds to be r′ and tells; the query was read from its numbers as q
 pub told-as : {A : Type 0} (answer : A → Outcome) (outcome : Query → Outcome) {r r′ : A} {o : Outcome} {q q′ : Query}

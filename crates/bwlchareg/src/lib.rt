@@ -1,12 +1,12 @@
 // The C interface. A slice is a pointer and a length. Each call returns 0 or document 01's refusal number, and writes the
 // position, or on 0 the value that the call returns: 0 where there is none. bindings/c/bwlchareg.h has the promises in words.
+use checks::QueryCheck;
+use checks::TableCheck;
 use listing::Listing;
 use table::Name;
 use table::Principal;
 use table::Query;
-use table::QueryCheck;
 use table::Refusal;
-use table::TableCheck;
 use verifier::Verdict;
 ghost use mathlib.Core.Path.{_≡_};
 ghost use lib.ListN.{length};
@@ -21,7 +21,7 @@ ghost use Rattle.bwlchareg.specs.Answer.{answered};
 pub extern "C" fn bwlchareg_check(table: &[u16], position: &mut u64) -> u32
     ensures { λ r. ⌜ answered r (now (position .exit)) ≡ tableOutcome (now (table .entry)) ⌝ }
 {
-    match table::check_table(table) {
+    match checks::check_table(table) {
         TableCheck::Accepted => accept(0, position),
         TableCheck::Refused(why) => refuse(why, position),
     }
@@ -40,7 +40,7 @@ pub extern "C" fn bwlchareg_check_query(
     ensures { λ r. ⌜ answered r (now (position .exit)) ≡ requestOutcome (now (table .entry)) (asQuery principal owner name depth) ⌝ }
 {
     let query = query_of(principal, owner, name, depth);
-    match table::check_request(table, query) {
+    match checks::check_request(table, query) {
         QueryCheck::Valid => accept(0, position),
         QueryCheck::Refused(why) => refuse(why, position),
     }
@@ -110,6 +110,7 @@ fn accept(value: u64, told: &mut u64) -> u32
 fn refuse(why: Refusal, position: &mut u64) -> u32
     ensures { λ r. ⌜ answered r (now (position .exit)) ≡ told why ⌝ }
 {
-    *position = why.position() as u64;
-    why.number()
+    *position = why.position as u64;
+    let reason = why.reason;
+    reason.number()
 }

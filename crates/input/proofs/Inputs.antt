@@ -14,7 +14,8 @@ use Rattle.sets.specs.Logic.{_and_, pick}
 use Rattle.table.specs.Outcome.{_andThen_, demand}
 use Rattle.table.specs.Checks.{requestOutcome, told}
 use Rattle.table.specs.declared.Query.{Query}
-use Rattle.table.specs.declared.Refusal.the-variants as reason
+use Rattle.table.specs.declared.Refusal.{Refusal}
+use Rattle.table.specs.declared.Reason.the-variants as reason
 use Rattle.sets.proofs.Tests.{and-both, and-is, and-is-off}
 use Rattle.table.proofs.Stages.{then-second}
 use Rattle.listing.specs.Minimal.{bufferAfter, listing, listingTold}
@@ -100,6 +101,10 @@ lists-rest s before after q r h =
     let rest = take-all (length s - querySize) (drop querySize s) (simp length-drop (omega arith)) in
     rw rest at h
 
+-- refusal 1, at position 0
+abbrev shortHead : Refusal
+shortHead = record { reason = reason.ShortHead; position = 0 }
+
 -- the bytes that count
 module _ (bytes read : List ℕ) (counts : read ≡ countedBytes bytes) where
   pub read-few : length read / 2 ≤ 2048
@@ -109,7 +114,7 @@ module _ (bytes read : List ℕ) (counts : read ≡ countedBytes bytes) where
   read-length places room = let few = read-few in sym (length-take-le (length read / 2) places (omega arith))
 
   -- what is told of bytes that are no input
-  pub answers-unwhole : (before : List ℕ) → isWhole read ≡ false → Answers bytes before before (listing′.Refused reason.ShortHead)
+  pub answers-unwhole : (before : List ℕ) → isWhole read ≡ false → Answers bytes before before (listing′.Refused shortHead)
   unfolding inputOutcome inputBuffer listingTold told pick demand _andThen_
   answers-unwhole before h = rw (← counts, h) (refl, refl)
 

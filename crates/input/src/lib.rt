@@ -5,6 +5,7 @@ use table::Name;
 use table::Number;
 use table::Principal;
 use table::Query;
+use table::Reason;
 use table::Refusal;
 ghost use mathlib.Core.Path.{_≡_};
 ghost use mathlib.Core.List.{_++_};
@@ -27,11 +28,15 @@ pub fn list_input(bytes: &[u8], sets: &mut [u32]) -> Listing
 {
     let read = counted(bytes);
     let half = read.len() / 2;
+    let short = Refusal {
+        reason: Reason::ShortHead,
+        position: 0,
+    };
     if read.len() != 2 * half {
-        return Listing::Refused(Refusal::ShortHead);
+        return Listing::Refused(short);
     }
     if half < QUERY_SIZE {
-        return Listing::Refused(Refusal::ShortHead);
+        return Listing::Refused(short);
     }
     let mut numbers = [0; MOST_NUMBERS];
     decode(read, &mut numbers);

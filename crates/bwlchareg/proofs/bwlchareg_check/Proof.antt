@@ -2,7 +2,7 @@
 use mathlib.Core.Path.{_∙_, ap, sym}
 use borrow.Author.Needs.{needs}
 use Rattle.derivation.specs.Held.{given}
-use Rattle.table.specs.Checks.{tableTold}
+use Rattle.checks.specs.Told.{tableTold}
 use Rattle.bwlchareg.proofs.bwlchareg_check.Statement.{statement}
 use Rattle.bwlchareg.proofs.bwlchareg_check.Tie as tie
 

@@ -2,7 +2,8 @@
 use borrow.Author.Needs.{needs}
 use Rattle.bwlchareg.proofs.Answers.{told-as}
 use Rattle.derivation.specs.Held.{given}
-use Rattle.table.specs.Checks.{queryTold, requestOutcome}
+use Rattle.table.specs.Checks.{requestOutcome}
+use Rattle.checks.specs.Told.{queryTold}
 use Rattle.bwlchareg.proofs.bwlchareg_check_query.Statement.{statement}
 use Rattle.bwlchareg.proofs.bwlchareg_check_query.Tie as tie
 
