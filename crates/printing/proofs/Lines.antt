@@ -1,0 +1,69 @@
+-- Numbers and lines that are put into a buffer.
+use mathlib.Core.Path.{_≡_, refl, sym, ap, _∙_}
+use mathlib.Core.List.{List, [], _∷_, _++_, append-nil, append-assoc}
+use Prim.Native.Nat.{ℕ, suc, _+_, _*_, _/_, _%_, _^_, _<_, _≤_}
+use native.Mathlib.Numerals.{add-one}
+use native.Mathlib.Omega.{arith}
+use mir.Syntax.{w64}
+use mir.Val.{Fits}
+use lib.ListN.{getD, length, take, length-append}
+use lib.Seq.{take-length, take-suc}
+use Rattle.printing.specs.Printed.{decimal, glyph, line, lines, newline}
+use Rattle.printing.specs.Put.{Put}
+use Rattle.printing.proofs.Decimals.{decimal-more, decimal-one, decimal-short}
+use Rattle.printing.proofs.Puts.{put-none, put-then}
+
+module _ {before after : List ℕ} {at next : ℕ} (n : ℕ) where
+  -- one digit
+  pub put-single : n < 10 → Put before at (glyph n ∷ []) after next → Put before at (decimal n) after next
+  put-single h p = rw (decimal-one n h) p
+
+  -- the digits but the last, and the last
+  pub put-more : {between : List ℕ} {last : ℕ} → 10 ≤ n → Put before at (decimal (n / 10)) between last
+      → Put between last (glyph (n % 10) ∷ []) after next → Put before at (decimal n) after next
+  put-more h p q = rw (decimal-more n h) (put-then p q)
+
+  -- the digits and the line's end
+  pub put-ended : {between : List ℕ} {last : ℕ} → Put before at (decimal n) between last
+      → Put between last (newline ∷ []) after next → Put before at (line n) after next
+  unfolding line
+  put-ended p q = put-then p q
+
+pub line-length : (n : ℕ) → length (line n) ≡ length (decimal n) + 1
+unfolding line
+line-length n = length-append (decimal n) (newline ∷ [])
+
+-- a line of a number of 32 bits; the digits and the line of one of 64
+pub line-short : (n : ℕ) → n < 2 ^ 32 → length (line n) ≤ 11
+line-short n h = omega (arith, line-length n, decimal-short 9 n (omega arith))
+
+pub decimal-long : (n : ℕ) → Fits w64 n → length (decimal n) ≤ 20
+decimal-long n h = decimal-short 19 n (omega arith)
+
+pub line-long : (n : ℕ) → Fits w64 n → length (line n) ≤ 21
+line-long n h = omega (arith, line-length n, decimal-long n h)
+
+lines-append : (s t : List ℕ) → lines (s ++ t) ≡ lines s ++ lines t
+unfolding lines
+lines-append [] t = refl
+lines-append (x ∷ s) t = rw (lines-append s t) (sym (append-assoc (line x) (lines s) (lines t)))
+
+lines-one : (x : ℕ) → lines (x ∷ []) ≡ line x
+unfolding lines
+lines-one x = append-nil (line x)
+
+-- one line after the other
+pub lines-none : (before s : List ℕ) → Put before 0 (lines (take 0 s)) before 0
+unfolding lines
+lines-none before s = put-none before 0
+
+pub lines-next : {before between after : List ℕ} {at next : ℕ} (s : List ℕ) (i : ℕ) → Put before 0 (lines (take i s)) between at
+    → i < length s → Put between at (line (getD s i 0)) after next → Put before 0 (lines (take (i + 1) s)) after next
+lines-next s i p h q =
+    rw (add-one i, take-suc s i 0 h, lines-append, lines-one) (put-then p q)
+
+pub lines-all : {before after : List ℕ} {next : ℕ} (s : List ℕ) (i : ℕ) → Put before 0 (lines (take i s)) after next → i ≤ length s
+    → length s ≤ i → Put before 0 (lines s) after next
+lines-all s i p h l =
+    let e : i ≡ length s = omega arith in
+    let p′ = rw e at p in rw take-length at p′

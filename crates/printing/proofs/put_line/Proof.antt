@@ -1,0 +1,28 @@
+-- `printing::put_line` meets its contract: the digits, and the line's end. Assumes nothing.
+use borrow.Author.Needs.{needs}
+use native.Mathlib.Omega.{arith}
+use Rattle.printing.proofs.Lines.{line-length, put-ended}
+use Rattle.printing.proofs.put_line.Statement.{statement}
+use Rattle.printing.proofs.put_line.Tie as tie
+
+put-number-requires : tie.Need-put-number-requires
+put-number-requires c κs = omega (arith, line-length (c .before .before .args .number))
+
+slice-aggregate-put : tie.Need-slice-aggregate-put
+slice-aggregate-put c = search needs
+
+put-requires : tie.Need-put-requires
+put-requires c κs =
+    let start = c .before .before .before .before .before .before .before in
+    let put-number = c .before .before .before .before .put-number in
+    omega (arith, start .pre, put-number .ensures, put-number .kept .0, line-length (start .args .number))
+
+same-length : tie.Need-same-length
+same-length c = search needs
+
+returns : tie.Need-returns
+returns c = put-ended _ (c .before .before .before .before .before .before .before .put-number .ensures) (c .before .before .put .ensures)
+
+pub put-line-spec : {M : Type 1} → statement M
+put-line-spec =
+    tie.close (tie.spec put-number-requires slice-aggregate-put put-requires same-length returns)

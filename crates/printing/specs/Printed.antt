@@ -1,0 +1,69 @@
+-- Document 01, the listing program: "It prints one decimal set a line, then `sets` and the count; or one line `refused`, the
+-- number, the position." What is printed is a list of bytes, each the ASCII code of a character.
+use Prim.Native.Nat.{ℕ, zero, suc, _+_, _/_, _%_}
+use mathlib.Core.Path.{_≡_}
+use mathlib.Core.List.{List, [], _∷_, _++_}
+use lib.ListN.{drop, length, replicate, take}
+use lib.Dec.{ltb}
+use Rattle.table.specs.Logic.{pick}
+use Rattle.table.specs.Outcome.{Outcome}
+use Rattle.table.specs.Outcome.Outcome.{accepted, refused}
+use Rattle.listing.specs.Input.{inputBuffer, inputOutcome}
+
+abbrev pub newline : ℕ
+newline = 10
+
+abbrev pub space : ℕ
+space = 32
+
+-- `0` to `9`
+abbrev pub glyph : ℕ → ℕ
+glyph digit = 48 + digit
+
+-- a number in decimal: its digits but the last, where it has more than one, and its last. `most` is a bound on how many those
+-- before the last are, by which the definition recurses
+unfoldable pub digits : (most n : ℕ) → List ℕ
+digits zero n = glyph n ∷ []
+digits (suc most) n = pick (ltb n 10) (glyph n ∷ []) (digits most (n / 10) ++ (glyph (n % 10) ∷ []))
+
+unfoldable pub decimal : ℕ → List ℕ
+decimal n = digits n n
+
+-- `sets ` and `refused `
+abbrev pub sets·space : List ℕ
+sets·space = 115 ∷ 101 ∷ 116 ∷ 115 ∷ space ∷ []
+
+abbrev pub refused·space : List ℕ
+refused·space = 114 ∷ 101 ∷ 102 ∷ 117 ∷ 115 ∷ 101 ∷ 100 ∷ space ∷ []
+
+unfoldable pub line : ℕ → List ℕ
+line n = decimal n ++ (newline ∷ [])
+
+-- one set a line
+unfoldable pub lines : List ℕ → List ℕ
+lines [] = []
+lines (set ∷ sets) = line set ++ lines sets
+
+unfoldable pub printedList : List ℕ → ℕ → List ℕ
+printedList sets count = lines sets ++ sets·space ++ line count
+
+unfoldable pub printedRefusal : ℕ → ℕ → List ℕ
+printedRefusal number position = refused·space ++ decimal number ++ (space ∷ []) ++ line position
+
+-- what is printed where this is told and the buffer holds these cells
+unfoldable pub printed : Outcome → List ℕ → List ℕ
+printed (accepted count) cells = printedList (take count cells) count
+printed (refused number position) cells = printedRefusal number position
+
+-- "It has 4,096 cells."
+abbrev pub cells : ℕ
+cells = 4096
+
+-- what the program prints for these bytes of its input
+unfoldable pub programPrints : List ℕ → List ℕ
+programPrints input = printed (inputOutcome input cells) (inputBuffer input (replicate cells 0))
+
+-- a buffer into which a text is put: it has the text at its start, of so many bytes, and the bytes beyond are unchanged
+pub record Filled (text before after : List ℕ) (count : ℕ) : Type 0 where
+  pub whole : count ≡ length text
+  pub bytes : after ≡ text ++ drop count before

@@ -1,0 +1,19 @@
+-- How bytes are put into a buffer one after the other. Only the functions inside the crate speak of it.
+use Prim.Native.Nat.{ℕ, _+_}
+use mathlib.Core.Path.{_≡_}
+use mathlib.Core.List.{List}
+use lib.ListN.{length}
+use lib.Seq.{sets}
+
+-- room for 4,096 lines of ten digits, and a last line
+abbrev pub room : ℕ
+room = 45096
+
+-- the buffer with the text's bytes stored from a place on
+unfoldable pub stored : List ℕ → ℕ → List ℕ → List ℕ
+stored buffer at text = sets buffer at text
+
+-- the text is stored at a place, nothing else is changed, and `next` is the place after it
+pub record Put (before : List ℕ) (at : ℕ) (text after : List ℕ) (next : ℕ) : Type 0 where
+  pub cells : after ≡ stored before at text
+  pub ends : next ≡ at + length text
