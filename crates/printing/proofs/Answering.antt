@@ -12,19 +12,19 @@ use Rattle.listing.specs.Minimal.{listingTold}
 use Rattle.listing.specs.declared.Listing.{Listing}
 use Rattle.listing.specs.declared.Listing.the-variants as listing′
 use Rattle.listing.proofs.Inputs.{listed-fits}
-use Rattle.printing.specs.Printed.{Filled, cells, decimal, line, lines, printed, printedList, printedRefusal, programPrints, refused·space, sets·space, space}
+use Rattle.printing.specs.Printed.{Filled, ascii, cells, decimal, line, lines, printed, printedList, printedRefusal, programPrints}
 use Rattle.printing.specs.Put.{Put}
 use Rattle.printing.proofs.Puts.{put-filled, put-then}
 
 module _ {before after : List ℕ} {next : ℕ} where
   pub list-filled : {m₁ m₂ : List ℕ} {k₁ k₂ : ℕ} (sets : List ℕ) (count : ℕ) → Put before 0 (lines sets) m₁ k₁
-      → Put m₁ k₁ sets·space m₂ k₂ → Put m₂ k₂ (line count) after next → next ≤ length before
+      → Put m₁ k₁ (ascii "sets ") m₂ k₂ → Put m₂ k₂ (line count) after next → next ≤ length before
       → Filled (printedList sets count) before after next
   unfolding printedList
   list-filled sets count p q r fits = put-filled (put-then (put-then p q) r) fits
 
-  pub refusal-filled : {m₁ m₂ m₃ : List ℕ} {k₁ k₂ k₃ : ℕ} (number position : ℕ) → Put before 0 refused·space m₁ k₁
-      → Put m₁ k₁ (decimal number) m₂ k₂ → Put m₂ k₂ (space ∷ []) m₃ k₃ → Put m₃ k₃ (line position) after next → next ≤ length before
+  pub refusal-filled : {m₁ m₂ m₃ : List ℕ} {k₁ k₂ k₃ : ℕ} (number position : ℕ) → Put before 0 (ascii "refused ") m₁ k₁
+      → Put m₁ k₁ (decimal number) m₂ k₂ → Put m₂ k₂ (ascii " ") m₃ k₃ → Put m₃ k₃ (line position) after next → next ≤ length before
       → Filled (printedRefusal number position) before after next
   unfolding printedRefusal
   refusal-filled number position p q r s fits = put-filled (put-then (put-then (put-then p q) r) s) fits

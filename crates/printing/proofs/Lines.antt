@@ -8,7 +8,7 @@ use mir.Syntax.{w64}
 use mir.Val.{Fits}
 use lib.ListN.{getD, length, take, length-append}
 use lib.Seq.{take-length, take-suc}
-use Rattle.printing.specs.Printed.{decimal, glyph, line, lines, newline}
+use Rattle.printing.specs.Printed.{ascii, decimal, glyph, line, lines}
 use Rattle.printing.specs.Put.{Put}
 use Rattle.printing.proofs.Decimals.{decimal-more, decimal-one, decimal-short}
 use Rattle.printing.proofs.Puts.{put-none, put-then}
@@ -25,13 +25,13 @@ module _ {before after : List ℕ} {at next : ℕ} (n : ℕ) where
 
   -- the digits and the line's end
   pub put-ended : {between : List ℕ} {last : ℕ} → Put before at (decimal n) between last
-      → Put between last (newline ∷ []) after next → Put before at (line n) after next
+      → Put between last (ascii "\n") after next → Put before at (line n) after next
   unfolding line
   put-ended p q = put-then p q
 
 pub line-length : (n : ℕ) → length (line n) ≡ length (decimal n) + 1
 unfolding line
-line-length n = length-append (decimal n) (newline ∷ [])
+line-length n = length-append (decimal n) (ascii "\n")
 
 -- a line of a number of 32 bits; the digits and the line of one of 64
 pub line-short : (n : ℕ) → n < 2 ^ 32 → length (line n) ≤ 11

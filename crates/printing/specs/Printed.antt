@@ -1,6 +1,8 @@
 -- Document 01, the listing program: "It prints one decimal set a line, then `sets` and the count; or one line `refused`, the
 -- number, the position." What is printed is a list of bytes, each the ASCII code of a character.
 use Prim.Native.Nat.{ℕ, zero, suc, _+_, _/_, _%_}
+use Prim.Native.Char.{code}
+use Prim.Native.String.{String, [] as none, _∷_ as _then_}
 use mathlib.Core.Path.{_≡_}
 use mathlib.Core.List.{List, [], _∷_, _++_}
 use lib.ListN.{drop, length, replicate, take}
@@ -10,15 +12,14 @@ use Rattle.table.specs.Outcome.{Outcome}
 use Rattle.table.specs.Outcome.Outcome.{accepted, refused}
 use Rattle.listing.specs.Input.{inputBuffer, inputOutcome}
 
-abbrev pub newline : ℕ
-newline = 10
-
-abbrev pub space : ℕ
-space = 32
+-- a text's characters by their codes
+abbrev pub ascii : String → List ℕ
+ascii none = []
+ascii (first then rest) = code first ∷ ascii rest
 
 -- `0` to `9`
 abbrev pub glyph : ℕ → ℕ
-glyph digit = 48 + digit
+glyph digit = code "0" + digit
 
 -- a number in decimal: its digits but the last, where it has more than one, and its last. `most` is a bound on how many those
 -- before the last are, by which the definition recurses
@@ -29,15 +30,8 @@ digits (suc most) n = pick (ltb n 10) (glyph n ∷ []) (digits most (n / 10) ++ 
 unfoldable pub decimal : ℕ → List ℕ
 decimal n = digits n n
 
--- `sets ` and `refused `
-abbrev pub sets·space : List ℕ
-sets·space = 115 ∷ 101 ∷ 116 ∷ 115 ∷ space ∷ []
-
-abbrev pub refused·space : List ℕ
-refused·space = 114 ∷ 101 ∷ 102 ∷ 117 ∷ 115 ∷ 101 ∷ 100 ∷ space ∷ []
-
 unfoldable pub line : ℕ → List ℕ
-line n = decimal n ++ (newline ∷ [])
+line n = decimal n ++ ascii "\n"
 
 -- one set a line
 unfoldable pub lines : List ℕ → List ℕ
@@ -45,10 +39,10 @@ lines [] = []
 lines (set ∷ sets) = line set ++ lines sets
 
 unfoldable pub printedList : List ℕ → ℕ → List ℕ
-printedList sets count = lines sets ++ sets·space ++ line count
+printedList sets count = lines sets ++ ascii "sets " ++ line count
 
 unfoldable pub printedRefusal : ℕ → ℕ → List ℕ
-printedRefusal number position = refused·space ++ decimal number ++ (space ∷ []) ++ line position
+printedRefusal number position = ascii "refused " ++ decimal number ++ ascii " " ++ line position
 
 -- what is printed where this is told and the buffer holds these cells
 unfoldable pub printed : Outcome → List ℕ → List ℕ
