@@ -1,41 +1,51 @@
-// The listing program: reads at most 4,096 bytes of standard input, the query's four numbers and then the table, and prints
-// one minimal set a line, then their count; or one line with the refusal's number and position (document 01, "The shop example").
-// What is listed or refused is `input::list_input`'s answer.
+// The listing program: reads at most 4,096 bytes of standard input, the query's four numbers and then the table, and prints what
+// `printing::answer` makes of them (document 01, "The shop example"). A read or a write that fails is told on standard error.
+use libc::STDERR_FILENO;
 use libc::STDIN_FILENO;
-use listing::Listing;
-use table::Refusal;
-
-const CELLS: usize = 4096;
+use libc::STDOUT_FILENO;
+ghost use Prim.Native.Nat.{_≤_};
+ghost use lib.ListN.{length};
 
 fn main() {
-    let mut bytes = io::buffer();
-    let count = io::read_full(STDIN_FILENO, &mut bytes);
-    let mut sets = [0u32; CELLS];
-    print_answer(&bytes[..count], &mut sets);
-}
-
-fn print_answer(bytes: &[u8], sets: &mut [u32]) {
-    match input::list_input(bytes, sets) {
-        Listing::Listed(found) => print_list(&sets[..found]),
-        Listing::Refused(why) => print_refusal(why),
+    let mut input = io::buffer();
+    let got = read_input(&mut input);
+    if got < 0 {
+        io::write_all(STDERR_FILENO, b"minimal_sets: cannot read standard input\n");
+        return;
     }
+    let count = io::count(got, &input);
+    print_answer(&input[..count]);
 }
 
-fn print_list(sets: &[u32]) {
-    let mut out = [0u8; lines::ROOM];
-    let mut used = lines::add_numbers(&mut out, 0, sets, b"", b"\n");
-    used = lines::add(&mut out, used, b"sets ");
-    used = lines::add_number(&mut out, used, sets.len() as u64);
-    used = lines::add(&mut out, used, b"\n");
-    lines::finish(&out, used);
+// Reads until the input ends, the buffer is full or a read fails, and answers as `libc::read` does: how many bytes are at the
+// start of the buffer, or a negative number.
+fn read_input(input: &mut [u8]) -> isize {
+    let mut filled = 0;
+    while filled < input.len() {
+        let got = read_more(input, filled);
+        if got < 0 {
+            return got;
+        }
+        let more = io::count(got, &input[filled..]);
+        if more == 0 {
+            return filled as isize;
+        }
+        filled += more;
+    }
+    filled as isize
 }
 
-fn print_refusal(why: Refusal) {
-    let mut out = [0u8; lines::ROOM];
-    let mut used = lines::add(&mut out, 0, b"refused ");
-    used = lines::add_number(&mut out, used, why.number() as u64);
-    used = lines::add(&mut out, used, b" ");
-    used = lines::add_number(&mut out, used, why.position() as u64);
-    used = lines::add(&mut out, used, b"\n");
-    lines::finish(&out, used);
+// Reads once, into the buffer from a place on.
+fn read_more(input: &mut [u8], filled: usize) -> isize
+    requires { ⌜ filled ≤ length (now input) ⌝ }
+{
+    libc::read(STDIN_FILENO, &mut input[filled..])
+}
+
+fn print_answer(input: &[u8]) {
+    let mut out = [0u8; printing::ROOM];
+    let count = printing::answer(input, &mut out);
+    if !io::write_all(STDOUT_FILENO, &out[..count]) {
+        io::write_all(STDERR_FILENO, b"minimal_sets: cannot write standard output\n");
+    }
 }

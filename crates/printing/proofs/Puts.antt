@@ -60,3 +60,6 @@ put-filled {before} {text = text} {next = next} p h =
     let all : next ≡ length text = omega (arith, p .ends) in
     let same : 0 + length text ≡ next = omega arith in
     record { whole = all; bytes = p .cells ∙ sets-eq text before 0 (omega arith) ∙ rw same }
+
+pub filled-within : {text before after : List ℕ} {count : ℕ} → Filled text before after count → count ≤ length after
+filled-within p = omega (arith, p .whole, simp length-append at (ap length (p .bytes)))
