@@ -2,6 +2,7 @@
 // numbers of 16 bits, low byte first: kind (1 list, 2 verify), the query's four, cells of the buffer, length of the table, length
 // of the record; then the table, the record, and zeros. Each cell holds a pattern beforehand, so that an untouched one shows.
 use libc::STDIN_FILENO;
+use libc::STDOUT_FILENO;
 use listing::Listing;
 use table::Name;
 use table::Number;
@@ -97,15 +98,27 @@ fn run_verify(table: &[Number], query: Query, rec: &[Number]) {
 
 // 0 and a value, or a refusal's number and position; then every cell of the buffer afterwards.
 fn print_row(number: u32, value: usize, cells: &[u32]) {
-    let mut out = [0u8; lines::ROOM];
-    let mut used = lines::add_number(&mut out, 0, number as u64);
-    used = lines::add(&mut out, used, b" ");
-    used = lines::add_number(&mut out, used, value as u64);
-    used = lines::add_numbers(&mut out, used, cells, b" ", b"");
-    used = lines::add(&mut out, used, b"\n");
-    lines::finish(&out, used);
+    io::print_decimal(STDOUT_FILENO, number as u64);
+    print_next(value as u64);
+    print_cells(cells);
+    io::write_all(STDOUT_FILENO, b"\n");
+}
+
+fn print_cells(cells: &[u32]) {
+    for i in 0..cells.len() {
+        print_next(wide(cells[i]));
+    }
+}
+
+fn print_next(number: u64) {
+    io::write_all(STDOUT_FILENO, b" ");
+    io::print_decimal(STDOUT_FILENO, number);
+}
+
+fn wide(cell: u32) -> u64 {
+    cell as u64
 }
 
 fn print_bad() {
-    io::write_all(libc::STDOUT_FILENO, b"bad\n");
+    io::write_all(STDOUT_FILENO, b"bad\n");
 }
