@@ -46,6 +46,9 @@ fn print_answer(input: &[u8]) {
     let mut out = [0u8; printing::ROOM];
     let count = printing::answer(input, &mut out);
     if !io::write_all(STDOUT_FILENO, &out[..count]) {
-        io::write_all(STDERR_FILENO, b"minimal_sets: cannot write standard output\n");
+        io::write_all(
+            STDERR_FILENO,
+            b"minimal_sets: cannot write standard output\n",
+        );
     }
 }

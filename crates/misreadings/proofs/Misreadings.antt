@@ -4,6 +4,7 @@ use mathlib.Core.List.{List, [], _∷_}
 use Prim.Native.Nat.{ℕ}
 use native.Mathlib.Omega.{arith}
 use lib.ListN.{length}
+use Rattle.table.proofs.WellFormed.{well-formed}
 use Rattle.table.specs.Shop.{annAsks, tableT}
 use Rattle.table.specs.declared.Query.{Query}
 use Rattle.table.proofs.Stages.{refused-accepted}
@@ -57,6 +58,6 @@ misreadings =
       both-listed = refl;
       fewest-listed = refl;
       lists-differ = lists-apart;
-      minimal = is-minimal-set tableT refl (annAsks 2) refl 7 refl;
+      minimal = is-minimal-set tableT (well-formed tableT refl) (annAsks 2) refl 7 refl;
       not-fewest = not-fewest-seven;
     }

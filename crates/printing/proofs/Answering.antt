@@ -4,14 +4,14 @@ use mathlib.Core.List.{List, [], _∷_}
 use Prim.Native.Nat.{ℕ, _≤_}
 use lib.ListN.{length, replicate, take}
 use lib.Seq.{length-take-le}
-use Rattle.table.specs.Checks.{place, told}
+use Rattle.table.specs.Checks.{numberOf, told}
 use Rattle.table.specs.Outcome.Outcome.{accepted, refused}
 use Rattle.table.specs.declared.Refusal.{Refusal}
-use Rattle.listing.specs.Input.{inputBuffer, inputOutcome}
+use Rattle.input.specs.Input.{inputBuffer, inputOutcome}
 use Rattle.listing.specs.Minimal.{listingTold}
 use Rattle.listing.specs.declared.Listing.{Listing}
 use Rattle.listing.specs.declared.Listing.the-variants as listing′
-use Rattle.listing.proofs.Inputs.{listed-fits}
+use Rattle.input.proofs.Inputs.{listed-fits}
 use Rattle.printing.specs.Printed.{Filled, ascii, cells, decimal, line, lines, printed, printedList, printedRefusal, programPrints}
 use Rattle.printing.specs.Put.{Put}
 use Rattle.printing.proofs.Puts.{put-filled, put-then}
@@ -49,9 +49,8 @@ module _ (input sets : List ℕ) (answer : Listing) (tells : listingTold answer 
   refused-filled why is p =
       let outcome : inputOutcome input cells ≡ told why = sym tells ∙ ap listingTold is in rw outcome p
 
--- a refusal's number and position are what is told of it
-pub told-filled : {before after : List ℕ} {next : ℕ} (why : Refusal) (number position : ℕ) → number ≡ place why .0
-    → position ≡ place why .1 → Filled (printedRefusal number position) before after next
-    → Filled (printed (told why) []) before after next
+-- a reason's number and a position are what is told of a refusal
+pub told-filled : {before after : List ℕ} {next : ℕ} (why : Refusal) (number : ℕ) → number ≡ numberOf (why .reason)
+    → Filled (printedRefusal number (why .position)) before after next → Filled (printed (told why) []) before after next
 unfolding printed told
-told-filled why number position n p h = let h′ = rw n at h in rw p at h′
+told-filled why number n h = rw n at h

@@ -6,7 +6,7 @@ use native.Mathlib.Omega.{arith}
 use native.Mathlib.Decide.{decLt}
 use lib.ListN.{length, length-append}
 use borrow.Author.Tests.{le-ltb, lt-ltb}
-use Rattle.table.specs.Logic.{pick}
+use Rattle.sets.specs.Logic.{pick}
 use Rattle.printing.specs.Printed.{decimal, digits, glyph}
 
 -- any bound that is large enough gives the same digits

@@ -1,7 +1,7 @@
 -- What a reader expects of the definition, by computation; that a number's digits stand for it is `decimal-reads` of Decimals.antt.
 use mathlib.Core.Path.{_≡_, refl}
 use mathlib.Core.List.{[], _∷_}
-use Rattle.table.specs.Logic.{pick}
+use Rattle.sets.specs.Logic.{pick}
 use Rattle.table.specs.Outcome.Outcome.{accepted, refused}
 use Rattle.printing.specs.Printed.{ascii, decimal, digits, line, lines, printed, printedList, printedRefusal}
 

@@ -7,10 +7,10 @@ use mathlib.Core.Path.{_≡_}
 use mathlib.Core.List.{List, [], _∷_, _++_}
 use lib.ListN.{drop, length, replicate, take}
 use lib.Dec.{ltb}
-use Rattle.table.specs.Logic.{pick}
+use Rattle.sets.specs.Logic.{pick}
 use Rattle.table.specs.Outcome.{Outcome}
 use Rattle.table.specs.Outcome.Outcome.{accepted, refused}
-use Rattle.listing.specs.Input.{inputBuffer, inputOutcome}
+use Rattle.input.specs.Input.{inputBuffer, inputOutcome}
 
 -- a text's characters by their codes
 abbrev pub ascii : String → List ℕ

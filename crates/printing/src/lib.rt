@@ -27,7 +27,7 @@ fn put_answer(input: &[u8], out: &mut [u8]) -> usize
     ensures { λ r. ⌜ Filled (programPrints (now (input .entry))) (now (out .entry)) (now (out .exit)) r ⌝ }
 {
     let mut sets = [0u32; CELLS];
-    match listing::list_input(input, &mut sets) {
+    match input::list_input(input, &mut sets) {
         Listing::Listed(count) => put_list(out, &sets[..count]),
         Listing::Refused(why) => put_refusal(out, why),
     }
@@ -47,7 +47,8 @@ fn put_refusal(out: &mut [u8], why: Refusal) -> usize
     requires { ⌜ room ≤ length (now out) ⌝ }
     ensures { λ r. ⌜ Filled (printed (told why) []) (now (out .entry)) (now (out .exit)) r ⌝ }
 {
-    put_place(out, why.number() as usize, why.position())
+    let reason = why.reason;
+    put_place(out, reason.number() as usize, why.position)
 }
 
 // A refusal's number and position.

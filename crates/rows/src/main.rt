@@ -8,6 +8,7 @@ use table::Name;
 use table::Number;
 use table::Principal;
 use table::Query;
+use table::Refusal;
 use table::layout;
 use verifier::Verdict;
 ghost use Prim.Native.Nat.{_≤_};
@@ -85,15 +86,20 @@ fn run_list(table: &[Number], query: Query, cells: usize)
 fn run_list_into(table: &[Number], query: Query, sets: &mut [u32]) {
     match listing::list(table, query, sets) {
         Listing::Listed(count) => print_row(0, count, sets),
-        Listing::Refused(why) => print_row(why.number(), why.position(), sets),
+        Listing::Refused(why) => print_refused(why, sets),
     }
 }
 
 fn run_verify(table: &[Number], query: Query, rec: &[Number]) {
     match verifier::verify(table, query, rec) {
         Verdict::Accepted(used) => print_row(0, used as usize, &[]),
-        Verdict::Refused(why) => print_row(why.number(), why.position(), &[]),
+        Verdict::Refused(why) => print_refused(why, &[]),
     }
+}
+
+fn print_refused(why: Refusal, cells: &[u32]) {
+    let reason = why.reason;
+    print_row(reason.number(), why.position, cells);
 }
 
 // 0 and a value, or a refusal's number and position; then every cell of the buffer afterwards.

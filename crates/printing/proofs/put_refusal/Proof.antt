@@ -10,9 +10,6 @@ number-requires c κs = search needs
 cast-put-place : tie.Need-cast-put-place
 cast-put-place c = search needs
 
-position-requires : tie.Need-position-requires
-position-requires c κs = search needs
-
 put-place-requires : tie.Need-put-place-requires
 put-place-requires c κs = search needs
 
@@ -20,7 +17,7 @@ same-length : tie.Need-same-length
 same-length c = search needs
 
 returns : tie.Need-returns
-returns c = told-filled _ _ _ (c .before .before .before .before .number .ensures) (c .before .before .before .position .ensures) (c .before .before .put-place .ensures)
+returns c = told-filled _ _ (c .before .before .before .number .ensures) (c .before .before .put-place .ensures)
 
 pub put-refusal-spec : {M : Type 1} → statement M
 put-refusal-spec =
@@ -28,7 +25,6 @@ put-refusal-spec =
     (tie.spec
     number-requires
     cast-put-place
-    position-requires
     put-place-requires
     same-length
     returns)
