@@ -4,16 +4,16 @@ use mathlib.Core.Path.{_≡_, refl, sym, ap, _∙_}
 use mathlib.Core.List.{List}
 use mathlib.Core.Bool.{Bool, true, false, not}
 use mathlib.Core.Logic.{_⊎_, ⊎-elim}
-use Prim.Native.Nat.{ℕ, suc, _+_, _-_, _*_, _/_, _%_, _^_, _≤_, _<_}
+use Prim.Native.Nat.{ℕ, suc, _+_, _-_, _^_, _≤_, _<_}
 use native.Mathlib.Omega.{arith}
 use native.Mathlib.Decide.{ℕ-discrete}
 use native.Mathlib.Numerals.{add-one}
 use lib.Bits.{bitOr}
 use lib.Dec.{eqb}
 use lib.ListN.{length, take}
-use borrow.Author.Tests.{eq-eqb, eqb-true, ne-eqb, not-false, not-true}
+use borrow.Author.Tests.{eq-eqb, ne-eqb, not-false, not-true}
 use Rattle.sets.specs.Logic.{_and_, _or_, pick}
-use Rattle.table.specs.Limits.{mostCredentials, mostParts}
+use Rattle.table.specs.Limits.{mostParts}
 use Rattle.table.specs.Holding.{WellFormed}
 use Rattle.table.specs.Layout.{Numbered, credential, credentials}
 use Rattle.table.specs.Holding.{Holds}
@@ -22,7 +22,7 @@ use Rattle.table.specs.declared.Chain.{Chain}
 use Rattle.table.specs.declared.Credential.{Credential}
 use Rattle.sets.proofs.Tests.{and-both, and-first, and-is, and-is-off, and-on, and-second, false-true, or-first, or-second}
 use Rattle.sets.specs.Sets.{inSet, part, setOf}
-use Rattle.sets.proofs.Members.{inSet-or, one-among, one-bit, own-bit, part-antisym, part-le, part-or, part-or-left, part-refl, part-trans, part-zero}
+use Rattle.sets.proofs.Members.{inSet-or, one-among, own-bit, part-antisym, part-le, part-or, part-or-left, part-refl, part-trans, part-zero}
 use Rattle.search.specs.Relevance.{Asking, ChainThere, Round, allDefined, definers, meant, rolesAsked, withDefiners}
 use Rattle.derivation.proofs.Asking.{chain-there}
 use Rattle.search.proofs.Bearing.{roles-4, with-among, with-grows, with-more}
@@ -30,9 +30,6 @@ use Rattle.search.proofs.Bearing.{roles-4, with-among, with-grows, with
 -- where three ways of the code meet
 pub three-ways : {A B C D : Type 0} → (A → D) → (B → D) → (C → D) → A ⊎ (B ⊎ C) → D
 three-ways one two three = ⊎-elim one (⊎-elim two three)
-
-pub credential-few : (t : List ℕ) → WellFormed t → {i : ℕ} → i < credentials t → i < mostCredentials
-credential-few t wf l = omega (arith, wf .sized .counted .fewCredentials)
 
 -- a role is meant by its owner, or by its name alone where every owner is asked
 module _ (asked r : Role) where
@@ -79,22 +76,20 @@ module _ (t : List ℕ) (P i found : ℕ) (r : Role) (so-far : found ≡ definer
   unfolding setOf pick
   definers-off off = rw (add-one i, off) so-far
 
-  pub definers-outside : (P / 2 ^ i % 2 ≡ 1 → ⊥) → found ≡ definersTo t P r (i + 1)
-  unfolding inSet
-  definers-outside out = definers-off (and-is-off _ (ne-eqb _ 1 out))
+  pub definers-outside : inSet P i ≡ false → found ≡ definersTo t P r (i + 1)
+  definers-outside out = definers-off (and-is-off _ out)
 
   -- which is in the set, and which the code has read as x and compared
-  module _ (inside : P / 2 ^ i % 2 ≡ 1) (x : Credential) (read : x ≡ credential t (i + 1)) {means : Bool}
+  module _ (inside : inSet P i ≡ true) (x : Credential) (read : x ≡ credential t (i + 1)) {means : Bool}
       (told : means ≡ meant r (x .role)) where
     pub definers-other : means ≡ false → found ≡ definersTo t P r (i + 1)
-    unfolding inSet
-    definers-other other = definers-off (and-is (eq-eqb _ 1 inside) (rw (read, add-one i) at (sym told ∙ other)))
+    definers-other other = definers-off (and-is inside (rw (read, add-one i) at (sym told ∙ other)))
 
-    pub definers-more : means ≡ true → i < mostCredentials → bitOr found ((1 * 2 ^ i) % 2 ^ 32) ≡ definersTo t P r (i + 1)
-    unfolding setOf pick inSet
-    definers-more own few =
+    pub definers-more : means ≡ true → bitOr found (2 ^ i) ≡ definersTo t P r (i + 1)
+    unfolding setOf pick
+    definers-more own =
         let same = rw (read, add-one i) at (sym told ∙ own) in
-        rw (add-one i, one-bit 32 i (omega arith), and-both (eq-eqb _ 1 inside) same, so-far)
+        rw (add-one i, and-both inside same, so-far)
 
 -- a round begins with nothing looked at
 pub round-starts : (most x : ℕ) {All : Type 0} → All → Round most x x All
@@ -164,11 +159,10 @@ module _ (t : List ℕ) (S P more next i : ℕ) (round : Round S P more (Product
         let out = not-true (inSet more i) (and-second _ _ (sym told ∙ on)) in
         false-true (sym (rw back at out) ∙ (rw e at (has-one more i)))
 
-    pub productive-more : new ≡ true → i < mostCredentials → next ≡ bitOr more ((1 * 2 ^ i) % 2 ^ 32)
-        → Round S P next (ProductiveTo t S P (i + 1))
-    productive-more on few set =
+    pub productive-more : new ≡ true → next ≡ bitOr more (2 ^ i) → Round S P next (ProductiveTo t S P (i + 1))
+    productive-more on set =
         let own = one-among i S (and-first _ _ (sym told ∙ on)) in
-        rw (set, one-bit 32 i (omega arith))
+        rw set
         (round-next (ProductiveAt t S P) S P more (bitOr more (2 ^ i)) i round (part-or-left more (2 ^ i))
         (λ h. part-or more (2 ^ i) S h own) (λ e back. absurd (came-in on e back)))
 
@@ -181,10 +175,9 @@ ReachedTo t P R n = (c : ℕ) → c < n → ReachedAt t P R c
 
 -- a round for the reached ones, with one credential more; what was R is `more` by now, and then `next`
 module _ (t : List ℕ) (P R more next i : ℕ) (round : Round P R more (ReachedTo t P R i)) where
-  pub reached-outside : (more / 2 ^ i % 2 ≡ 1 → ⊥) → next ≡ more → Round P R next (ReachedTo t P R (i + 1))
-  unfolding inSet
+  pub reached-outside : inSet more i ≡ false → next ≡ more → Round P R next (ReachedTo t P R (i + 1))
   reached-outside out same =
-      round-kept (ReachedAt t P R) P R more next i round same (λ e inside. absurd (out (eqb-true _ 1 (rw e inside))))
+      round-kept (ReachedAt t P R) P R more next i round same (λ e inside. absurd (false-true (sym out ∙ rw e inside)))
 
   all-there : (asked : List Role) → withDefiners t P more asked ≡ R → more ≡ R → part (withDefiners t P 0 asked) R ≡ true
   all-there asked e back =

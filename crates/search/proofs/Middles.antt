@@ -3,7 +3,7 @@ use mathlib.Core.Path.{_≡_, refl, sym, ap, _∙_}
 use mathlib.Core.List.{List}
 use mathlib.Core.Bool.{Bool, true, false}
 use mathlib.Core.Option.{Option, some}
-use Prim.Native.Nat.{ℕ, suc, _+_, _/_, _%_, _^_, _<_, _≤_}
+use Prim.Native.Nat.{ℕ, suc, _+_, _<_, _≤_}
 use native.Mathlib.Omega.{arith}
 use native.Mathlib.Numerals.{add-one}
 use lib.ListN.{take}
@@ -22,66 +22,57 @@ use Rattle.derivation.specs.declared.Premises.{Premises}
 use Rattle.derivation.proofs.Applying.{given-none, given-some}
 use Rattle.search.specs.Search.{NextMiddle, isMember, nearer, provedPremises, provesBy, tries}
 
--- the credential is an allowed simple membership that names x
-abbrev names : Bool → Credential → ℕ → Bool
-names allowed c x = allowed and eqb (c .kind) 1 and eqb (c .first) x
+-- the credential is a simple membership that names x
+abbrev names : Credential → ℕ → Bool
+names c x = eqb (c .kind) 1 and eqb (c .first) x
 
 -- the one that it names stands from `from` on and before `least`
-abbrev isNear : ℕ → ℕ → Bool → Credential → Bool
-isNear from least allowed c = allowed and eqb (c .kind) 1 and leb from (c .first) and ltb (c .first) least
+abbrev isNear : ℕ → ℕ → Credential → Bool
+isNear from least c = eqb (c .kind) 1 and leb from (c .first) and ltb (c .first) least
 
-module _ (from least : ℕ) (allowed : Bool) (c : Credential) where
-  near-shows : isNear from least allowed c ≡ true → (names allowed c (c .first) ≡ true) × (from ≤ c .first) × (c .first < least)
+module _ (from least : ℕ) (c : Credential) where
+  near-shows : isNear from least c ≡ true → (names c (c .first) ≡ true) × (from ≤ c .first) × (c .first < least)
   near-shows near =
-      let rest = and-second allowed _ near in
-      let bounds = and-second (eqb (c .kind) 1) _ rest in (
-        and-both (and-first allowed _ near) (and-both (and-first _ _ rest) (eq-eqb (c .first) (c .first) refl)),
+      let bounds = and-second (eqb (c .kind) 1) _ near in (
+        and-both (and-first _ _ near) (eq-eqb (c .first) (c .first) refl),
         leb-true from (c .first) (and-first _ _ bounds),
         ltb-true (c .first) least (and-second _ _ bounds),
       )
 
-  named-near : (x : ℕ) → from ≤ x → x < least → names allowed c x ≡ true → isNear from least allowed c ≡ true
+  named-near : (x : ℕ) → from ≤ x → x < least → names c x ≡ true → isNear from least c ≡ true
   named-near x later before named =
-      let rest = and-second allowed _ named in
-      let same = eqb-true (c .first) x (and-second (eqb (c .kind) 1) _ rest) in
+      let same = eqb-true (c .first) x (and-second (eqb (c .kind) 1) _ named) in
       let inside = and-both (le-leb from (c .first) (omega arith)) (lt-ltb (c .first) least (omega arith)) in
-      and-both (and-first allowed _ named) (and-both (and-first _ _ rest) inside)
+      and-both (and-first _ _ named) inside
 
-  far-names : isNear from least allowed c ≡ false → (x : ℕ) → from ≤ x → x < least → names allowed c x ≡ false
+  far-names : isNear from least c ≡ false → (x : ℕ) → from ≤ x → x < least → names c x ≡ false
   far-names far x later before = refuted _ (λ named. false-true (sym far ∙ named-near x later before named))
 
-  nearer-far : isNear from least allowed c ≡ false → least ≡ nearer from least allowed c
+  nearer-far : isNear from least c ≡ false → least ≡ nearer from least c
   unfolding nearer pick
   nearer-far far = rw far
 
-  nearer-near : isNear from least allowed c ≡ true → c .first ≡ nearer from least allowed c
+  nearer-near : isNear from least c ≡ true → c .first ≡ nearer from least c
   unfolding nearer pick
   nearer-near near = rw near
 
--- the code's five ways out
-module _ (from least member : ℕ) (c : Credential) where
-  pub nearer-other : (member ≡ 1 → ⊥) → least ≡ nearer from least (eqb member 1) c
-  nearer-other other = nearer-far from least (eqb member 1) c (and-is-off _ (ne-eqb member 1 other))
+  -- the code's four ways out
+  pub nearer-kind : (c .kind ≡ 1 → ⊥) → least ≡ nearer from least c
+  nearer-kind other = nearer-far (and-is-off _ (ne-eqb (c .kind) 1 other))
 
-  module _ (allowed : member ≡ 1) where
-    pub nearer-kind : (c .kind ≡ 1 → ⊥) → least ≡ nearer from least (eqb member 1) c
-    nearer-kind other =
-        nearer-far from least (eqb member 1) c (and-is (eq-eqb member 1 allowed) (and-is-off _ (ne-eqb (c .kind) 1 other)))
+  module _ (one : c .kind ≡ 1) where
+    near-is : {b : Bool} → (leb from (c .first) and ltb (c .first) least) ≡ b → isNear from least c ≡ b
+    near-is e = and-is (eq-eqb (c .kind) 1 one) e
 
-    module _ (one : c .kind ≡ 1) where
-      near-is : {b : Bool} → (leb from (c .first) and ltb (c .first) least) ≡ b → isNear from least (eqb member 1) c ≡ b
-      near-is e = and-is (eq-eqb member 1 allowed) (and-is (eq-eqb (c .kind) 1 one) e)
+    pub nearer-before : c .first < from → least ≡ nearer from least c
+    nearer-before before = nearer-far (near-is (and-is-off _ (lt-leb from (c .first) before)))
 
-      pub nearer-before : c .first < from → least ≡ nearer from least (eqb member 1) c
-      nearer-before before = nearer-far from least _ c (near-is (and-is-off _ (lt-leb from (c .first) before)))
+    pub nearer-after : from ≤ c .first → least ≤ c .first → least ≡ nearer from least c
+    nearer-after later after = nearer-far (near-is (and-is (le-leb from (c .first) later) (le-ltb (c .first) least after)))
 
-      pub nearer-after : from ≤ c .first → least ≤ c .first → least ≡ nearer from least (eqb member 1) c
-      nearer-after later after =
-          nearer-far from least _ c (near-is (and-is (le-leb from (c .first) later) (le-ltb (c .first) least after)))
-
-      pub nearer-between : from ≤ c .first → c .first < least → c .first ≡ nearer from least (eqb member 1) c
-      nearer-between later before =
-          nearer-near from least _ c (near-is (and-both (le-leb from (c .first) later) (lt-ltb (c .first) least before)))
+    pub nearer-between : from ≤ c .first → c .first < least → c .first ≡ nearer from least c
+    nearer-between later before =
+        nearer-near (near-is (and-both (le-leb from (c .first) later) (lt-ltb (c .first) least before)))
 
 -- `least` is the nearest of the members that the first n credentials name
 pub record Nearest (t : List ℕ) (S n from least : ℕ) : Type 0 where
@@ -100,42 +91,48 @@ module _ (t : List ℕ) (S i from least : ℕ) (so-far : Nearest t S i from leas
   x : Credential
   x = credential t (suc i)
 
-  nearest-far : isNear from least (inSet S i) x ≡ false → Nearest t S (suc i) from least
+  nearest-kept : ((y : ℕ) → from ≤ y → y < least → (inSet S i and names x y) ≡ false) → Nearest t S (suc i) from least
   unfolding isMember anyBelow _or_ x
-  nearest-far far =
+  nearest-kept none =
       record {
         later = so-far .later;
         few = so-far .few;
-        first = λ y a b. rw (so-far .first y a b) (far-names from least (inSet S i) (credential t (suc i)) far y a b);
+        first = λ y a b. rw (so-far .first y a b) (none y a b);
         tried = λ few. or-first _ (so-far .tried few);
       }
 
-  names-first : (y : ℕ) → y < x .first → names (inSet S i) x y ≡ false
-  unfolding x
-  names-first y before = and-none (inSet S i) (and-none (eqb (x .kind) 1) (ne-eqb (x .first) y (λ e. omega arith)))
+  -- it is not in the set
+  pub nearest-outside : (least′ : ℕ) → inSet S i ≡ false → least′ ≡ least → Nearest t S (i + 1) from least′
+  nearest-outside least′ out same = rw (add-one i, same) (nearest-kept (λ y a b. and-is-off _ out))
 
-  nearest-near : isNear from least (inSet S i) x ≡ true → Nearest t S (suc i) from (x .first)
-  unfolding isMember anyBelow _or_ x
-  nearest-near near =
-      let shown = near-shows from least (inSet S i) (credential t (suc i)) near in
-      record {
-        later = shown .1;
-        few = omega (arith, so-far .few, shown .2);
-        first = λ y a b. rw (so-far .first y a (omega (arith, shown .2))) (names-first y b);
-        tried = λ few. or-second (isMember t S i (x .first)) (shown .0);
-      }
+  -- it is in the set
+  module _ (inside : inSet S i ≡ true) where
+    names-first : (y : ℕ) → y < x .first → (inSet S i and names x y) ≡ false
+    unfolding x
+    names-first y before = and-none (inSet S i) (and-none (eqb (x .kind) 1) (ne-eqb (x .first) y (λ e. omega arith)))
 
-  nearest-tested : (near : Bool) → isNear from least (inSet S i) x ≡ near → Nearest t S (suc i) from (pick near (x .first) least)
-  unfolding pick
-  nearest-tested true e = nearest-near e
-  nearest-tested false e = nearest-far e
+    nearest-near : isNear from least x ≡ true → Nearest t S (suc i) from (x .first)
+    unfolding isMember anyBelow _or_ x
+    nearest-near near =
+        let shown = near-shows from least (credential t (suc i)) near in
+        record {
+          later = shown .1;
+          few = omega (arith, so-far .few, shown .2);
+          first = λ y a b. rw (so-far .first y a (omega (arith, shown .2))) (names-first y b);
+          tried = λ few. or-second (isMember t S i (x .first)) (and-both inside (shown .0));
+        }
 
-pub nearest-next : (t : List ℕ) (S i from least least′ : ℕ) (c : Credential) → Nearest t S i from least → c ≡ credential t (i + 1)
-    → least′ ≡ nearer from least (eqb (S / 2 ^ i % 2) 1) c → Nearest t S (i + 1) from least′
-unfolding nearer inSet x
-nearest-next t S i from least least′ c so-far read e =
-    let here : c ≡ credential t (suc i) = read ∙ ap (credential t) (add-one i) in
-    rw (add-one i, e, here) (nearest-tested t S i from least so-far _ refl)
+    nearest-tested : (near : Bool) → isNear from least x ≡ near → Nearest t S (suc i) from (pick near (x .first) least)
+    unfolding pick
+    nearest-tested true e = nearest-near e
+    nearest-tested false e = nearest-kept (λ y a b. and-none (inSet S i) (far-names from least x e y a b))
+
+    pub nearest-inside : (least′ : ℕ) (c : Credential) → c ≡ credential t (i + 1) → least′ ≡ nearer from least c
+        → Nearest t S (i + 1) from least′
+    unfolding nearer x
+    nearest-inside least′ c read e =
+        let here : c ≡ credential t (suc i) = read ∙ ap (credential t) (add-one i) in
+        rw (add-one i, e, here) (nearest-tested _ refl)
 
 -- the next middle; the code has read credential c as x
 module _ (t : List ℕ) (S c from : ℕ) (x : Credential) (read : x ≡ credential t c) where

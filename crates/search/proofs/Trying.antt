@@ -3,21 +3,21 @@ use mathlib.Core.Path.{_≡_, refl, sym, ap, ap₂, _∙_}
 use mathlib.Core.List.{List, [], _∷_}
 use mathlib.Core.Bool.{Bool, true, false}
 use mathlib.Core.Option.{some}
-use Prim.Native.Nat.{ℕ, zero, suc, _+_, _-_, _/_, _%_, _^_, _<_, _≤_}
+use Prim.Native.Nat.{ℕ, zero, suc, _+_, _-_, _<_, _≤_}
 use native.Mathlib.Omega.{arith}
 use native.Mathlib.Numerals.{add-one}
 use lib.ListN.{getD, length, take}
 use lib.Seq.{length-take-le}
 use lib.Bits.{bitAnd}
 use lib.Dec.{eqb}
-use borrow.Author.Tests.{eq-eqb, eqb-true, ne-eqb}
+use borrow.Author.Tests.{eqb-true, ne-eqb}
 use Rattle.sets.specs.Logic.{_and_, anyBelow, pick}
 use Rattle.table.specs.Limits.{mostDepth}
-use Rattle.table.specs.Layout.{Numbered, credential, credentials, principal, sameRole}
+use Rattle.table.specs.Layout.{credential, credentials, principal, sameRole}
 use Rattle.table.specs.declared.Credential.{Credential}
 use Rattle.table.specs.declared.Goal.{Goal}
 use Rattle.table.specs.declared.Query.{Query}
-use Rattle.sets.proofs.Tests.{and-both, and-first, and-is, and-is-off, and-none, and-second, any-all, any-next, any-reached, any-shows, false-true, refuted}
+use Rattle.sets.proofs.Tests.{and-both, and-first, and-is, and-is-off, and-none, and-on, and-second, any-all, any-next, any-reached, any-shows, false-true, refuted}
 use Rattle.sets.specs.Sets.{inSet, part}
 use Rattle.automata.specs.Together.{acceptingSet, movedSets, startingSets}
 use Rattle.automata.specs.declared.StateSets.{StateSets}
@@ -25,9 +25,6 @@ use Rattle.derivation.specs.Rules.{fresh, goal, goalOf}
 use Rattle.derivation.specs.Held.{Room, noGoal}
 use Rattle.derivation.proofs.Applying.{same-role}
 use Rattle.search.specs.Search.{askedBefore, everyGoal, mayUse, provable, provedPremises, proves, provesBy, sameGoal}
-
-pub next-numbered : (n i : ℕ) → i < n → Numbered n (i + 1)
-next-numbered n i l = record { first = omega arith; last = omega arith }
 
 -- the goals that a credential asks
 
@@ -115,12 +112,10 @@ word-proved t A accepting s one goals len e none =
 -- the credentials
 
 -- a credential that is in the set, and whether it defines the goal's role; the code has read it as x
-pub uses-role : (t : List ℕ) (S : ℕ) (g : Goal) (c i : ℕ) (x : Credential) {same : Bool} → same ≡ sameRole (x .role) (g .role)
-    → i ≡ c → x ≡ credential t i → S / 2 ^ (c - 1) % 2 ≡ 1 → same ≡ mayUse t S g c
-unfolding mayUse inSet
-uses-role t S g c i x e w read h =
-    let here : x ≡ credential t c = read ∙ ap (credential t) w in
-    e ∙ ap (λ (y : Credential). sameRole (y .role) (g .role)) here ∙ sym (and-is (eq-eqb (S / 2 ^ (c - 1) % 2) 1 h) refl)
+pub uses-role : (t : List ℕ) (S : ℕ) (g : Goal) (c : ℕ) (x : Credential) {same : Bool} → same ≡ sameRole (x .role) (g .role)
+    → x ≡ credential t c → inSet S (c - 1) ≡ true → same ≡ mayUse t S g c
+unfolding mayUse
+uses-role t S g c x e read member = e ∙ ap (λ (y : Credential). sameRole (y .role) (g .role)) read ∙ and-on member
 
 abbrev pub provesAt : List ℕ → ℕ → (Goal → Bool) → Bool → Goal → ℕ → Bool
 provesAt t S one word g = λ c. mayUse t S g (suc c) and provesBy t S one word g (suc c)

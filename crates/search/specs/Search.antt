@@ -72,9 +72,8 @@ unfoldable pub provable : List ℕ → Query → ℕ → ℕ → Bool
 provable t q S A = proves t S A (q .depth) [] (startingSets t) (goalOf q)
 
 -- the member that a credential names, where it stands from `from` on and before `least`; `least` otherwise
-unfoldable pub nearer : ℕ → ℕ → Bool → Credential → ℕ
-nearer from least allowed c =
-    pick (allowed and eqb (c .kind) 1 and leb from (c .first) and ltb (c .first) least) (c .first) least
+unfoldable pub nearer : ℕ → ℕ → Credential → ℕ
+nearer from least c = pick (eqb (c .kind) 1 and leb from (c .first) and ltb (c .first) least) (c .first) least
 
 -- the next middle from `from` on; one more than there are principals where there is none
 pub record NextMiddle (t : List ℕ) (S c from m : ℕ) : Type 0 where

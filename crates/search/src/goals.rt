@@ -6,6 +6,7 @@ use automata::StateSets;
 use derivation::Branch;
 use derivation::Premises;
 use derivation::rules;
+use sets::CredentialSet;
 use table::Credential;
 use table::Goal;
 use table::LINKING_CONTAINMENT;
@@ -16,7 +17,6 @@ ghost use mathlib.Core.Path.{_≡_};
 ghost use mathlib.Core.Option.{some};
 ghost use Prim.Native.Nat.{_+_, _-_, _<_, _≤_};
 ghost use lib.ListN.{take};
-ghost use lib.Dec.{eqb};
 ghost use Rattle.table.specs.Limits.{mostDepth, mostParts, mostPrincipals};
 ghost use Rattle.table.specs.Layout.{Numbered, credentials};
 ghost use Rattle.table.specs.Holding.{WellFormed};
@@ -47,7 +47,7 @@ pub fn goal_search(
     }
     let below = states.moved(table, goal.role);
     let deeper = branch.with(goal);
-    let n = table[0];
+    let n = layout::credentials(table);
     let mut i = 0;
     while i < n {
         if may_use(table, terms.allowed, goal, i + 1) {
@@ -65,7 +65,7 @@ fn credential_search(
     table: &[Number],
     terms: Terms,
     goal: Goal,
-    c: Number,
+    c: usize,
     levels: usize,
     states: StateSets,
     branch: Branch,
@@ -79,7 +79,7 @@ fn credential_search(
 {
     let mut middle = next_middle(table, terms.allowed, c, 0);
     while middle <= layout::MOST_PRINCIPALS {
-        let premises = rules::premises(table, goal, c, middle);
+        let premises = rules::premises(table, goal, c as Number, middle);
         if premises.applies {
             if premises_search(table, terms, premises, levels, states, branch) {
                 return true;
@@ -151,55 +151,49 @@ fn same_goal(one: Goal, other: Goal) -> bool
 }
 
 // Credential c is allowed and defines the goal's role.
-fn may_use(table: &[Number], allowed: u32, goal: Goal, c: Number) -> bool
+fn may_use(table: &[Number], allowed: CredentialSet, goal: Goal, c: usize) -> bool
     requires { ⌜ WellFormed (now table) ⌝ }
     requires { ⌜ Numbered (credentials (now table)) c ⌝ }
     ensures { λ r. ⌜ r ≡ mayUse (now (table .entry)) allowed goal c ⌝ }
 {
-    if (allowed >> (c - 1)) % 2 != 1 {
+    if !sets::has(allowed, c - 1) {
         return false;
     }
-    let credential = layout::credential(table, layout::wide(c));
+    let credential = layout::credential(table, c);
     credential.role.same(goal.role)
 }
 
 // The least middle from `from` on that is tried with credential c: only kind 3 has one, and only a principal that some allowed
 // simple membership names can be a member of anything. Past the last principal where there is none.
-fn next_middle(table: &[Number], allowed: u32, c: Number, from: Number) -> Number
+fn next_middle(table: &[Number], allowed: CredentialSet, c: usize, from: Number) -> Number
     requires { ⌜ WellFormed (now table) ⌝ }
     requires { ⌜ Numbered (credentials (now table)) c ⌝ }
     requires { ⌜ from ≤ mostPrincipals + 1 ⌝ }
     ensures { λ r. ⌜ NextMiddle (now (table .entry)) allowed c from r ⌝ }
 {
-    let credential = layout::credential(table, layout::wide(c));
+    let credential = layout::credential(table, c);
     if credential.kind != LINKING_CONTAINMENT {
         if from == 0 {
             return 0;
         }
         return layout::MOST_PRINCIPALS + 1;
     }
-    let n = layout::wide(table[0]);
+    let n = layout::credentials(table);
     let mut least = layout::MOST_PRINCIPALS + 1;
     let mut i = 0;
     while i < n {
-        least = nearer(
-            layout::credential(table, i + 1),
-            (allowed >> i) % 2,
-            from,
-            least,
-        );
+        if sets::has(allowed, i) {
+            least = nearer(layout::credential(table, i + 1), from, least);
+        }
         i += 1;
     }
     least
 }
 
-// The credential's principal, where it is an allowed simple membership's and stands from `from` on but before `least`.
-fn nearer(c: Credential, member: u32, from: Number, least: Number) -> Number
-    ensures { λ r. ⌜ r ≡ Search.nearer from least (eqb member 1) c ⌝ }
+// The credential's principal, where it is a simple membership's and stands from `from` on but before `least`.
+fn nearer(c: Credential, from: Number, least: Number) -> Number
+    ensures { λ r. ⌜ r ≡ Search.nearer from least c ⌝ }
 {
-    if member != 1 {
-        return least;
-    }
     if c.kind != SIMPLE_MEMBERSHIP {
         return least;
     }

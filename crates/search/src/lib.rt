@@ -6,6 +6,8 @@ mod relevance; // relevance.rt: which credentials bear on a query
 
 use automata::StateSets;
 use derivation::Branch;
+use sets::AutomatonSet;
+use sets::CredentialSet;
 use table::Number;
 use table::Query;
 use table::layout;
@@ -18,13 +20,18 @@ ghost use Rattle.search.specs.Relevance.{Indexed, Relevant};
 // The credentials that may be used, credential i counting 2^(i-1), and the automata that must accept every word, automaton k
 // counting 2^(k-1).
 struct Terms {
-    pub allowed: u32,
-    pub constraints: Number,
+    pub allowed: CredentialSet,
+    pub constraints: AutomatonSet,
 }
 
 // Whether some derivation of the queried membership uses only allowed credentials, and each of its words is accepted by each of
 // the automata `constraints`.
-pub fn provable(table: &[Number], query: Query, allowed: u32, constraints: Number) -> bool
+pub fn provable(
+    table: &[Number],
+    query: Query,
+    allowed: CredentialSet,
+    constraints: AutomatonSet,
+) -> bool
     requires { ⌜ WellFormed (now table) ⌝ }
     requires { ⌜ Valid query ⌝ }
     ensures { λ r. ⌜ r ≡ Search.provable (now (table .entry)) query allowed constraints ⌝ }
@@ -52,7 +59,12 @@ pub fn index(table: &[Number]) -> [u32; relevance::INDEX_CELLS]
 }
 
 // A set of allowed credentials such that every derivation of the queried membership that uses only allowed ones uses only these.
-pub fn relevant(table: &[Number], query: Query, index: &[u32], allowed: u32) -> u32
+pub fn relevant(
+    table: &[Number],
+    query: Query,
+    index: &[u32],
+    allowed: CredentialSet,
+) -> CredentialSet
     requires { ⌜ WellFormed (now table) ⌝ }
     requires { ⌜ Valid query ⌝ }
     requires { ⌜ Indexed (now table) (now index) ⌝ }

@@ -1,6 +1,7 @@
 // Which credentials bear on a query, by roles alone, whoever the members are: those that some derivation could use at all, the
 // productive ones, and of these the ones that can be reached from the goal's role. Without this a wallet of mostly unrelated
 // credentials would cost two to their number.
+use sets::CredentialSet;
 use table::Chain;
 use table::Credential;
 use table::INTERSECTION_CONTAINMENT;
@@ -28,14 +29,14 @@ const PLACE: usize = 5;
 pub const INDEX_CELLS: usize = 100;
 
 // Every credential that a table can have.
-const EVERY: u32 = 1048575;
+const EVERY: CredentialSet = 1048575;
 
 // The index of the table: for each credential how many roles it asks, and for each of these the credentials that define it.
 pub fn index(table: &[Number]) -> [u32; INDEX_CELLS]
     requires { ⌜ WellFormed (now table) ⌝ }
     ensures { λ r. ⌜ Indexed (now (table .entry)) r ⌝ }
 {
-    let n = layout::wide(table[0]);
+    let n = layout::credentials(table);
     let mut index = [0; INDEX_CELLS];
     let mut i = 0;
     while i < PLACE * n {
@@ -64,7 +65,7 @@ fn index_cell(table: &[Number], c: Credential, k: usize) -> u32
 }
 
 // The allowed credentials whose premises can all be met, as far as roles go: the least such set, round by round.
-pub fn productive(table: &[Number], index: &[u32], allowed: u32) -> u32
+pub fn productive(table: &[Number], index: &[u32], allowed: CredentialSet) -> CredentialSet
     requires { ⌜ WellFormed (now table) ⌝ }
     requires { ⌜ Indexed (now table) (now index) ⌝ }
     ensures { λ r. ⌜ (part r allowed ≡ true) × Productive (now (table .entry)) allowed r ⌝ }
@@ -79,18 +80,23 @@ pub fn productive(table: &[Number], index: &[u32], allowed: u32) -> u32
 }
 
 // One round: the set with each allowed credential all of whose roles asked are defined in it.
-fn more_productive(table: &[Number], index: &[u32], allowed: u32, set: u32) -> u32
+fn more_productive(
+    table: &[Number],
+    index: &[u32],
+    allowed: CredentialSet,
+    set: CredentialSet,
+) -> CredentialSet
     requires { ⌜ WellFormed (now table) ⌝ }
     requires { ⌜ Indexed (now table) (now index) ⌝ }
     ensures { λ r. ⌜ Round allowed set r (Productive (now (table .entry)) allowed set) ⌝ }
 {
-    let n = layout::wide(table[0]);
+    let n = layout::credentials(table);
     let mut more = set;
     let mut i = 0;
     while i < n {
         if is_new(allowed, more, i) {
             if is_productive(index, more, i) {
-                more = more | (1 << i);
+                more = sets::with(more, i);
             }
         }
         i += 1;
@@ -99,7 +105,12 @@ fn more_productive(table: &[Number], index: &[u32], allowed: u32, set: u32) -> u
 }
 
 // The productive credentials that can be reached from the goal's role.
-pub fn reachable(table: &[Number], index: &[u32], role: Role, productive: u32) -> u32
+pub fn reachable(
+    table: &[Number],
+    index: &[u32],
+    role: Role,
+    productive: CredentialSet,
+) -> CredentialSet
     requires { ⌜ WellFormed (now table) ⌝ }
     requires { ⌜ Indexed (now table) (now index) ⌝ }
     ensures { λ r. ⌜ (part r productive ≡ true)
@@ -115,16 +126,21 @@ pub fn reachable(table: &[Number], index: &[u32], role: Role, productive: u32) -
 }
 
 // One round: the set with each productive credential that defines a role asked by one of it.
-fn more_reachable(table: &[Number], index: &[u32], productive: u32, set: u32) -> u32
+fn more_reachable(
+    table: &[Number],
+    index: &[u32],
+    productive: CredentialSet,
+    set: CredentialSet,
+) -> CredentialSet
     requires { ⌜ WellFormed (now table) ⌝ }
     requires { ⌜ Indexed (now table) (now index) ⌝ }
     ensures { λ r. ⌜ Round productive set r (Reached (now (table .entry)) productive set) ⌝ }
 {
-    let n = layout::wide(table[0]);
+    let n = layout::credentials(table);
     let mut more = set;
     let mut i = 0;
     while i < n {
-        if (more >> i) % 2 == 1 {
+        if sets::has(more, i) {
             more = with_defining(index, productive, more, i);
         }
         i += 1;
@@ -133,18 +149,18 @@ fn more_reachable(table: &[Number], index: &[u32], productive: u32, set: u32) ->
 }
 
 // Credential i + 1 is allowed and not yet in the set.
-fn is_new(allowed: u32, set: u32, i: usize) -> bool
+fn is_new(allowed: CredentialSet, set: CredentialSet, i: usize) -> bool
     requires { ⌜ i < mostCredentials ⌝ }
     ensures { λ r. ⌜ r ≡ (inSet allowed i and not (inSet set i)) ⌝ }
 {
-    if (allowed >> i) % 2 != 1 {
+    if !sets::has(allowed, i) {
         return false;
     }
-    (set >> i) % 2 != 1
+    !sets::has(set, i)
 }
 
 // Each role that credential i + 1 asks is defined by some credential of the set.
-fn is_productive(index: &[u32], set: u32, i: usize) -> bool
+fn is_productive(index: &[u32], set: CredentialSet, i: usize) -> bool
     requires { ⌜ Place (now index) i ⌝ }
     ensures { λ r. ⌜ r ≡ allMet (now (index .entry)) i set ⌝ }
 {
@@ -161,7 +177,12 @@ fn is_productive(index: &[u32], set: u32, i: usize) -> bool
 }
 
 // Those of `reached`, and the credentials of the set that define a role asked by credential i + 1.
-fn with_defining(index: &[u32], set: u32, reached: u32, i: usize) -> u32
+fn with_defining(
+    index: &[u32],
+    set: CredentialSet,
+    reached: CredentialSet,
+    i: usize,
+) -> CredentialSet
     requires { ⌜ Place (now index) i ⌝ }
     ensures { λ r. ⌜ r ≡ withMet (now (index .entry)) i set reached ⌝ }
 {
@@ -177,18 +198,18 @@ fn with_defining(index: &[u32], set: u32, reached: u32, i: usize) -> u32
 }
 
 // The credentials of the set that define the role, or a role of that name where the owner is 0.
-fn defining(table: &[Number], set: u32, role: Role) -> u32
+fn defining(table: &[Number], set: CredentialSet, role: Role) -> CredentialSet
     requires { ⌜ WellFormed (now table) ⌝ }
     ensures { λ r. ⌜ r ≡ definers (now (table .entry)) set role ⌝ }
 {
-    let n = layout::wide(table[0]);
+    let n = layout::credentials(table);
     let mut found = 0;
     let mut i = 0;
     while i < n {
-        if (set >> i) % 2 == 1 {
+        if sets::has(set, i) {
             let credential = layout::credential(table, i + 1);
             if is_meant(role, credential.role) {
-                found = found | (1 << i);
+                found = sets::with(found, i);
             }
         }
         i += 1;

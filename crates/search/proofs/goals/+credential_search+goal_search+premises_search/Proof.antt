@@ -1,15 +1,14 @@
 -- Goal search, credential search and the search of what a credential asks meet their contracts, by the levels left: each loop knows
 -- that what it has tried so far does not prove the goal, or, over the premises, that each of them is proved. Assumes nothing.
-use Prim.Native.Nat.{_*_, _+_, _-_, _≤_}
+use Prim.Native.Nat.{ℕ, _*_, _+_, _-_, _<_, _≤_}
 use Rattle.automata.specs.Together.{acceptingSet}
 use Rattle.sets.specs.Sets.{part}
 use Rattle.search.proofs.Middles.{AtMiddle, middle-found, middle-next, middle-over, middle-starts, proved-given, proved-none}
-use Rattle.search.proofs.Trying.{Entered, every-asked, every-more, goal-again, goal-decided, level-none, next-numbered, one-deeper, proved-all, proved-not, proves-here, provesAt, room-all, room-for, unproved-next, unused-next, word-proved}
-use Rattle.derivation.specs.Held.{above}
-use Rattle.derivation.specs.Rules.{goal, premises}
+use Rattle.search.proofs.Trying.{Entered, every-asked, every-more, goal-again, goal-decided, level-none, one-deeper, proved-all, proved-not, proves-here, provesAt, room-all, room-for, unproved-next, unused-next, word-proved}
+use Rattle.derivation.specs.Held.{Room, above}
 use Rattle.search.specs.Search.{everyGoal, proves}
 use Rattle.sets.proofs.Tests.{any-all, failed, passed}
-use Rattle.table.specs.Limits.{mostPrincipals}
+use Rattle.table.specs.Limits.{mostParts, mostPrincipals}
 use Rattle.sets.specs.Logic.{anyBelow}
 use lib.ListN.{take}
 use mathlib.Core.Bool.{false, true}
@@ -17,7 +16,7 @@ use mathlib.Core.Logic.{⊎-elim}
 use denote.Ref.{now}
 use mathlib.Core.Path.{_∙_, _≡_, refl, sym}
 use native.Mathlib.Omega.{arith}
-use Prim.Native.Nat.{ℕ, _<_}
+use borrow.Author.Needs.{needs}
 use borrow.Fn.Kinds.{In, Out}
 use borrow.Fn.PlainCycle.{Measures, is, falls, and}
 use Rattle.search.proofs.goals.credential_search.Reads as credential-search
@@ -37,6 +36,7 @@ use Rattle.derivation.proofs.rules.premises.Reads as premises-reads
 use Rattle.search.proofs.goals.is_asked_before.Reads as is-asked-before-reads
 use Rattle.search.proofs.goals.may_use.Reads as may-use-reads
 use Rattle.search.proofs.goals.next_middle.Reads as next-middle-reads
+use Rattle.table.proofs.layout.credentials.Reads as credentials-reads
 use Rattle.search.proofs.goals.+credential_search+goal_search+premises_search.{statement}
 use Rattle.search.proofs.goals.+credential_search+goal_search+premises_search.Tie.{close}
 
@@ -115,6 +115,8 @@ goal-search-claims t = (
   moved-reads.Learnt,
   with-reads.Asked,
   with-reads.Learnt,
+  credentials-reads.Asked,
+  credentials-reads.Learnt,
   may-use-reads.Asked,
   may-use-reads.Learnt,
   credential-search-below t,
@@ -131,60 +133,56 @@ premises-search-claims t = (
   goal-search.Post,
 )
 
--- what `credential_search` needs, whatever its measure is
+-- a place of `credential_search`, or a need, where its measure is t; and what it needs, whatever its measure is
+abbrev credential-search-place :
+    (credential-search-lts.Claims → In 1 credential-search-kinds.ps → Out 1 credential-search-kinds.ps credential-search-kinds.r
+    → credential-search-lts.InvT-loop → credential-search-lts.MeasureT-loop → Type 0) → ℕ → Type 0
+credential-search-place place t =
+    place (credential-search-claims t) (credential-search-at t) credential-search.Post credential-search-Inv-loop credential-search-μ-loop
+
 abbrev credential-search-needs :
     (credential-search-lts.Claims → In 1 credential-search-kinds.ps → Out 1 credential-search-kinds.ps credential-search-kinds.r
     → credential-search-lts.InvT-loop → credential-search-lts.MeasureT-loop → Type 0) → Type 0
-credential-search-needs need =
-    (t : ℕ)
-    → need (credential-search-claims t) (credential-search-at t) credential-search.Post credential-search-Inv-loop credential-search-μ-loop
+credential-search-needs need = (t : ℕ) → credential-search-place need t
 
 credential-search-next-middle-requires : credential-search-needs credential-search-lts.Need-next-middle-requires
-credential-search-next-middle-requires t c κs = ((c .before .pre .1 .0), (c .before .pre .1 .1 .1, omega arith))
+credential-search-next-middle-requires t c κs = search needs
 
 credential-search-loop-holds : credential-search-needs credential-search-lts.Need-loop-holds
 credential-search-loop-holds t c = middle-starts _ _ _ _ _ _ _ (c .next-middle .ensures)
 
+credential-search-cast-premises : credential-search-needs credential-search-lts.Need-cast-premises
+credential-search-cast-premises t c = search needs
+
 credential-search-premises-requires : credential-search-needs credential-search-lts.Need-premises-requires
-credential-search-premises-requires t c κs =
-    let pre = c .before .before .before .before .pre in
-    (pre .1 .0)
+credential-search-premises-requires t c κs = search needs
 
 credential-search-premises-search-requires : credential-search-needs credential-search-lts.Need-premises-search-requires
-credential-search-premises-search-requires t c κs =
-    let pre = c .before .before .before .before .before .before .pre in
-    (omega (arith, pre .0), ((pre .1 .0), (pre .1 .1 .0, c .before .premises .ensures .0)))
+credential-search-premises-search-requires t c κs = search needs
 
 credential-search-returns : credential-search-needs credential-search-lts.Need-returns
 credential-search-returns t c =
-    let loop = c .before .before .before .before .before .loop in
-    let loop-test = c .before .before .before .before .loop-test in
-    let asked = c .before .before .before .premises in
-    let if1 = c .before .before .if1 in
-    middle-found _ _ _ _ _ _ _ (loop .inv) (loop-test .taken) (proved-given _ _ _ (asked .ensures .1) (if1 .taken)
-    (sym (c .if2 .taken) ∙ c .before .premises-search .ensures))
+    let asked = c .before .before .before in
+    let proved = sym (c .if2 .taken) ∙ c .before .premises-search .ensures in
+    middle-found _ _ _ _ _ _ _ (asked .before .before .loop .inv) (asked .before .loop-test .taken)
+    (proved-given _ _ _ (asked .premises .ensures .1) (c .before .before .if1 .taken) proved)
 
 credential-search-add-next-middle : credential-search-needs credential-search-lts.Need-add-next-middle
-credential-search-add-next-middle t c = omega arith
+credential-search-add-next-middle t c = search needs
 
 credential-search-next-middle-requires-2 : credential-search-needs credential-search-lts.Need-next-middle-requires-2
-credential-search-next-middle-requires-2 t c κs =
-    let pre = c .before .before .before .before .before .before .pre in
-    let loop-test = c .before .before .loop-test in
-    ((pre .1 .0), (pre .1 .1 .1, omega (arith, loop-test .taken)))
+credential-search-next-middle-requires-2 t c κs = search needs
 
 credential-search-loop-less : credential-search-needs credential-search-lts.Need-loop-less
-credential-search-loop-less t c =
-    let loop-test = c .before .before .before .loop-test in
-    omega (arith, c .next-middle2 .ensures .later, loop-test .taken)
+credential-search-loop-less t c = search needs
 
 credential-search-loop-again : credential-search-needs credential-search-lts.Need-loop-again
 credential-search-loop-again t c =
-    let loop = c .before .before .before .before .loop in
-    let asked = c .before .before .premises .ensures .1 in
-    middle-next _ _ _ _ _ _ _ (loop .inv) _
-    (⊎-elim (λ way. proved-given _ _ _ asked (way .0 .taken) (sym (way .2 .left) ∙ way .1 .ensures))
-    (λ way. proved-none _ _ _ asked (way .left)) (c .before .if1 .came))
+    let asked = c .before .before in
+    let held = asked .premises .ensures .1 in
+    middle-next _ _ _ _ _ _ _ (asked .before .before .loop .inv) _
+    (⊎-elim (λ way. proved-given _ _ _ held (way .0 .taken) (sym (way .2 .left) ∙ way .1 .ensures))
+    (λ way. proved-none _ _ _ held (way .left)) (c .before .if1 .came))
     (c .next-middle2 .ensures)
 
 credential-search-returns-2 : credential-search-needs credential-search-lts.Need-returns-2
@@ -198,104 +196,94 @@ goal-search-Inv-loop table terms goal levels below deeper n i₀ i =
 abbrev goal-search-μ-loop : goal-search-lts.MeasureT-loop
 goal-search-μ-loop table terms goal levels below deeper n i₀ i = n - i
 
--- what `goal_search` needs, whatever its measure is
+-- a place of `goal_search`, or a need, where its measure is t; and what it needs, whatever its measure is
+abbrev goal-search-place :
+    (goal-search-lts.Claims → In 1 goal-search-kinds.ps → Out 1 goal-search-kinds.ps goal-search-kinds.r
+    → goal-search-lts.InvT-loop → goal-search-lts.MeasureT-loop → Type 0) → ℕ → Type 0
+goal-search-place place t =
+    place (goal-search-claims t) (goal-search-at t) goal-search.Post goal-search-Inv-loop goal-search-μ-loop
+
 abbrev goal-search-needs :
     (goal-search-lts.Claims → In 1 goal-search-kinds.ps → Out 1 goal-search-kinds.ps goal-search-kinds.r
     → goal-search-lts.InvT-loop → goal-search-lts.MeasureT-loop → Type 0) → Type 0
-goal-search-needs need =
-    (t : ℕ) → need (goal-search-claims t) (goal-search-at t) goal-search.Post goal-search-Inv-loop goal-search-μ-loop
+goal-search-needs need = (t : ℕ) → goal-search-place need t
 
 goal-search-returns : goal-search-needs goal-search-lts.Need-returns
 goal-search-returns t c = level-none _ _ _ _ _ _ _ (c .if1 .taken)
 
 goal-search-is-fresh-requires : goal-search-needs goal-search-lts.Need-is-fresh-requires
-goal-search-is-fresh-requires t c κs =
-    let pre = c .before .before .pre in
-    pre .1 .1 .0
+goal-search-is-fresh-requires t c κs = search needs
 
 goal-search-returns-2 : goal-search-needs goal-search-lts.Need-returns-2
 goal-search-returns-2 t c =
-    let if1 = c .before .before .if1 in
-    goal-again _ _ _ _ _ _ _ (if1 .left) (failed (c .before .is-fresh .ensures) (c .if2 .taken))
+    goal-again _ _ _ _ _ _ _ (c .before .before .if1 .left) (failed (c .before .is-fresh .ensures) (c .if2 .taken))
 
 -- behind the entry: a level is left, the goal is new, and branch and state sets are one step on
-goal-search-entered : (t : ℕ)
-    (c : goal-search-lts.After-with (goal-search-claims t) (goal-search-at t) goal-search.Post goal-search-Inv-loop goal-search-μ-loop)
-    → let args = c .before .before .before .before .before .before .args in
-    let moved-on = c .before .moved .result in
-    Entered (now (args .table)) (args .levels) (above (args .branch)) (above (c .with .result)) (args .states) moved-on (args .goal)
-goal-search-entered t c =
-    let if1 = c .before .before .before .before .if1 in
-    let is-fresh = c .before .before .before .is-fresh in
-    let new = passed (is-fresh .ensures) (c .before .before .if2 .left) in
-    record { left = if1 .left; new = new; deeper = c .with .ensures .1 .1; moved = c .before .moved .ensures }
+module _ (t : ℕ) where
+  abbrev goal-search-start : goal-search-place goal-search-lts.After-with t → goal-search-place goal-search-lts.Start t
+  goal-search-start at = at .before .before .before .before .before .before
+
+  goal-search-entered : (at : goal-search-place goal-search-lts.After-with t) → let from = goal-search-start at .args in
+      Entered (now (from .table)) (from .levels) (above (from .branch)) (above (at .with .result)) (from .states)
+      (at .before .moved .result) (from .goal)
+  goal-search-entered at =
+      let fresh = at .before .before .before in
+      record {
+        left = fresh .before .if1 .left;
+        new = passed (fresh .is-fresh .ensures) (at .before .before .if2 .left);
+        deeper = at .with .ensures .1 .1;
+        moved = at .before .moved .ensures;
+      }
+
+  -- where a credential is looked at
+  abbrev goal-search-behind : goal-search-place goal-search-lts.In-loop t → goal-search-place goal-search-lts.After-with t
+  goal-search-behind at = at .before .before .before
 
 goal-search-moved-requires : goal-search-needs goal-search-lts.Need-moved-requires
-goal-search-moved-requires t c κs =
-    let pre = c .before .before .before .before .pre in
-    (pre .1 .0)
+goal-search-moved-requires t c κs = search needs
 
 goal-search-with-requires : goal-search-needs goal-search-lts.Need-with-requires
-goal-search-with-requires t c κs =
-    let pre = c .before .before .before .before .before .pre in
-    let if1 = c .before .before .before .if1 in
-    (pre .1 .1 .0, omega (arith, if1 .left, pre .1 .1 .1))
+goal-search-with-requires t c κs = search needs
 
-goal-search-shared-slice-read-n : goal-search-needs goal-search-lts.Need-shared-slice-read-n
-goal-search-shared-slice-read-n t c =
-    let pre = c .before .before .before .before .before .before .before .pre in
-    omega (arith, pre .1 .0 .sized .counted .head)
+goal-search-credentials-requires : goal-search-needs goal-search-lts.Need-credentials-requires
+goal-search-credentials-requires t c = search needs
 
 goal-search-loop-holds : goal-search-needs goal-search-lts.Need-loop-holds
 unfolding anyBelow
 goal-search-loop-holds t c = (omega arith, refl)
 
 goal-search-add-may-use : goal-search-needs goal-search-lts.Need-add-may-use
-goal-search-add-may-use t c =
-    let pre = c .before .before .before .before .before .before .before .before .before .pre in
-    omega (arith, pre .1 .0 .sized .counted .fewCredentials, c .loop-test .taken)
+goal-search-add-may-use t c = search needs
 
 goal-search-may-use-requires : goal-search-needs goal-search-lts.Need-may-use-requires
-goal-search-may-use-requires t c κs =
-    let pre = c .before .before .before .before .before .before .before .before .before .pre in
-    (pre .1 .0, next-numbered _ _ (c .loop-test .taken))
+goal-search-may-use-requires t c κs = search needs
 
 goal-search-add-credential-search : goal-search-needs goal-search-lts.Need-add-credential-search
-goal-search-add-credential-search t c =
-    let pre = c .before .before .before .before .before .before .before .before .before .before .before .pre in
-    let loop-test = c .before .before .loop-test in
-    omega (arith, pre .1 .0 .sized .counted .fewCredentials, loop-test .taken)
+goal-search-add-credential-search t c = search needs
 
 goal-search-sub-credential-search : goal-search-needs goal-search-lts.Need-sub-credential-search
-goal-search-sub-credential-search t c =
-    let if1 = c .before .before .before .before .before .before .before .before .before .if1 in
-    omega (arith, if1 .left)
+goal-search-sub-credential-search t c = search needs
 
 goal-search-credential-search-requires : goal-search-needs goal-search-lts.Need-credential-search-requires
 goal-search-credential-search-requires t c κs =
-    let pre = c .before .before .before .before .before .before .before .before .before .before .before .pre in
-    let if1 = c .before .before .before .before .before .before .before .before .before .if1 in
-    let longer = c .before .before .before .before .before .with .ensures in
-    let fits = one-deeper _ _ _ (if1 .left) (longer .1 .0) (pre .1 .1 .1) in
-    let there = next-numbered _ _ (c .before .before .loop-test .taken) in
-    (omega (arith, pre .0, if1 .left), (pre .1 .0, ((longer .0, fits), there)))
+    let at = goal-search-behind t (c .before .before) in
+    let pre = goal-search-start t at .pre in
+    let left = goal-search-entered t at .left in
+    let fits = one-deeper _ _ _ left (at .with .ensures .1 .0) (pre .1 .1 .1) in
+    (omega (arith, pre .0, left), (pre .1 .0, ((at .with .ensures .0, fits), omega arith)))
 
 goal-search-returns-3 : goal-search-needs goal-search-lts.Need-returns-3
 goal-search-returns-3 t c =
-    let loop-test = c .before .before .before .before .loop-test in
-    let may-use = c .before .before .before .may-use in
-    let if3 = c .before .before .if3 in
-    goal-decided _ _ _ _ _ _ _ _ _ (goal-search-entered t (c .before .before .before .before .before .before .before))
-    (proves-here _ _ _ _ _ _ (may-use .ensures) _ (loop-test .taken) (if3 .taken) (c .before .credential-search .ensures) (c .if4 .taken))
+    let at = c .before .before .before .before in
+    let may-use = c .before .before .before .may-use .ensures in
+    goal-decided _ _ _ _ _ _ _ _ _ (goal-search-entered t (goal-search-behind t at))
+    (proves-here _ _ _ _ _ _ may-use _ (omega arith) (c .before .before .if3 .taken) (c .before .credential-search .ensures) (c .if4 .taken))
 
 goal-search-add-i : goal-search-needs goal-search-lts.Need-add-i
-goal-search-add-i t c =
-    let pre = c .before .before .before .before .before .before .before .before .before .before .before .pre in
-    let loop-test = c .before .before .loop-test in
-    omega (arith, pre .1 .0 .sized .counted .fewCredentials, loop-test .taken)
+goal-search-add-i t c = search needs
 
 goal-search-loop-less : goal-search-needs goal-search-lts.Need-loop-less
-goal-search-loop-less t c = omega arith
+goal-search-loop-less t c = search needs
 
 goal-search-loop-again : goal-search-needs goal-search-lts.Need-loop-again
 goal-search-loop-again t c =
@@ -308,9 +296,8 @@ goal-search-loop-again t c =
 
 goal-search-returns-4 : goal-search-needs goal-search-lts.Need-returns-4
 goal-search-returns-4 t c =
-    let loop = c .before .loop in
     goal-decided _ _ _ _ _ _ _ _ _ (goal-search-entered t (c .before .before .before))
-    (any-all _ _ _ (omega (arith, loop .inv .0, c .loop-test .left)) (loop .inv .1))
+    (any-all _ _ _ (omega arith) (c .before .loop .inv .1))
 
 abbrev premises-search-Inv-loop : premises-search-lts.InvT-loop
 premises-search-Inv-loop table terms levels states branch premises len i₀ i =
@@ -320,17 +307,26 @@ premises-search-Inv-loop table terms levels states branch premises len i₀ i =
 abbrev premises-search-μ-loop : premises-search-lts.MeasureT-loop
 premises-search-μ-loop table terms levels states branch premises len i₀ i = len - i
 
--- what `premises_search` needs, whatever its measure is
+-- a place of `premises_search`, or a need, where its measure is t; and what it needs, whatever its measure is
+abbrev premises-search-place :
+    (premises-search-lts.Claims → In 1 premises-search-kinds.ps → Out 1 premises-search-kinds.ps premises-search-kinds.r
+    → premises-search-lts.InvT-loop → premises-search-lts.MeasureT-loop → Type 0) → ℕ → Type 0
+premises-search-place place t =
+    place (premises-search-claims t) (premises-search-at t) premises-search.Post premises-search-Inv-loop premises-search-μ-loop
+
 abbrev premises-search-needs :
     (premises-search-lts.Claims → In 1 premises-search-kinds.ps → Out 1 premises-search-kinds.ps premises-search-kinds.r
     → premises-search-lts.InvT-loop → premises-search-lts.MeasureT-loop → Type 0) → Type 0
-premises-search-needs need =
-    (t : ℕ) → need (premises-search-claims t) (premises-search-at t) premises-search.Post premises-search-Inv-loop premises-search-μ-loop
+premises-search-needs need = (t : ℕ) → premises-search-place need t
+
+-- where the goals are looked at, there is room for all of them
+premises-search-room : (t : ℕ) (at : premises-search-place premises-search-lts.At-loop t)
+    → let held = at .before .before .before .args .t3 in
+    Room mostParts (held .len) (held .goals)
+premises-search-room t at = at .before .before .before .pre .1 .1 .1
 
 premises-search-accepting-requires : premises-search-needs premises-search-lts.Need-accepting-requires
-premises-search-accepting-requires t c κs =
-    let pre = c .before .before .pre in
-    (pre .1 .0)
+premises-search-accepting-requires t c κs = search needs
 
 premises-search-returns : premises-search-needs premises-search-lts.Need-returns
 premises-search-returns t c = word-proved _ _ _ _ _ _ _ (c .accepting .ensures) (c .before .if1 .taken)
@@ -340,48 +336,34 @@ unfolding everyGoal
 premises-search-loop-holds t c = (omega arith, refl)
 
 premises-search-is-asked-before-requires : premises-search-needs premises-search-lts.Need-is-asked-before-requires
-premises-search-is-asked-before-requires t c κs =
-    let pre = c .before .before .before .before .pre in
-    (pre .1 .1 .1, c .loop-test .taken)
+premises-search-is-asked-before-requires t c κs = search needs
 
 premises-search-mul-goal-search : premises-search-needs premises-search-lts.Need-mul-goal-search
-premises-search-mul-goal-search t c =
-    let pre = c .before .before .before .before .before .before .pre in
-    let loop-test = c .before .before .loop-test in
-    omega (arith, pre .1 .1 .1 .fits, loop-test .taken)
+premises-search-mul-goal-search t c = search needs
 
 premises-search-element-copy-out-goal-search : premises-search-needs premises-search-lts.Need-element-copy-out-goal-search
-premises-search-element-copy-out-goal-search t c =
-    let pre = c .before .before .before .before .before .before .pre in
-    let loop-test = c .before .before .loop-test in
-    omega (arith, pre .1 .1 .1 .fits, pre .1 .1 .1 .size, loop-test .taken)
+premises-search-element-copy-out-goal-search t c = search needs
 
 premises-search-goal-search-requires : premises-search-needs premises-search-lts.Need-goal-search-requires
-premises-search-goal-search-requires t c κs =
-    let pre = c .before .before .before .before .before .before .before .pre in
-    (omega (arith, pre .0), ((pre .1 .0), pre .1 .1 .0))
+premises-search-goal-search-requires t c κs = search needs
 
 premises-search-returns-2 : premises-search-needs premises-search-lts.Need-returns-2
 premises-search-returns-2 t c =
-    let if1 = c .before .before .before .before .before .before .before .if1 in
-    let pre = c .before .before .before .before .before .before .before .before .before .pre in
-    let loop-test = c .before .before .before .before .before .loop-test in
+    let at = c .before .before .before .before .before in
     let unproved = failed (c .before .goal-search .ensures) (c .if3 .taken) in
-    proved-not _ _ _ _ (if1 .left) (room-all (pre .1 .1 .1)) _ (loop-test .taken) unproved
+    proved-not _ _ _ _ (at .before .before .if1 .left) (room-all (premises-search-room t (at .before))) _ (at .loop-test .taken) unproved
 
 premises-search-add-i : premises-search-needs premises-search-lts.Need-add-i
-premises-search-add-i t c =
-    let pre = c .before .before .before .before .before .before .pre in
-    omega (arith, pre .1 .1 .1 .fits)
+premises-search-add-i t c = search needs
 
 premises-search-loop-less : premises-search-needs premises-search-lts.Need-loop-less
-premises-search-loop-less t c = omega arith
+premises-search-loop-less t c = search needs
 
 premises-search-loop-again : premises-search-needs premises-search-lts.Need-loop-again
 premises-search-loop-again t c =
-    let so-far = c .before .before .before .loop .inv .1 in
-    let pre = c .before .before .before .before .before .before .pre in
-    let there = room-for (pre .1 .1 .1) (c .before .before .loop-test .taken) in (
+    let at = c .before .before in
+    let so-far = at .before .loop .inv .1 in
+    let there = room-for (premises-search-room t (at .before)) (at .loop-test .taken) in (
       omega arith,
       ⊎-elim (λ way. every-more _ _ _ there so-far (passed (way .2 .ensures) (way .3 .left)))
           (λ way. every-asked _ _ _ there so-far (passed (c .before .is-asked-before .ensures) (way .left))) (c .if2 .came),
@@ -389,11 +371,9 @@ premises-search-loop-again t c =
 
 premises-search-returns-3 : premises-search-needs premises-search-lts.Need-returns-3
 premises-search-returns-3 t c =
-    let if1 = c .before .before .if1 in
-    let pre = c .before .before .before .before .pre in
     let loop = c .before .loop in
-    proved-all _ _ _ _ (if1 .left) (room-all (pre .1 .1 .1)) (loop .i)
-    (omega (arith, loop .inv .0, c .loop-test .left)) (loop .inv .1)
+    proved-all _ _ _ _ (c .before .before .if1 .left) (room-all (premises-search-room t (c .before))) (loop .i)
+    (omega arith) (loop .inv .1)
 
 pub +credential-search+goal-search+premises-search-spec : {M : Type 1} → statement M
 +credential-search+goal-search+premises-search-spec =
@@ -404,6 +384,7 @@ pub +credential-search+goal-search+premises-search-spec : {M : Type 1} → state
     credential-search-μ-loop
     (credential-search-next-middle-requires t)
     (credential-search-loop-holds t)
+    (credential-search-cast-premises t)
     (credential-search-premises-requires t)
     (credential-search-premises-search-requires t)
     (credential-search-returns t)
@@ -421,7 +402,7 @@ pub +credential-search+goal-search+premises-search-spec : {M : Type 1} → state
     (goal-search-returns-2 t)
     (goal-search-moved-requires t)
     (goal-search-with-requires t)
-    (goal-search-shared-slice-read-n t)
+    (goal-search-credentials-requires t)
     (goal-search-loop-holds t)
     (goal-search-add-may-use t)
     (goal-search-may-use-requires t)

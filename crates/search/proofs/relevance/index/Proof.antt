@@ -15,37 +15,31 @@ Inv-loop table n index₀ i₀ index i = (i ≤ 5 * n) × (length index ≡ 100)
 abbrev μ-loop : tie.MeasureT-loop
 μ-loop table n index₀ i₀ index i = 5 * n - i
 
-shared-slice-read-wide : tie.Need-shared-slice-read-wide Inv-loop μ-loop
-shared-slice-read-wide c = omega (arith, c .before .before .pre .sized .counted .head)
-
-wide-requires : tie.Need-wide-requires Inv-loop μ-loop
-wide-requires c κs = search needs
+credentials-requires : tie.Need-credentials-requires Inv-loop μ-loop
+credentials-requires c κs = search needs
 
 loop-holds : tie.Need-loop-holds Inv-loop μ-loop
 loop-holds c = (omega arith, refl, λ j l. absurd (omega arith))
 
 mul-loop : tie.Need-mul-loop Inv-loop μ-loop
-mul-loop c = omega (arith, c .before .before .before .before .pre .sized .counted .fewCredentials)
+mul-loop c = search needs
 
 add-credential : tie.Need-add-credential Inv-loop μ-loop
-add-credential c = omega (arith, c .before .before .before .before .before .pre .sized .counted .fewCredentials)
+add-credential c = search needs
 
 credential-requires : tie.Need-credential-requires Inv-loop μ-loop
-credential-requires c κs =
-    (c .before .before .before .before .before .pre .sized, record { first = omega arith; last = omega arith })
+credential-requires c κs = search needs
 
 index-cell-requires : tie.Need-index-cell-requires Inv-loop μ-loop
 index-cell-requires c κs =
-    let pre = c .before .before .before .before .before .before .pre in
+    let pre = c .before .before .before .before .before .pre in
     (pre, chain-whole _ pre _ (record { first = omega arith; last = omega arith }) _ (c .credential .ensures))
 
 mul-index : tie.Need-mul-index Inv-loop μ-loop
-mul-index c = omega (arith, c .before .before .before .before .before .before .before .pre .sized .counted .fewCredentials)
+mul-index c = search needs
 
 array-write-index : tie.Need-array-write-index Inv-loop μ-loop
-array-write-index c =
-    let pre = c .before .before .before .before .before .before .before .pre in
-    omega (arith, pre .sized .counted .fewCredentials, c .before .before .before .loop .inv .1)
+array-write-index c = search needs
 
 add-i : tie.Need-add-i Inv-loop μ-loop
 add-i c = search needs
@@ -56,8 +50,7 @@ loop-less c = search needs
 loop-again : tie.Need-loop-again Inv-loop μ-loop
 loop-again c =
     let loop = c .before .before .before .loop in
-    let pre = c .before .before .before .before .before .before .before .pre in
-    let room : loop .i < length (loop .index) = omega (arith, pre .sized .counted .fewCredentials, loop .inv .1) in (
+    let room : loop .i < length (loop .index) = omega arith in (
       omega arith,
       length-set (loop .index) (loop .i) (c .index-cell .result) ∙ loop .inv .1,
       index-next _ (loop .index) (loop .i) _ _ room (loop .inv .2) (c .before .credential .ensures) (c .index-cell .ensures),
@@ -65,7 +58,6 @@ loop-again c =
 
 returns : tie.Need-returns Inv-loop μ-loop
 returns c =
-    let args = c .before .before .before .before .before .args in
     let loop = c .before .loop in
     record { room = loop .inv .1; each = λ j l. loop .inv .2 j (omega arith) }
 
@@ -75,8 +67,7 @@ index-spec =
     (tie.spec
     Inv-loop
     μ-loop
-    shared-slice-read-wide
-    wide-requires
+    credentials-requires
     loop-holds
     mul-loop
     add-credential

@@ -6,7 +6,7 @@ use native.Mathlib.Omega.{arith}
 use denote.Ref.{now}
 use Rattle.table.specs.Layout.{credentials}
 use Rattle.search.specs.Relevance.{Round}
-use Rattle.search.proofs.Gathering.{ProductiveTo, credential-few, productive-more, productive-not, productive-old, round-starts, three-ways}
+use Rattle.search.proofs.Gathering.{ProductiveTo, productive-more, productive-not, productive-old, round-starts, three-ways}
 use Rattle.search.proofs.Indexing.{all-met, place}
 use borrow.Author.Needs.{needs}
 use Rattle.search.proofs.relevance.more_productive.Statement.{statement}
@@ -18,36 +18,22 @@ Inv-loop table index allowed set n more₀ i₀ more i = (i ≤ n) × Round allo
 abbrev μ-loop : tie.MeasureT-loop
 μ-loop table index allowed set n more₀ i₀ more i = n - i
 
-shared-slice-read-wide : tie.Need-shared-slice-read-wide Inv-loop μ-loop
-shared-slice-read-wide c =
-    let pre = c .before .before .before .pre in
-    omega (arith, pre .0 .sized .counted .head)
-
-wide-requires : tie.Need-wide-requires Inv-loop μ-loop
-wide-requires c κs = search needs
+credentials-requires : tie.Need-credentials-requires Inv-loop μ-loop
+credentials-requires c κs = search needs
 
 loop-holds : tie.Need-loop-holds Inv-loop μ-loop
 loop-holds c = (omega arith, round-starts _ _ (λ c h. absurd (omega arith)))
 
 is-new-requires : tie.Need-is-new-requires Inv-loop μ-loop
-is-new-requires c κs =
-    let pre = c .before .before .before .before .before .before .pre in
-    omega (arith, pre .0 .sized .counted .fewCredentials)
+is-new-requires c κs = search needs
 
 is-productive-requires : tie.Need-is-productive-requires Inv-loop μ-loop
 is-productive-requires c κs =
-    let pre = c .before .before .before .before .before .before .before .before .pre in
+    let pre = c .before .before .before .before .before .before .before .pre in
     place _ _ (pre .0) (pre .1) _ (omega arith)
 
-cast-more : tie.Need-cast-more Inv-loop μ-loop
-cast-more c =
-    let pre = c .before .before .before .before .before .before .before .before .before .before .pre in
-    omega (arith, pre .0 .sized .counted .fewCredentials)
-
-shl-more : tie.Need-shl-more Inv-loop μ-loop
-shl-more c =
-    let pre = c .before .before .before .before .before .before .before .before .before .before .pre in
-    omega (arith, pre .0 .sized .counted .fewCredentials)
+with-requires : tie.Need-with-requires Inv-loop μ-loop
+with-requires c κs = search needs
 
 add-i : tie.Need-add-i Inv-loop μ-loop
 add-i c = search needs
@@ -57,19 +43,18 @@ loop-less c = search needs
 
 loop-again : tie.Need-loop-again Inv-loop μ-loop
 loop-again c =
-    let pre = c .before .before .before .before .before .before .before .before .pre in
+    let pre = c .before .before .before .before .before .before .before .pre in
     let round = c .before .before .before .loop .inv .1 in
     let new = c .before .is-new .ensures in (
       omega arith,
-      three-ways (λ w. productive-more _ _ _ _ _ _ round new (w .0 .taken) (credential-few _ (pre .0) (omega arith)) (w .3))
+      three-ways (λ w. productive-more _ _ _ _ _ _ round new (w .0 .taken) (w .4 ∙ w .3 .ensures))
           (λ w. productive-not _ _ _ _ _ _ round (w .1 .ensures ∙ all-met _ _ (pre .0) (pre .1) _ (omega arith) _) (w .2 .left) (w .3))
           (λ w. productive-old _ _ _ _ _ _ round new (w .0 .left) (w .1)) (c .if1 .came),
     )
 
 returns : tie.Need-returns Inv-loop μ-loop
 returns c =
-    let args = c .before .before .before .before .before .before .args in
-    let all : c .before .loop .i ≡ credentials (now (args .table)) = omega arith in
+    let all : c .before .loop .i ≡ credentials (now (c .before .before .before .before .before .args .table)) = omega arith in
     rw all at (c .before .loop .inv .1)
 
 pub more-productive-spec : {M : Type 1} → statement M
@@ -78,13 +63,11 @@ more-productive-spec =
     (tie.spec
     Inv-loop
     μ-loop
-    shared-slice-read-wide
-    wide-requires
+    credentials-requires
     loop-holds
     is-new-requires
     is-productive-requires
-    cast-more
-    shl-more
+    with-requires
     add-i
     loop-less
     loop-again

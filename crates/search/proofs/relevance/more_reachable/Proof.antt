@@ -1,6 +1,6 @@
 -- `search::relevance::more_reachable` meets its contract: one round, in which the first i credentials
 -- have been looked at; where nothing came in, all that those of them in the set ask was there. Assumes nothing.
-use mathlib.Core.Path.{_∙_, _≡_}
+use mathlib.Core.Path.{_∙_, _≡_, sym}
 use mathlib.Core.Logic.{⊎-elim}
 use Prim.Native.Nat.{_-_, _≤_}
 use native.Mathlib.Omega.{arith}
@@ -14,32 +14,19 @@ use Rattle.search.proofs.relevance.more_reachable.Statement.{statement}
 use Rattle.search.proofs.relevance.more_reachable.Tie as tie
 
 abbrev Inv-loop : tie.InvT-loop
-Inv-loop table index productive set n more₀ i₀ more i =
-    (i ≤ n) × Round productive set more (ReachedTo table productive set i)
+Inv-loop table index productive set n more₀ i₀ more i = (i ≤ n) × Round productive set more (ReachedTo table productive set i)
 
 abbrev μ-loop : tie.MeasureT-loop
 μ-loop table index productive set n more₀ i₀ more i = n - i
 
-shared-slice-read-wide : tie.Need-shared-slice-read-wide Inv-loop μ-loop
-shared-slice-read-wide c =
-    let pre = c .before .before .before .pre in
-    omega (arith, pre .0 .sized .counted .head)
-
-wide-requires : tie.Need-wide-requires Inv-loop μ-loop
-wide-requires c κs = search needs
+credentials-requires : tie.Need-credentials-requires Inv-loop μ-loop
+credentials-requires c κs = search needs
 
 loop-holds : tie.Need-loop-holds Inv-loop μ-loop
 loop-holds c = (omega arith, round-starts _ _ (λ c h. absurd (omega arith)))
 
-cast-if1 : tie.Need-cast-if1 Inv-loop μ-loop
-cast-if1 c =
-    let pre = c .before .before .before .before .before .before .pre in
-    omega (arith, pre .0 .sized .counted .fewCredentials)
-
-shr-if1 : tie.Need-shr-if1 Inv-loop μ-loop
-shr-if1 c =
-    let pre = c .before .before .before .before .before .before .pre in
-    omega (arith, pre .0 .sized .counted .fewCredentials)
+has-requires : tie.Need-has-requires Inv-loop μ-loop
+has-requires c κs = search needs
 
 with-defining-requires : tie.Need-with-defining-requires Inv-loop μ-loop
 with-defining-requires c κs =
@@ -55,16 +42,15 @@ loop-less c = search needs
 loop-again : tie.Need-loop-again Inv-loop μ-loop
 loop-again c =
     let pre = c .before .before .before .before .before .before .before .pre in
-    let round = c .before .before .loop .inv .1 in (
+    let round = c .before .before .before .loop .inv .1 in (
       omega arith,
       ⊎-elim (λ w. reached-more _ _ _ _ _ _ round (w .2 ∙ w .1 .ensures ∙ with-met _ _ (pre .0) (pre .1) _ (omega arith) _ _))
-          (λ w. reached-outside _ _ _ _ _ _ round (w .0 .left) (w .1)) (c .if1 .came),
+          (λ w. reached-outside _ _ _ _ _ _ round (sym (c .before .has .ensures) ∙ w .0 .left) (w .1)) (c .if1 .came),
     )
 
 returns : tie.Need-returns Inv-loop μ-loop
 returns c =
-    let args = c .before .before .before .before .before .before .args in
-    let all : c .before .loop .i ≡ credentials (now (args .table)) = omega arith in
+    let all : c .before .loop .i ≡ credentials (now (c .before .before .before .before .before .args .table)) = omega arith in
     rw all at (c .before .loop .inv .1)
 
 pub more-reachable-spec : {M : Type 1} → statement M
@@ -73,11 +59,9 @@ more-reachable-spec =
     (tie.spec
     Inv-loop
     μ-loop
-    shared-slice-read-wide
-    wide-requires
+    credentials-requires
     loop-holds
-    cast-if1
-    shr-if1
+    has-requires
     with-defining-requires
     add-i
     loop-less
