@@ -3,8 +3,9 @@
 use mathlib.Core.Path.{_≡_, refl, sym, ap, _∙_}
 use mathlib.Core.List.{List}
 use mathlib.Core.Bool.{Bool, true, false, not}
-use Prim.Native.Nat.{ℕ, zero, suc, _-_, _^_, _≤_}
+use Prim.Native.Nat.{ℕ, zero, suc, _-_, _^_, _<_, _≤_}
 use native.Mathlib.Omega.{arith}
+use native.Mathlib.Numerals.{sub-one}
 use lib.Bits.{bitOr}
 use lib.Dec.{eqb, eqb·suc-suc}
 use borrow.Author.Tests.{eqb-true, eqb-false, eq-eqb, ne-eqb, not-true}
@@ -22,10 +23,13 @@ use Rattle.derivation.specs.Words.{usesAutomaton}
 use Rattle.derivation.specs.Attached.{automataOf, automataUpTo}
 use Rattle.derivation.proofs.Applying.{applies-numbered}
 
--- the bit of a credential from 1 on
+-- a number from 1 on has its place in a set one lower
+pub placed : {n c : ℕ} → Numbered n c → (c - 1 < n) × (suc (c - 1) ≡ c)
+placed there = (omega arith, omega arith)
+
 place : (c i : ℕ) → (c ≡ 0 → ⊥) → eqb (c - 1) i ≡ eqb c (suc i)
 place zero i h = absurd (h refl)
-place (suc c) i h = let e : suc c - 1 ≡ c = omega arith in rw (e, eqb·suc-suc c i)
+place (suc c) i h = rw (sub-one (suc c), eqb·suc-suc c i)
 
 -- where no credential is 0, the used set has those that were in it before and those that are named
 used-member : (f : Forest) → names f 0 ≡ false → (used i : ℕ) → inSet (usedFrom used f) i ≡ (inSet used i or names f (suc i))
@@ -57,54 +61,58 @@ module _ (t : List ℕ) (l : ℕ) (b gs : List Goal) (f : Forest) (d : Derives t
       go true e = absurd (let h = named-numbered d 0 e in omega arith)
       go false e = e
 
-  pub used-named : (c : ℕ) → 1 ≤ c → inSet (usedSet f) (c - 1) ≡ names f c
+  pub used-at : (i : ℕ) → inSet (usedSet f) i ≡ names f (suc i)
   unfolding usedSet _or_
-  used-named c h =
-      let next : suc (c - 1) ≡ c = omega arith in
-      used-member f none-named-0 0 (c - 1) ∙ rw (inSet-zero (c - 1), next)
+  used-at i = used-member f none-named-0 0 i ∙ rw (inSet-zero i)
 
--- the automata of a set of credentials
-module _ (t : List ℕ) (S k : ℕ) (first : 1 ≤ k) where
-  -- credential i + 1 is in the set and has automaton k
+  pub used-named : (c : ℕ) → names f c ≡ true → inSet (usedSet f) (c - 1) ≡ true
+  used-named c named = used-at (c - 1) ∙ rw (placed (named-numbered d c named) .1) named
+
+-- the automata of a set of credentials: automaton k + 1
+module _ (t : List ℕ) (S k : ℕ) where
+  -- credential i + 1 is in the set and has the automaton
   attaches : ℕ → Bool
-  attaches i = (inSet S i and not (eqb (credential t (suc i) .automaton) 0)) and eqb (credential t (suc i) .automaton - 1) (k - 1)
+  attaches i = (inSet S i and not (eqb (credential t (suc i) .automaton) 0)) and eqb (credential t (suc i) .automaton - 1) k
 
-  automata-any : (n : ℕ) → inSet (automataUpTo t S n) (k - 1) ≡ anyBelow attaches n
+  automata-any : (n : ℕ) → inSet (automataUpTo t S n) k ≡ anyBelow attaches n
   unfolding automataUpTo anyBelow attaches
-  automata-any zero = inSet-zero (k - 1)
-  automata-any (suc n) =
-      inSet-pick _ (automataUpTo t S n) (credential t (suc n) .automaton - 1) (k - 1) ∙ rw (automata-any n)
+  automata-any zero = inSet-zero k
+  automata-any (suc n) = inSet-pick _ (automataUpTo t S n) (credential t (suc n) .automaton - 1) k ∙ rw (automata-any n)
 
-  attaches-shows : (i : ℕ) → attaches i ≡ true → (inSet S i ≡ true) × (credential t (suc i) .automaton ≡ k)
+  attaches-shows : (i : ℕ) → attaches i ≡ true → (inSet S i ≡ true) × (credential t (suc i) .automaton ≡ suc k)
   unfolding attaches
   attaches-shows i h =
       let both = and-first _ _ h in
       let has = eqb-false (credential t (suc i) .automaton) 0 (not-true _ (and-second _ _ both)) in
-      (and-first _ _ both, omega (arith, eqb-true _ (k - 1) (and-second _ _ h)))
+      (and-first _ _ both, omega (arith, eqb-true _ k (and-second _ _ h)))
 
-  attaches-holds : (i : ℕ) → inSet S i ≡ true → credential t (suc i) .automaton ≡ k → attaches i ≡ true
+  attaches-holds : (i : ℕ) → inSet S i ≡ true → credential t (suc i) .automaton ≡ suc k → attaches i ≡ true
   unfolding attaches
   attaches-holds i member own =
       let has = ap not (ne-eqb (credential t (suc i) .automaton) 0 (λ z. omega arith)) in
-      and-both (and-both member has) (eq-eqb _ (k - 1) (omega arith))
+      and-both (and-both member has) (eq-eqb _ k (omega arith))
 
   -- an automaton in the set is attached to a credential of the set, and such a one is in it
-  pub automaton-shows : inSet (automataOf t S) (k - 1) ≡ true
-      → (i : ℕ) × Numbered (credentials t) i × (inSet S (i - 1) ≡ true) × (credential t i .automaton ≡ k)
+  pub automaton-shows : inSet (automataOf t S) k ≡ true
+      → (i : ℕ) × (i < credentials t) × (inSet S i ≡ true) × (credential t (suc i) .automaton ≡ suc k)
   unfolding automataOf
   automaton-shows h =
       let found = any-shows attaches (credentials t) (sym (automata-any (credentials t)) ∙ h) in
       let own = attaches-shows (found .0) (found .2) in
-      let e : suc (found .0) - 1 ≡ found .0 = omega arith in
-      (suc (found .0), record { first = omega arith; last = omega (arith, found .1) }, rw e (own .0), own .1)
+      (found .0, found .1, own .0, own .1)
 
-  pub automaton-reached : (i : ℕ) → Numbered (credentials t) i → inSet S (i - 1) ≡ true → credential t i .automaton ≡ k
-      → inSet (automataOf t S) (k - 1) ≡ true
+  pub automaton-reached : (i : ℕ) → i < credentials t → inSet S i ≡ true → credential t (suc i) .automaton ≡ suc k
+      → inSet (automataOf t S) k ≡ true
   unfolding automataOf
   automaton-reached i there member own =
-      let e : suc (i - 1) ≡ i = omega arith in
-      automata-any (credentials t)
-      ∙ any-reached attaches (credentials t) (i - 1) (omega arith) (attaches-holds (i - 1) member (rw e own))
+      automata-any (credentials t) ∙ any-reached attaches (credentials t) i there (attaches-holds i member own)
+
+-- the same by the numbers of credential and automaton
+pub automaton-imposed : (t : List ℕ) (S c : ℕ) {k : ℕ} → Numbered (credentials t) c → inSet S (c - 1) ≡ true
+    → credential t c .automaton ≡ suc k → inSet (automataOf t S) k ≡ true
+automaton-imposed t S c {k} there member own =
+    let at = placed there in
+    automaton-reached t S k (c - 1) (at .0) member (rw (at .1) own)
 
 -- a forest uses the automata of the credentials that it names
 module _ (t : List ℕ) (k : ℕ) where
@@ -132,18 +140,19 @@ module _ (t : List ℕ) (k : ℕ) where
 
 -- the automata of the used set are those that the forest uses
 module _ (t : List ℕ) (l : ℕ) (b gs : List Goal) (f : Forest) (d : Derives t l b gs f) (k : ℕ) (first : 1 ≤ k) where
+  next : suc (k - 1) ≡ k
+  next = omega arith
+
   imposed-used : inSet (automataOf t (usedSet f)) (k - 1) ≡ true → usesAutomaton t f k ≡ true
   imposed-used h =
-      let found = automaton-shows t (usedSet f) k first h in
-      let named = sym (used-named t l b gs f d (found .0) (found .1 .first)) ∙ found .2 in
-      uses-reached t k f (found .0) named (found .3)
+      let found = automaton-shows t (usedSet f) (k - 1) h in
+      uses-reached t k f (suc (found .0)) (sym (used-at t l b gs f d (found .0)) ∙ found .2) (found .3 ∙ next)
 
   used-imposed : usesAutomaton t f k ≡ true → inSet (automataOf t (usedSet f)) (k - 1) ≡ true
   used-imposed h =
       let found = uses-shows t k f h in
-      let own = named-numbered d (found .0) (found .1) in
-      let member = used-named t l b gs f d (found .0) (own .first) ∙ found .1 in
-      automaton-reached t (usedSet f) k first (found .0) own member (found .2)
+      let there = named-numbered d (found .0) (found .1) in
+      automaton-imposed t (usedSet f) (found .0) there (used-named t l b gs f d (found .0) (found .1)) (found .2 ∙ sym next)
 
   pub automata-used : inSet (automataOf t (usedSet f)) (k - 1) ≡ usesAutomaton t f k
   automata-used = same-test _ _ imposed-used used-imposed

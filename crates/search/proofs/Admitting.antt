@@ -5,6 +5,7 @@ use mathlib.Core.List.{List, []}
 use mathlib.Core.Bool.{true}
 use Prim.Native.Nat.{ℕ, suc, _-_, _^_, _<_}
 use native.Mathlib.Omega.{arith}
+use native.Mathlib.Numerals.{sub-one}
 use Rattle.sets.specs.Logic.{_and_}
 use Rattle.table.specs.Layout.{credential, credentials}
 use Rattle.table.specs.Holding.{WellFormed}
@@ -18,7 +19,7 @@ use Rattle.derivation.specs.Attached.{automataOf}
 use Rattle.derivation.specs.Accepted.{Accepted}
 use Rattle.search.specs.Search.{UsesOnly, provable}
 use Rattle.search.specs.Relevance.{Relevant}
-use Rattle.derivation.proofs.Using.{automaton-reached, automaton-shows, named-numbered, used-named}
+use Rattle.derivation.proofs.Using.{automaton-imposed, automaton-reached, automaton-shows, named-numbered, used-at, used-named}
 use Rattle.search.proofs.Searching.{AllAccept, provable-by, provable-exact}
 
 -- more credentials have no fewer automata
@@ -26,41 +27,32 @@ pub automata-mono : (t : List ℕ) (S S′ : ℕ) → part S S′ ≡ true → p
 automata-mono t S S′ more =
     part-shown (automataOf t S) (automataOf t S′)
     (λ k h.
-    let place : suc k - 1 ≡ k = omega arith in
-    let by = automaton-shows t S (suc k) (omega arith) (rw place h) in
-    let own = part-member S S′ (by .0 - 1) more (by .2) in
-    rw place at (automaton-reached t S′ (suc k) (omega arith) (by .0) (by .1) own (by .3)))
+    let by = automaton-shows t S k h in
+    automaton-reached t S′ k (by .0) (by .1) (part-member S S′ (by .0) more (by .2)) (by .3))
 
 module _ (t : List ℕ) {l : ℕ} {b gs : List Goal} {f : Forest} (d : Derives t l b gs f) where
   -- a credential of the used set is named
   used-shows : (i : ℕ) → inSet (usedSet f) i ≡ true → names f (suc i) ≡ true
-  used-shows i h =
-      let place : suc i - 1 ≡ i = omega arith in
-      sym (rw place at (used-named t l b gs f d (suc i) (omega arith))) ∙ h
+  used-shows i h = sym (used-at t l b gs f d i) ∙ h
 
   -- a forest uses only credentials of a set exactly where its used set is a part of it
   used-part : (S : ℕ) → UsesOnly f S → part (usedSet f) S ≡ true
-  used-part S only =
-      part-shown (usedSet f) S
-      (λ i h. let place : suc i - 1 ≡ i = omega arith in rw place at (only (suc i) (used-shows i h)))
+  used-part S only = part-shown (usedSet f) S (λ i h. rw sub-one at (only (suc i) (used-shows i h)))
 
   part-used : (S : ℕ) → part (usedSet f) S ≡ true → UsesOnly f S
-  part-used S among c named =
-      part-member (usedSet f) S (c - 1) among (used-named t l b gs f d c (named-numbered d c named .first) ∙ named)
+  part-used S among c named = part-member (usedSet f) S (c - 1) among (used-named t l b gs f d c named)
 
   -- a forest that complies meets every automaton of its used set, and one that meets every automaton of a set complies
   complies-accepts : Complies t f → AllAccept t (automataOf t (usedSet f)) (words t [] f)
   complies-accepts complies k h =
-      let place : suc k - 1 ≡ k = omega arith in
-      let by = automaton-shows t (usedSet f) (suc k) (omega arith) (rw place h) in
-      let named = sym (used-named t l b gs f d (by .0) (by .1 .first)) ∙ by .2 in
-      rw (by .3) at (complies (by .0) named (λ z. omega (arith, z, by .3)))
+      let by = automaton-shows t (usedSet f) k h in
+      rw (by .3) at (complies (suc (by .0)) (used-shows (by .0) (by .2)) (λ z. omega (arith, z, by .3)))
 
   accepts-complies : (S : ℕ) → UsesOnly f S → AllAccept t (automataOf t S) (words t [] f) → Complies t f
   accepts-complies S only all c named constrained =
       let k = credential t c .automaton in
       let next : suc (k - 1) ≡ k = omega arith in
-      rw next at (all (k - 1) (automaton-reached t S k (omega arith) c (named-numbered d c named) (only c named) refl))
+      rw next at (all (k - 1) (automaton-imposed t S c (named-numbered d c named) (only c named) (sym next)))
 
 -- the used set of an accepted record proves under all its automata, and a set that does has such a record's used set as a part
 pub accepted-provable : (t : List ℕ) → WellFormed t → (q : Query) (rec : List ℕ) (S : ℕ) → Accepted t q rec S

@@ -5,8 +5,7 @@ use mathlib.Core.Path.{_≡_, refl, sym, ap, _∙_}
 use mathlib.Core.List.{List, [], _∷_, map}
 use mathlib.Core.Bool.{true, not}
 use mathlib.Core.Option.{some}
-use Prim.Native.Nat.{ℕ, suc, _-_}
-use native.Mathlib.Omega.{arith}
+use Prim.Native.Nat.{ℕ, _-_}
 use lib.Bits.{bitOr}
 use borrow.Author.Tests.{eq-eqb, lt-ltb, ne-eqb}
 use Rattle.sets.specs.Logic.{_and_, pick}
@@ -25,6 +24,7 @@ use Rattle.derivation.specs.Forest.Derives.{done, step}
 use Rattle.search.specs.Search.{UsesOnly}
 use Rattle.search.specs.Relevance.{Productive, Reached, Relevant, allDefined, definers, linkedRoles, meant, rolesAsked, withDefiners}
 use Rattle.derivation.proofs.Applying.{applies-numbered, applies-role}
+use Rattle.derivation.proofs.Using.{placed}
 use Rattle.derivation.proofs.Ruling.{Rule, rule-applied}
 use Rattle.derivation.proofs.Ruling.Rule.{membership, containment, linking, intersection}
 use Rattle.search.proofs.Within.{only-below, only-end, only-here, only-later, only-node}
@@ -92,9 +92,9 @@ definers-has : (t : List ℕ) (P c : ℕ) (r : Role) → Numbered (credentials t
     → meant r (credential t c .role) ≡ true → inSet (definers t P r) (c - 1) ≡ true
 unfolding definers
 definers-has t P c r there inside means =
-    let e : suc (c - 1) ≡ c = omega arith in
+    let at = placed there in
     setOf-members _ (credentials t) (c - 1)
-    ∙ and-both (lt-ltb (c - 1) (credentials t) (omega arith)) (and-both inside (rw e means))
+    ∙ and-both (lt-ltb (c - 1) (credentials t) (at .0)) (and-both inside (rw (at .1) means))
 
 -- goals each of whose roles is defined by a credential of P
 data Rooted (t : List ℕ) (P : ℕ) : List Goal → Type 0 where
@@ -117,10 +117,9 @@ module _ (t : List ℕ) (S P : ℕ) (all : Productive t S P) where
   productive-own : (g : Goal) (c m : ℕ) (goals : List Goal) → premises t g c m ≡ some goals → inSet S (c - 1) ≡ true
       → Rooted t P goals → inSet P (c - 1) ≡ true
   productive-own g c m goals applies own roots =
-      let there = applies-numbered t g c m goals applies in
-      let place : suc (c - 1) ≡ c = omega (arith, there .first) in
+      let at = placed (applies-numbered t g c m goals applies) in
       let defined = rooted-defined t P (premises-meant t g c m goals applies) roots in
-      all (c - 1) (omega (arith, there .first, there .last)) own (rw place defined)
+      all (c - 1) (at .0) own (rw (at .1) defined)
 
   productive-roots : {l : ℕ} {b gs : List Goal} {f : Forest} → Derives t l b gs f → UsesOnly f S → UsesOnly f P × Rooted t P gs
   productive-roots done uses = (only-end P, bare)
@@ -172,8 +171,8 @@ module _ (t : List ℕ) (P R : ℕ) (all : Reached t P R) where
   asked-reached : (c : ℕ) → Numbered (credentials t) c → inSet R (c - 1) ≡ true
       → part (withDefiners t P 0 (rolesAsked t (credential t c))) R ≡ true
   asked-reached c there own =
-      let place : suc (c - 1) ≡ c = omega (arith, there .first) in
-      rw place at (all (c - 1) (omega (arith, there .first, there .last)) own)
+      let at = placed there in
+      rw (at .1) at (all (c - 1) (at .0) own)
 
   reached-covers : {l : ℕ} {b gs : List Goal} {f : Forest} → Derives t l b gs f → UsesOnly f P → {roles : List Role}
       → Means roles gs → (x : ℕ) → part (withDefiners t P x roles) R ≡ true → UsesOnly f R

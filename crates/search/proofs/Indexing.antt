@@ -5,7 +5,7 @@ use mathlib.Core.Bool.{Bool, true, false, not}
 use Prim.Native.Nat.{ℕ, zero, suc, _+_, _-_, _*_, _/_, _%_, _≤_, _<_}
 use native.Mathlib.Omega.{arith}
 use native.Mathlib.Decide.{ℕ-discrete}
-use native.Mathlib.Numerals.{add-one}
+use native.Mathlib.Numerals.{add-one, sub-one}
 use lib.Bits.{bitAnd, bitOr}
 use lib.Dec.{eqb, ltb}
 use lib.ListN.{getD, length, length-map, set, take}
@@ -104,8 +104,7 @@ module _ (t : List ℕ) (c : Credential) (held : Chain) (asking : Asking t c hel
   cell-role zero d later within = absurd (later refl)
   cell-role (suc k) d later within =
       let there : k < held .len = omega arith in
-      let e : suc k - 1 ≡ k = omega arith in
-      rw (asked-length, lt-ltb k (held .len) there, e)
+      rw (asked-length, lt-ltb k (held .len) there, sub-one)
       (ap (definers t everyCredential)
       (getD-there (held .roles) k d (role 0 0) (omega (arith, asking .few, asking .room))
       ∙ sym (getD-take (held .len) (held .roles) k (role 0 0) there)

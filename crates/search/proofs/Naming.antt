@@ -4,7 +4,7 @@ use mathlib.Core.Path.{_≡_, refl}
 use mathlib.Core.List.{List, [], _∷_, map}
 use mathlib.Core.Bool.{Bool, true, false}
 use mathlib.Core.Option.{some}
-use Prim.Native.Nat.{ℕ, suc, _-_, _≤_}
+use Prim.Native.Nat.{ℕ, _-_, _≤_}
 use native.Mathlib.Omega.{arith}
 use lib.Dec.{eqb}
 use borrow.Author.Tests.{eq-eqb, eqb-true}
@@ -23,6 +23,7 @@ use Rattle.derivation.specs.Forest.{Derives, Forest}
 use Rattle.derivation.specs.Forest.Derives.{done, step}
 use Rattle.derivation.proofs.Applying.{applies-numbered, some-parts}
 use Rattle.search.specs.Search.{UsesOnly, isMember, tries}
+use Rattle.derivation.proofs.Using.{placed}
 use Rattle.derivation.proofs.Ruling.{Rule, rule-applied}
 use Rattle.derivation.proofs.Ruling.Rule.{membership, containment, linking, intersection}
 use Rattle.search.proofs.Within.{only-below, only-here, only-later}
@@ -53,9 +54,8 @@ named-by : (t : List ℕ) (S c p : ℕ) → Numbered (credentials t) c → inSet
     → credential t c .first ≡ p → isMember t S (credentials t) p ≡ true
 unfolding isMember
 named-by t S c p there own one named =
-    let next : suc (c - 1) ≡ c = omega (arith, there .first) in
-    any-reached _ (credentials t) (c - 1) (omega (arith, there .first, there .last))
-    (and-both own (rw next (and-both (eq-eqb _ 1 one) (eq-eqb _ _ named))))
+    let at = placed there in
+    any-reached _ (credentials t) (c - 1) (at .0) (and-both own (rw (at .1) (and-both (eq-eqb _ 1 one) (eq-eqb _ _ named))))
 
 -- a credential of the set that applies to a goal: where all whom it asks for are named, so are the goal's principal and the middle
 module _ (t : List ℕ) (wf : WellFormed t) (S : ℕ) (g : Goal) (c m : ℕ) (goals : List Goal) (there : Numbered (credentials t) c)

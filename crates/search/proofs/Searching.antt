@@ -7,6 +7,7 @@ use mathlib.Core.Option.{Option, none, some}
 use mathlib.Core.Logic.{_↔_}
 use Prim.Native.Nat.{ℕ, zero, suc, _-_, _≤_, _<_}
 use native.Mathlib.Omega.{arith}
+use native.Mathlib.Numerals.{sub-one}
 use native.Mathlib.Decide.{decLt}
 use lib.ListN.{length}
 use lib.Dec.{eqb}
@@ -34,6 +35,7 @@ use Rattle.derivation.specs.Words.{acceptsAll, words}
 use Rattle.search.specs.Search.{Provable, UsesOnly, everyGoal, mayUse, provable, provedPremises, proves, provesBy, tries}
 use Rattle.derivation.proofs.Applying.{applies-numbered, applies-role, asks-more, picked}
 use Rattle.derivation.proofs.Ruling.{asks-nothing}
+use Rattle.derivation.proofs.Using.{placed}
 use Rattle.derivation.proofs.Running.{accepting-member, accepts-all-append, sets-after-next, sets-after-none, setsAfter}
 use Rattle.search.proofs.Naming.{middle-tried}
 use Rattle.search.proofs.Within.{only-below, only-here, only-later, only-node}
@@ -52,8 +54,7 @@ accepting-exact t wf word k = go (decLt k (automata t))
   where
     go : Dec (k < automata t) → inSet (acceptingSet t (setsAfter t word)) k ≡ accepts t (suc k) word
     go (yes there) =
-        let place : suc k - 1 ≡ k = omega arith in
-        rw place at (accepting-member t (suc k) (record { first = omega arith; last = there }) (wf .sized .counted .fewAutomata) word)
+        rw sub-one at (accepting-member t (suc k) (record { first = omega arith; last = there }) (wf .sized .counted .fewAutomata) word)
     go (no beyond) =
         setOf-members _ (automata t) k ∙ rw (le-ltb k (automata t) (omega arith), rejects-all t k word (omega arith))
 
@@ -203,11 +204,11 @@ module _ (t : List ℕ) (wf : WellFormed t) (S A : ℕ) where
   unfolding proves provesBy mayUse provedPremises premises
   proves-through levels branch s g c m goals applies new own (tried, few) below =
       let there = applies-numbered t g c m goals applies in
-      let next : suc (c - 1) ≡ c = omega (arith, there .first) in
+      let at = placed there in
       let defines = and-second _ _ (picked _ _ goals applies .0) in
       and-both new
-      (any-reached _ (credentials t) (c - 1) (omega (arith, there .first, there .last))
-      (rw next
+      (any-reached _ (credentials t) (c - 1) (at .0)
+      (rw (at .1)
       (and-both (and-both own defines) (any-reached _ (suc mostPrincipals) m (omega arith) (and-both tried (rw applies below))))))
 
   -- where every automaton of A accepts a node's words, the search accepts what the node asks

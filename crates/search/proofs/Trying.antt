@@ -5,14 +5,13 @@ use mathlib.Core.Bool.{Bool, true, false}
 use mathlib.Core.Option.{some}
 use Prim.Native.Nat.{ℕ, zero, suc, _+_, _-_, _<_, _≤_}
 use native.Mathlib.Omega.{arith}
-use native.Mathlib.Numerals.{add-one}
+use native.Mathlib.Numerals.{add-one, sub-one}
 use lib.ListN.{getD, length, take}
 use lib.Seq.{length-take-le}
 use lib.Bits.{bitAnd}
 use lib.Dec.{eqb}
 use borrow.Author.Tests.{eqb-true, ne-eqb}
 use Rattle.sets.specs.Logic.{_and_, anyBelow, pick}
-use Rattle.table.specs.Limits.{mostDepth}
 use Rattle.table.specs.Layout.{credential, credentials, principal, sameRole}
 use Rattle.table.specs.declared.Credential.{Credential}
 use Rattle.table.specs.declared.Goal.{Goal}
@@ -22,17 +21,11 @@ use Rattle.sets.specs.Sets.{inSet, part}
 use Rattle.automata.specs.Together.{acceptingSet, movedSets, startingSets}
 use Rattle.automata.specs.declared.StateSets.{StateSets}
 use Rattle.derivation.specs.Rules.{fresh, goal, goalOf}
-use Rattle.derivation.specs.Held.{Room, noGoal}
+use Rattle.derivation.specs.Held.{noGoal}
 use Rattle.derivation.proofs.Applying.{same-role}
 use Rattle.search.specs.Search.{askedBefore, everyGoal, mayUse, provable, provedPremises, proves, provesBy, sameGoal}
 
 -- the goals that a credential asks
-
-pub room-for : {most len i : ℕ} {goals : List Goal} → Room most len goals → i < len → i < length goals
-room-for room l = omega (arith, room .fits, room .size)
-
-pub room-all : {most len : ℕ} {goals : List Goal} → Room most len goals → len ≤ length goals
-room-all room = omega (arith, room .fits, room .size)
 
 pub same-goal : (g h : Goal) → sameGoal g h ≡ true → g ≡ h
 unfolding sameGoal
@@ -135,12 +128,6 @@ module _ (t : List ℕ) (S : ℕ) (one : Goal → Bool) (word : Bool) (g : Goal)
         → anyBelow (provesAt t S one word g) (i + 1) ≡ false
     unproved-next e not-by = any-next (provesAt t S one word g) i before (and-none _ (rw (add-one i) at (sym e ∙ not-by)))
 
--- a goal one level further down
-
--- so many levels left still fit below a branch that is one goal longer
-pub one-deeper : (len len′ levels : ℕ) → (levels ≡ 0 → ⊥) → len′ ≡ len + 1 → len + levels ≤ mostDepth → len′ + (levels - 1) ≤ mostDepth
-one-deeper len len′ levels some-left longer fits = omega arith
-
 -- a goal has been entered: a level is left, it is new on the branch, and the branch and the state sets are one step on
 pub record Entered (t : List ℕ) (levels : ℕ) (branch branch′ : List Goal) (s s′ : StateSets) (g : Goal) : Type 0 where
   pub left : levels ≡ 0 → ⊥
@@ -154,7 +141,7 @@ step-down : (t : List ℕ) (S A levels : ℕ) (branch : List Goal) (s : StateSet
     (fresh branch g and anyBelow (provesAt t S one (part A (acceptingSet t below)) g) (credentials t)) ≡ proves t S A levels branch s g
 unfolding proves
 step-down t S A zero branch s g some-left = absurd (some-left refl)
-step-down t S A (suc l) branch s g some-left = let e : suc l - 1 ≡ l = omega arith in rw e refl
+step-down t S A (suc l) branch s g some-left = rw (sub-one (suc l))
 
 module _ (t : List ℕ) (S A levels : ℕ) (branch : List Goal) (s : StateSets) (g : Goal) where
   pub level-none : levels ≡ 0 → false ≡ proves t S A levels branch s g

@@ -4,13 +4,13 @@ use Prim.Native.Nat.{ℕ, _*_, _+_, _-_, _<_, _≤_}
 use Rattle.automata.specs.Together.{acceptingSet}
 use Rattle.sets.specs.Sets.{part}
 use Rattle.search.proofs.Middles.{AtMiddle, middle-found, middle-next, middle-over, middle-starts, proved-given, proved-none}
-use Rattle.search.proofs.Trying.{Entered, every-asked, every-more, goal-again, goal-decided, level-none, one-deeper, proved-all, proved-not, proves-here, provesAt, room-all, room-for, unproved-next, unused-next, word-proved}
-use Rattle.derivation.specs.Held.{Room, above}
+use Rattle.search.proofs.Trying.{Entered, every-asked, every-more, goal-again, goal-decided, level-none, proved-all, proved-not, proves-here, provesAt, unproved-next, unused-next, word-proved}
+use Rattle.derivation.specs.Held.{above}
 use Rattle.search.specs.Search.{everyGoal, proves}
 use Rattle.sets.proofs.Tests.{any-all, failed, passed}
-use Rattle.table.specs.Limits.{mostParts, mostPrincipals}
+use Rattle.table.specs.Limits.{mostPrincipals}
 use Rattle.sets.specs.Logic.{anyBelow}
-use lib.ListN.{take}
+use lib.ListN.{length, take}
 use mathlib.Core.Bool.{false, true}
 use mathlib.Core.Logic.{⊎-elim}
 use denote.Ref.{now}
@@ -133,17 +133,13 @@ premises-search-claims t = (
   goal-search.Post,
 )
 
--- a place of `credential_search`, or a need, where its measure is t; and what it needs, whatever its measure is
-abbrev credential-search-place :
-    (credential-search-lts.Claims → In 1 credential-search-kinds.ps → Out 1 credential-search-kinds.ps credential-search-kinds.r
-    → credential-search-lts.InvT-loop → credential-search-lts.MeasureT-loop → Type 0) → ℕ → Type 0
-credential-search-place place t =
-    place (credential-search-claims t) (credential-search-at t) credential-search.Post credential-search-Inv-loop credential-search-μ-loop
-
+-- what `credential_search` needs, whatever its measure is
 abbrev credential-search-needs :
     (credential-search-lts.Claims → In 1 credential-search-kinds.ps → Out 1 credential-search-kinds.ps credential-search-kinds.r
     → credential-search-lts.InvT-loop → credential-search-lts.MeasureT-loop → Type 0) → Type 0
-credential-search-needs need = (t : ℕ) → credential-search-place need t
+credential-search-needs need =
+    (t : ℕ)
+    → need (credential-search-claims t) (credential-search-at t) credential-search.Post credential-search-Inv-loop credential-search-μ-loop
 
 credential-search-next-middle-requires : credential-search-needs credential-search-lts.Need-next-middle-requires
 credential-search-next-middle-requires t c κs = search needs
@@ -246,7 +242,7 @@ goal-search-with-requires : goal-search-needs goal-search-lts.Need-with-requires
 goal-search-with-requires t c κs = search needs
 
 goal-search-credentials-requires : goal-search-needs goal-search-lts.Need-credentials-requires
-goal-search-credentials-requires t c = search needs
+goal-search-credentials-requires t c κs = search needs
 
 goal-search-loop-holds : goal-search-needs goal-search-lts.Need-loop-holds
 unfolding anyBelow
@@ -269,15 +265,15 @@ goal-search-credential-search-requires t c κs =
     let at = goal-search-behind t (c .before .before) in
     let pre = goal-search-start t at .pre in
     let left = goal-search-entered t at .left in
-    let fits = one-deeper _ _ _ left (at .with .ensures .1 .0) (pre .1 .1 .1) in
-    (omega (arith, pre .0, left), (pre .1 .0, ((at .with .ensures .0, fits), omega arith)))
+    (omega (arith, pre .0, left), (pre .1 .0, ((at .with .ensures .0, omega (arith, pre .1 .1 .1, left)), omega arith)))
 
 goal-search-returns-3 : goal-search-needs goal-search-lts.Need-returns-3
 goal-search-returns-3 t c =
     let at = c .before .before .before .before in
     let may-use = c .before .before .before .may-use .ensures in
     goal-decided _ _ _ _ _ _ _ _ _ (goal-search-entered t (goal-search-behind t at))
-    (proves-here _ _ _ _ _ _ may-use _ (omega arith) (c .before .before .if3 .taken) (c .before .credential-search .ensures) (c .if4 .taken))
+    (proves-here _ _ _ _ _ _ may-use _ (omega arith) (c .before .before .if3 .taken)
+    (c .before .credential-search .ensures) (c .if4 .taken))
 
 goal-search-add-i : goal-search-needs goal-search-lts.Need-add-i
 goal-search-add-i t c = search needs
@@ -307,23 +303,12 @@ premises-search-Inv-loop table terms levels states branch premises len i₀ i =
 abbrev premises-search-μ-loop : premises-search-lts.MeasureT-loop
 premises-search-μ-loop table terms levels states branch premises len i₀ i = len - i
 
--- a place of `premises_search`, or a need, where its measure is t; and what it needs, whatever its measure is
-abbrev premises-search-place :
-    (premises-search-lts.Claims → In 1 premises-search-kinds.ps → Out 1 premises-search-kinds.ps premises-search-kinds.r
-    → premises-search-lts.InvT-loop → premises-search-lts.MeasureT-loop → Type 0) → ℕ → Type 0
-premises-search-place place t =
-    place (premises-search-claims t) (premises-search-at t) premises-search.Post premises-search-Inv-loop premises-search-μ-loop
-
+-- what `premises_search` needs, whatever its measure is
 abbrev premises-search-needs :
     (premises-search-lts.Claims → In 1 premises-search-kinds.ps → Out 1 premises-search-kinds.ps premises-search-kinds.r
     → premises-search-lts.InvT-loop → premises-search-lts.MeasureT-loop → Type 0) → Type 0
-premises-search-needs need = (t : ℕ) → premises-search-place need t
-
--- where the goals are looked at, there is room for all of them
-premises-search-room : (t : ℕ) (at : premises-search-place premises-search-lts.At-loop t)
-    → let held = at .before .before .before .args .t3 in
-    Room mostParts (held .len) (held .goals)
-premises-search-room t at = at .before .before .before .pre .1 .1 .1
+premises-search-needs need =
+    (t : ℕ) → need (premises-search-claims t) (premises-search-at t) premises-search.Post premises-search-Inv-loop premises-search-μ-loop
 
 premises-search-accepting-requires : premises-search-needs premises-search-lts.Need-accepting-requires
 premises-search-accepting-requires t c κs = search needs
@@ -351,7 +336,7 @@ premises-search-returns-2 : premises-search-needs premises-search-lts.Need-retur
 premises-search-returns-2 t c =
     let at = c .before .before .before .before .before in
     let unproved = failed (c .before .goal-search .ensures) (c .if3 .taken) in
-    proved-not _ _ _ _ (at .before .before .if1 .left) (room-all (premises-search-room t (at .before))) _ (at .loop-test .taken) unproved
+    proved-not _ _ _ _ (at .before .before .if1 .left) (omega arith) _ (at .loop-test .taken) unproved
 
 premises-search-add-i : premises-search-needs premises-search-lts.Need-add-i
 premises-search-add-i t c = search needs
@@ -361,9 +346,9 @@ premises-search-loop-less t c = search needs
 
 premises-search-loop-again : premises-search-needs premises-search-lts.Need-loop-again
 premises-search-loop-again t c =
-    let at = c .before .before in
-    let so-far = at .before .loop .inv .1 in
-    let there = room-for (premises-search-room t (at .before)) (at .loop-test .taken) in (
+    let at = c .before .before .before in
+    let so-far = at .loop .inv .1 in
+    let there : at .loop .i < length (at .before .before .before .args .t3 .goals) = omega arith in (
       omega arith,
       ⊎-elim (λ way. every-more _ _ _ there so-far (passed (way .2 .ensures) (way .3 .left)))
           (λ way. every-asked _ _ _ there so-far (passed (c .before .is-asked-before .ensures) (way .left))) (c .if2 .came),
@@ -372,8 +357,7 @@ premises-search-loop-again t c =
 premises-search-returns-3 : premises-search-needs premises-search-lts.Need-returns-3
 premises-search-returns-3 t c =
     let loop = c .before .loop in
-    proved-all _ _ _ _ (c .before .before .if1 .left) (room-all (premises-search-room t (c .before))) (loop .i)
-    (omega arith) (loop .inv .1)
+    proved-all _ _ _ _ (c .before .before .if1 .left) (omega arith) (loop .i) (omega arith) (loop .inv .1)
 
 pub +credential-search+goal-search+premises-search-spec : {M : Type 1} → statement M
 +credential-search+goal-search+premises-search-spec =

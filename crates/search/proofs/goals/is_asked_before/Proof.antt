@@ -17,24 +17,20 @@ abbrev μ-loop : tie.MeasureT-loop
 μ-loop i premises goal j₀ j = i - j
 
 mul-goal : tie.Need-mul-goal Inv-loop μ-loop
-mul-goal c = omega (arith, c .pre .0 .fits, c .pre .0 .size, c .pre .1)
+mul-goal c = search needs
 
 element-copy-out-goal : tie.Need-element-copy-out-goal Inv-loop μ-loop
-element-copy-out-goal c = omega (arith, c .pre .0 .fits, c .pre .0 .size, c .pre .1)
+element-copy-out-goal c = search needs
 
 loop-holds : tie.Need-loop-holds Inv-loop μ-loop
 unfolding anyBelow
 loop-holds c = (omega arith, refl)
 
 mul-same-goal : tie.Need-mul-same-goal Inv-loop μ-loop
-mul-same-goal c =
-    let pre = c .before .before .before .pre in
-    omega (arith, pre .0 .fits, pre .0 .size, pre .1)
+mul-same-goal c = search needs
 
 element-copy-out-same-goal : tie.Need-element-copy-out-same-goal Inv-loop μ-loop
-element-copy-out-same-goal c =
-    let pre = c .before .before .before .pre in
-    omega (arith, pre .0 .fits, pre .0 .size, pre .1, c .before .loop .inv .0)
+element-copy-out-same-goal c = search needs
 
 same-goal-requires : tie.Need-same-goal-requires Inv-loop μ-loop
 same-goal-requires c κs = search needs
@@ -45,10 +41,10 @@ returns c =
     asked-here _ _ _ (loop-test .taken) (sym (c .before .same-goal .ensures) ∙ c .if1 .taken)
 
 add-j : tie.Need-add-j Inv-loop μ-loop
-add-j c = omega arith
+add-j c = search needs
 
 loop-less : tie.Need-loop-less Inv-loop μ-loop
-loop-less c = omega arith
+loop-less c = search needs
 
 loop-again : tie.Need-loop-again Inv-loop μ-loop
 loop-again c =

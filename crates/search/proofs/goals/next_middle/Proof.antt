@@ -19,13 +19,17 @@ credential-requires : tie.Need-credential-requires Inv-loop μ-loop
 credential-requires c κs = search needs
 
 returns : tie.Need-returns Inv-loop μ-loop
-returns c = middle-first _ _ _ _ _ (c .before .before .before .credential .ensures) (c .before .if1 .taken) (c .if2 .taken)
+returns c =
+    let read = c .before .before .before .credential .ensures in
+    middle-first _ _ _ _ _ read (c .before .if1 .taken) (c .if2 .taken)
 
 add-result : tie.Need-add-result Inv-loop μ-loop
 add-result c = search needs
 
 returns-2 : tie.Need-returns-2 Inv-loop μ-loop
-returns-2 c = middle-none _ _ _ _ _ (c .before .before .before .credential .ensures) (c .before .if1 .taken) (c .if2 .left) (c .before .before .before .before .before .pre .1 .1)
+returns-2 c =
+    let read = c .before .before .before .credential .ensures in
+    middle-none _ _ _ _ _ read (c .before .if1 .taken) (c .if2 .left) (omega arith)
 
 credentials-requires : tie.Need-credentials-requires Inv-loop μ-loop
 credentials-requires c κs = search needs
@@ -34,7 +38,7 @@ add-least : tie.Need-add-least Inv-loop μ-loop
 add-least c = search needs
 
 loop-holds : tie.Need-loop-holds Inv-loop μ-loop
-loop-holds c = (omega arith, nearest-none _ _ _ (c .before .before .before .before .before .pre .1 .1))
+loop-holds c = (omega arith, nearest-none _ _ _ (omega arith))
 
 has-requires : tie.Need-has-requires Inv-loop μ-loop
 has-requires c κs = search needs
@@ -65,8 +69,9 @@ loop-again c =
 
 returns-3 : tie.Need-returns-3 Inv-loop μ-loop
 returns-3 c =
-    let loop = c .before .loop in
-    middle-linking _ _ _ _ _ (c .before .before .before .before .before .credential .ensures) _ _ (c .before .before .before .if1 .left) (omega arith) (loop .inv .1)
+    let linking = c .before .before .before in
+    let read = linking .before .before .credential .ensures in
+    middle-linking _ _ _ _ _ read _ _ (linking .if1 .left) (omega arith) (c .before .loop .inv .1)
 
 pub next-middle-spec : {M : Type 1} → statement M
 next-middle-spec =

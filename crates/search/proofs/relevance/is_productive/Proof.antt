@@ -21,44 +21,32 @@ abbrev μ-loop : tie.MeasureT-loop
 μ-loop index set i at len k₀ k = len - k
 
 mul-at : tie.Need-mul-at Inv-loop μ-loop
-mul-at c = omega (arith, c .pre .there)
+mul-at c = search needs
 
 mul-len : tie.Need-mul-len Inv-loop μ-loop
-mul-len c = omega (arith, c .pre .there)
+mul-len c = search needs
 
 shared-slice-read-len : tie.Need-shared-slice-read-len Inv-loop μ-loop
-shared-slice-read-len c =
-    let place = c .before .pre in
-    omega (arith, place .room, place .there, place .few)
+shared-slice-read-len c = search needs
 
 cast-len : tie.Need-cast-len Inv-loop μ-loop
-cast-len c =
-    let place = c .before .pre in
-    omega (arith, place .room, place .there, place .few)
+cast-len c = search needs
 
 loop-holds : tie.Need-loop-holds Inv-loop μ-loop
 unfolding anyBelow
 loop-holds c = (omega arith, refl)
 
 add-if1 : tie.Need-add-if1 Inv-loop μ-loop
-add-if1 c =
-    let place = c .before .before .before .pre in
-    omega (arith, place .room, place .there, place .few)
+add-if1 c = search needs
 
 add-if1-2 : tie.Need-add-if1-2 Inv-loop μ-loop
-add-if1-2 c =
-    let place = c .before .before .before .pre in
-    omega (arith, place .room, place .there, place .few)
+add-if1-2 c = search needs
 
 mul-if1 : tie.Need-mul-if1 Inv-loop μ-loop
-mul-if1 c =
-    let place = c .before .before .before .pre in
-    omega (arith, place .room, place .there, place .few)
+mul-if1 c = search needs
 
 shared-slice-read-if1 : tie.Need-shared-slice-read-if1 Inv-loop μ-loop
-shared-slice-read-if1 c =
-    let place = c .before .before .before .before .pre in
-    omega (arith, place .room, place .there, place .few)
+shared-slice-read-if1 c = search needs
 
 returns : tie.Need-returns Inv-loop μ-loop
 unfolding allMet

@@ -7,6 +7,7 @@ use Rattle.sets.specs.Sets.{part}
 use Rattle.sets.proofs.Members.{part-zero}
 use Rattle.search.specs.Relevance.{Productive, Round}
 use Rattle.search.proofs.Gathering.{round-less}
+use borrow.Author.Needs.{needs}
 use Rattle.search.proofs.relevance.productive.Statement.{statement}
 use Rattle.search.proofs.relevance.productive.Tie as tie
 
@@ -18,13 +19,13 @@ abbrev μ-loop : tie.MeasureT-loop
 μ-loop table index allowed set₀ next₀ set next = allowed - set
 
 more-productive-requires : tie.Need-more-productive-requires Inv-loop μ-loop
-more-productive-requires c κs = c .before .before .pre
+more-productive-requires c κs = search needs
 
 loop-holds : tie.Need-loop-holds Inv-loop μ-loop
 loop-holds c = (part-zero _, c .more-productive .ensures)
 
 more-productive-requires-2 : tie.Need-more-productive-requires-2 Inv-loop μ-loop
-more-productive-requires-2 c κs = c .before .before .before .before .before .pre
+more-productive-requires-2 c κs = search needs
 
 loop-less : tie.Need-loop-less Inv-loop μ-loop
 loop-less c =

@@ -8,6 +8,7 @@ use Rattle.sets.proofs.Members.{part-refl, part-trans}
 use Rattle.search.specs.Relevance.{Reached, Round}
 use Rattle.search.proofs.Bearing.{definers-among}
 use Rattle.search.proofs.Gathering.{round-less}
+use borrow.Author.Needs.{needs}
 use Rattle.search.proofs.relevance.reachable.Statement.{statement}
 use Rattle.search.proofs.relevance.reachable.Tie as tie
 
@@ -19,16 +20,16 @@ abbrev μ-loop : tie.MeasureT-loop
 μ-loop table index productive set₀ next₀ set next = productive - set
 
 defining-requires : tie.Need-defining-requires Inv-loop μ-loop
-defining-requires c κs = c .before .before .pre .0
+defining-requires c κs = search needs
 
 more-reachable-requires : tie.Need-more-reachable-requires Inv-loop μ-loop
-more-reachable-requires c κs = c .before .before .before .pre
+more-reachable-requires c κs = search needs
 
 loop-holds : tie.Need-loop-holds Inv-loop μ-loop
 loop-holds c = (rw (c .before .defining .ensures) (definers-among _ _ _), part-refl _, c .more-reachable .ensures)
 
 more-reachable-requires-2 : tie.Need-more-reachable-requires-2 Inv-loop μ-loop
-more-reachable-requires-2 c κs = c .before .before .before .before .before .before .pre
+more-reachable-requires-2 c κs = search needs
 
 loop-less : tie.Need-loop-less Inv-loop μ-loop
 loop-less c =

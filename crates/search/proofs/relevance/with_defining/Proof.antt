@@ -17,44 +17,32 @@ abbrev μ-loop : tie.MeasureT-loop
 μ-loop index set reached i at len more₀ k₀ more k = len - k
 
 mul-at : tie.Need-mul-at Inv-loop μ-loop
-mul-at c = omega (arith, c .pre .there)
+mul-at c = search needs
 
 mul-len : tie.Need-mul-len Inv-loop μ-loop
-mul-len c = omega (arith, c .pre .there)
+mul-len c = search needs
 
 shared-slice-read-len : tie.Need-shared-slice-read-len Inv-loop μ-loop
-shared-slice-read-len c =
-    let place = c .before .pre in
-    omega (arith, place .room, place .there, place .few)
+shared-slice-read-len c = search needs
 
 cast-len : tie.Need-cast-len Inv-loop μ-loop
-cast-len c =
-    let place = c .before .pre in
-    omega (arith, place .room, place .there, place .few)
+cast-len c = search needs
 
 loop-holds : tie.Need-loop-holds Inv-loop μ-loop
 unfolding withMetTo
 loop-holds c = (omega arith, refl)
 
 add-more : tie.Need-add-more Inv-loop μ-loop
-add-more c =
-    let place = c .before .before .before .pre in
-    omega (arith, place .room, place .there, place .few)
+add-more c = search needs
 
 add-more-2 : tie.Need-add-more-2 Inv-loop μ-loop
-add-more-2 c =
-    let place = c .before .before .before .pre in
-    omega (arith, place .room, place .there, place .few)
+add-more-2 c = search needs
 
 mul-more : tie.Need-mul-more Inv-loop μ-loop
-mul-more c =
-    let place = c .before .before .before .pre in
-    omega (arith, place .room, place .there, place .few)
+mul-more c = search needs
 
 shared-slice-read-more : tie.Need-shared-slice-read-more Inv-loop μ-loop
-shared-slice-read-more c =
-    let place = c .before .before .before .before .pre in
-    omega (arith, place .room, place .there, place .few)
+shared-slice-read-more c = search needs
 
 add-k : tie.Need-add-k Inv-loop μ-loop
 add-k c = search needs
