@@ -29,19 +29,13 @@ module _ {before after : List ℕ} {at next : ℕ} (n : ℕ) where
   unfolding line
   put-ended p q = put-then p q
 
-pub line-length : (n : ℕ) → length (line n) ≡ length (decimal n) + 1
-unfolding line
-line-length n = length-append (decimal n) (ascii "\n")
-
--- a line of a number of 32 bits; the digits and the line of one of 64
-pub line-short : (n : ℕ) → n < 2 ^ 32 → length (line n) ≤ 11
-line-short n h = omega (arith, line-length n, decimal-short 9 n (omega arith))
-
+-- how many digits a number of 64 bits has, and how long the line of one of 32 bits is
 pub decimal-long : (n : ℕ) → Fits w64 n → length (decimal n) ≤ 20
 decimal-long n h = decimal-short 19 n (omega arith)
 
-pub line-long : (n : ℕ) → Fits w64 n → length (line n) ≤ 21
-line-long n h = omega (arith, line-length n, decimal-long n h)
+pub line-short : (n : ℕ) → n < 2 ^ 32 → length (line n) ≤ 11
+unfolding line
+line-short n h = omega (arith, length-append (decimal n) (ascii "\n"), decimal-short 9 n (omega arith))
 
 lines-append : (s t : List ℕ) → lines (s ++ t) ≡ lines s ++ lines t
 unfolding lines
@@ -55,7 +49,7 @@ lines-one x = append-nil (line x)
 -- one line after the other
 pub lines-none : (before s : List ℕ) → Put before 0 (lines (take 0 s)) before 0
 unfolding lines
-lines-none before s = put-none before 0
+lines-none before s = put-none before 0 (omega arith)
 
 pub lines-next : {before between after : List ℕ} {at next : ℕ} (s : List ℕ) (i : ℕ) → Put before 0 (lines (take i s)) between at
     → i < length s → Put between at (line (getD s i 0)) after next → Put before 0 (lines (take (i + 1) s)) after next

@@ -7,7 +7,7 @@ ghost use Prim.Native.Nat.{_+_, _*_, _<_, _≤_};
 ghost use lib.ListN.{length};
 ghost use Rattle.table.specs.Checks.{told};
 ghost use Rattle.printing.specs.Printed.{Filled, cells, decimal, glyph, line, lines, printed, printedList, printedRefusal, programPrints};
-ghost use Rattle.printing.specs.Put.{Put, room};
+ghost use Rattle.printing.specs.Put.{Put, lineRoom, room};
 
 // 4,096 lines of ten digits, and a last line.
 pub const ROOM: usize = 45096;
@@ -64,7 +64,7 @@ fn put_place(out: &mut [u8], number: usize, position: usize) -> usize
 
 // One set a line.
 fn put_lines(out: &mut [u8], sets: &[u32]) -> usize
-    requires { ⌜ 11 * length (now sets) ≤ length (now out) ⌝ }
+    requires { ⌜ 11 * length (now sets) + lineRoom ≤ length (now out) ⌝ }
     ensures { λ r. ⌜ Put (now (out .entry)) 0 (lines (now (sets .entry))) (now (out .exit)) r ⌝ }
     ensures { λ r. ⌜ r ≤ 11 * length (now (sets .entry)) ⌝ }
 {
@@ -78,7 +78,7 @@ fn put_lines(out: &mut [u8], sets: &[u32]) -> usize
 }
 
 fn put_line(out: &mut [u8], at: usize, number: usize) -> usize
-    requires { ⌜ at + length (line number) ≤ length (now out) ⌝ }
+    requires { ⌜ at + lineRoom ≤ length (now out) ⌝ }
     ensures { λ r. ⌜ Put (now (out .entry)) at (line number) (now (out .exit)) r ⌝ }
 {
     let next = put_number(out, at, number);

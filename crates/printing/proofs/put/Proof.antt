@@ -17,7 +17,7 @@ abbrev μ-loop : tie.MeasureT-loop
 μ-loop out₀ at text i₀ out i = length text - i
 
 loop-holds : tie.Need-loop-holds Inv-loop μ-loop
-loop-holds c = (omega arith, c .pre, refl, put-none _ _)
+loop-holds c = (omega arith, c .pre, refl, put-none _ _ (omega arith))
 
 shared-slice-read-out : tie.Need-shared-slice-read-out Inv-loop μ-loop
 shared-slice-read-out c = omega arith
@@ -37,7 +37,7 @@ loop-less c = omega arith
 loop-again : tie.Need-loop-again Inv-loop μ-loop
 loop-again c =
     let inv = c .before .before .loop .inv in
-    (omega arith, inv .1, simp length-set (inv .2), put-next _ _ (inv .3) (c .before .loop-test .taken))
+    (omega arith, inv .1, simp length-set (inv .2), put-next _ _ (inv .3) (c .before .loop-test .taken) (omega arith))
 
 add-result : tie.Need-add-result Inv-loop μ-loop
 add-result c = omega arith

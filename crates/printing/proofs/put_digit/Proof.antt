@@ -1,5 +1,6 @@
 -- `printing::put_digit` meets its contract: it stores one byte. Assumes nothing.
 use borrow.Author.Needs.{needs}
+use native.Mathlib.Omega.{arith}
 use Rattle.printing.proofs.Puts.{put-one}
 use Rattle.printing.proofs.put_digit.Statement.{statement}
 use Rattle.printing.proofs.put_digit.Tie as tie
@@ -20,7 +21,7 @@ same-length : tie.Need-same-length
 same-length c = search needs
 
 returns : tie.Need-returns
-returns c = put-one _ _ _
+returns c = put-one _ _ _ (omega arith)
 
 pub put-digit-spec : {M : Type 1} → statement M
 put-digit-spec =

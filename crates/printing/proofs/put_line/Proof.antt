@@ -1,12 +1,12 @@
 -- `printing::put_line` meets its contract: the digits, and the line's end. Assumes nothing.
 use borrow.Author.Needs.{needs}
 use native.Mathlib.Omega.{arith}
-use Rattle.printing.proofs.Lines.{line-length, put-ended}
+use Rattle.printing.proofs.Lines.{decimal-long, put-ended}
 use Rattle.printing.proofs.put_line.Statement.{statement}
 use Rattle.printing.proofs.put_line.Tie as tie
 
 put-number-requires : tie.Need-put-number-requires
-put-number-requires c κs = omega (arith, line-length (c .before .before .args .number))
+put-number-requires c κs = omega (arith, decimal-long _ (c .before .before .fits .number))
 
 slice-aggregate-put : tie.Need-slice-aggregate-put
 slice-aggregate-put c = search needs
@@ -15,7 +15,7 @@ put-requires : tie.Need-put-requires
 put-requires c κs =
     let start = c .before .before .before .before .before .before .before in
     let put-number = c .before .before .before .before .put-number in
-    omega (arith, start .pre, put-number .ensures, put-number .kept .0, line-length (start .args .number))
+    omega (arith, start .pre, put-number .ensures, put-number .kept .0, decimal-long _ (start .fits .number))
 
 same-length : tie.Need-same-length
 same-length c = search needs

@@ -1,19 +1,19 @@
 -- `printing::put_lines` meets its contract. The invariant: the lines of the first i sets are put, each of at most ten digits. The
 -- measure is how many sets are left. Assumes nothing.
 use mathlib.Core.Path.{_≡_, refl, _∙_}
-use Prim.Native.Nat.{_*_, _≤_, _-_}
+use Prim.Native.Nat.{_+_, _*_, _≤_, _-_}
 use native.Mathlib.Omega.{arith}
 use denote.Ref.{now}
 use lib.ListN.{getD, length, take}
 use Rattle.printing.specs.Printed.{lines}
-use Rattle.printing.specs.Put.{Put}
+use Rattle.printing.specs.Put.{Put, lineRoom}
 use Rattle.printing.proofs.Lines.{line-short, lines-all, lines-next, lines-none}
 use Rattle.printing.proofs.put_lines.Statement.{statement}
 use Rattle.printing.proofs.put_lines.Tie as tie
 
 abbrev Inv-loop : tie.InvT-loop
 Inv-loop out₀ sets next₀ i₀ out next i =
-    (i ≤ length sets) × (11 * length sets ≤ length out₀) × (length out ≡ length out₀) × (next ≤ 11 * i)
+    (i ≤ length sets) × (11 * length sets + lineRoom ≤ length out₀) × (length out ≡ length out₀) × (next ≤ 11 * i)
     × Put out₀ 0 (lines (take i sets)) out next
 
 abbrev μ-loop : tie.MeasureT-loop
@@ -32,10 +32,7 @@ cast-put-line : tie.Need-cast-put-line Inv-loop μ-loop
 cast-put-line c = omega (arith, c .shared-slice-known2 .given (c .before .before .before .loop .i))
 
 put-line-requires : tie.Need-put-line-requires Inv-loop μ-loop
-put-line-requires c κs =
-    let loop = c .before .before .before .loop in
-    let fits = c .shared-slice-known2 .given (loop .i) in
-    omega (arith, line-short (getD (now (c .before .before .before .before .before .before .args .sets)) (loop .i) 0) (omega arith))
+put-line-requires c κs = omega arith
 
 add-i : tie.Need-add-i Inv-loop μ-loop
 add-i c = omega arith

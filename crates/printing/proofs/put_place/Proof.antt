@@ -1,7 +1,7 @@
 -- `printing::put_place` meets its contract: `refused `, the number, a space, and the position's line. Assumes nothing.
 use borrow.Author.Needs.{needs}
 use native.Mathlib.Omega.{arith}
-use Rattle.printing.proofs.Lines.{decimal-long, line-long}
+use Rattle.printing.proofs.Lines.{decimal-long}
 use Rattle.printing.proofs.Answering.{refusal-filled}
 use Rattle.printing.proofs.put_place.Statement.{statement}
 use Rattle.printing.proofs.put_place.Tie as tie
@@ -24,22 +24,13 @@ put-requires-2 c κs =
     omega (arith, start .pre, c .before .before .before .before .before .before .before .before .put, c .before .before .before .before .put-number, decimal-long _ (start .fits .number))
 
 put-line-requires : tie.Need-put-line-requires
-put-line-requires c κs =
-    let fits = c .before .before .before .before .before .before .before .before .before .before .before .before .before .before .before .before .fits in omega (arith, c .before .before .before .before .before .before .before .before .before .before .before .before .before .before .before .before .pre, c .before .before .before .before .before .before .before .before .before .before .before .before .put, c .before .before .before .before .before .before .before .before .put-number, c .before .before .before .put2, decimal-long _ (fits .number), line-long _ (fits .position))
+put-line-requires c κs = omega (arith, c .before .before .before .before .before .before .before .before .before .before .before .before .before .before .before .before .pre, c .before .before .before .before .before .before .before .before .before .before .before .before .put, c .before .before .before .before .before .before .before .before .put-number, c .before .before .before .put2, decimal-long _ (c .before .before .before .before .before .before .before .before .before .before .before .before .before .before .before .before .fits .number))
 
 same-length : tie.Need-same-length
 same-length c = search needs
 
 returns : tie.Need-returns
-returns c =
-    let fits = c .before .before .before .before .before .before .before .before .before .before .before .before .before .before .before .before .before .before .before .fits in
-    let put = c .before .before .before .before .before .before .before .before .before .before .before .before .before .before .before .put .ensures in
-    let put-number = c .before .before .before .before .before .before .before .before .before .before .before .put-number .ensures in
-    let put2 = c .before .before .before .before .before .before .put2 .ensures in
-    let put-line = c .before .before .put-line .ensures in
-    let number = decimal-long _ (fits .number) in
-    let position = line-long _ (fits .position) in
-    refusal-filled _ _ put put-number put2 put-line (omega (arith, c .before .before .before .before .before .before .before .before .before .before .before .before .before .before .before .before .before .before .before .pre))
+returns c = refusal-filled _ _ (c .before .before .before .before .before .before .before .before .before .before .before .before .before .before .before .put .ensures) (c .before .before .before .before .before .before .before .before .before .before .before .put-number .ensures) (c .before .before .before .before .before .before .put2 .ensures) (c .before .before .put-line .ensures)
 
 pub put-place-spec : {M : Type 1} → statement M
 put-place-spec =
