@@ -1,8 +1,9 @@
 //! The listing program on its standard input, against the reference: whole, in
-//! pieces, too short, of odd length and too long. `rt check minimal_sets` builds
-//! it, as the gate does before these tests.
+//! pieces, too short, of odd length and too long; and a read or a write that
+//! fails. `rt check minimal_sets` builds it, as the gate does before these tests.
 
 use std::fmt::Write as _;
+use std::fs::File;
 use std::io::Write as _;
 use std::path::PathBuf;
 use std::process::{Command, Stdio};
@@ -25,10 +26,14 @@ fn bytes(table: &[u16], query: Query) -> Vec<u8> {
     numbers.flat_map(|number| number.to_le_bytes()).collect()
 }
 
-/// What the program prints on input that comes in pieces.
+/// The listing program.
+fn program() -> Command {
+    Command::new(PathBuf::from(env!("CARGO_MANIFEST_DIR")).join("../../target/bin/minimal_sets"))
+}
+
+/// What it prints on input that comes in pieces.
 fn printed(pieces: &[&[u8]]) -> String {
-    let program = PathBuf::from(env!("CARGO_MANIFEST_DIR")).join("../../target/bin/minimal_sets");
-    let mut child = Command::new(&program)
+    let mut child = program()
         .stdin(Stdio::piped())
         .stdout(Stdio::piped())
         .spawn()
@@ -96,6 +101,28 @@ fn later_bytes_do_not_count() {
         input.resize(length, 0);
         assert_eq!(printed(&[&input]), "refused 3 0\n", "{length}");
     }
+}
+
+#[test]
+fn a_failed_read_is_told() {
+    let directory = File::open(env!("CARGO_MANIFEST_DIR")).expect("a directory");
+    let output = program().stdin(directory).output().expect("its output");
+    assert_eq!(output.stdout, b"");
+    assert_eq!(output.stderr, b"minimal_sets: cannot read standard input\n");
+}
+
+#[test]
+fn a_failed_write_is_told() {
+    let full = File::options().write(true).open("/dev/full");
+    let output = program()
+        .stdin(Stdio::null())
+        .stdout(full.expect("a full device"))
+        .output()
+        .expect("its output");
+    assert_eq!(
+        output.stderr,
+        b"minimal_sets: cannot write standard output\n"
+    );
 }
 
 #[test]
