@@ -12,7 +12,8 @@ use Rattle.listing.specs.Minimal.{listingTold}
 use Rattle.listing.specs.declared.Listing.{Listing}
 use Rattle.listing.specs.declared.Listing.the-variants as listing′
 use Rattle.input.proofs.Inputs.{listed-fits}
-use Rattle.printing.specs.Printed.{Filled, ascii, cells, decimal, line, lines, printed, printedList, printedRefusal, programPrints}
+use Rattle.printing.specs.Printed.{Filled, ascii, cells, decimal, line, lines}
+use Rattle.printing.specs.Printed.{printed, printedList, printedRefusal, programPrints}
 use Rattle.printing.specs.Put.{Put}
 use Rattle.printing.proofs.Puts.{put-filled, put-then}
 
@@ -30,24 +31,25 @@ module _ {before after : List ℕ} {next : ℕ} where
   refusal-filled number position p q r s = put-filled (put-then (put-then (put-then p q) r) s)
 
 -- what an input's answer and cells print
-module _ (input sets : List ℕ) (answer : Listing) (tells : listingTold answer ≡ inputOutcome input cells)
-    (holds : sets ≡ inputBuffer input (replicate cells 0)) (sized : length sets ≡ cells) where
+module _ (input sets : List ℕ) (answer : Listing)
+    (tells : (listingTold answer ≡ inputOutcome input cells) × (sets ≡ inputBuffer input (replicate cells 0)))
+    (sized : length sets ≡ cells) where
   pub listed-within : (count : ℕ) → answer ≡ listing′.Listed count → count ≤ length sets
-  listed-within count is = listed-fits input (replicate cells 0) sets answer count is tells sized
+  listed-within count is = listed-fits input (replicate cells 0) sets answer count is (tells .0) sized
 
   pub listed-filled : {before after : List ℕ} {next : ℕ} (count : ℕ) → answer ≡ listing′.Listed count
       → Filled (printedList (take count sets) (length (take count sets))) before after next
       → Filled (programPrints input) before after next
   unfolding programPrints printed listingTold
   listed-filled count is p =
-      let outcome : inputOutcome input cells ≡ accepted count = sym tells ∙ ap listingTold is in
-      let counted = rw (length-take-le count sets (listed-within count is)) at p in rw (outcome, ← holds) counted
+      let outcome : inputOutcome input cells ≡ accepted count = sym (tells .0) ∙ ap listingTold is in
+      let counted = rw (length-take-le count sets (listed-within count is)) at p in rw (outcome, ← tells .1) counted
 
   pub refused-filled : {before after : List ℕ} {next : ℕ} (why : Refusal) → answer ≡ listing′.Refused why
       → Filled (printed (told why) []) before after next → Filled (programPrints input) before after next
   unfolding programPrints printed listingTold told
   refused-filled why is p =
-      let outcome : inputOutcome input cells ≡ told why = sym tells ∙ ap listingTold is in rw outcome p
+      let outcome : inputOutcome input cells ≡ told why = sym (tells .0) ∙ ap listingTold is in rw outcome p
 
 -- a reason's number and a position are what is told of a refusal
 pub told-filled : {before after : List ℕ} {next : ℕ} (why : Refusal) (number : ℕ) → number ≡ numberOf (why .reason)

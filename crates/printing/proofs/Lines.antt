@@ -56,8 +56,8 @@ pub lines-next : {before between after : List ℕ} {at next : ℕ} (s : List ℕ
 lines-next s i p h q =
     rw (add-one i, take-suc s i 0 h, lines-append, lines-one) (put-then p q)
 
-pub lines-all : {before after : List ℕ} {next : ℕ} (s : List ℕ) (i : ℕ) → Put before 0 (lines (take i s)) after next → i ≤ length s
-    → length s ≤ i → Put before 0 (lines s) after next
+pub lines-all : {before after : List ℕ} {next : ℕ} (s : List ℕ) (i : ℕ) → Put before 0 (lines (take i s)) after next
+    → i ≤ length s → length s ≤ i → Put before 0 (lines s) after next
 lines-all s i p h l =
     let e : i ≡ length s = omega arith in
     let p′ = rw e at p in rw take-length at p′

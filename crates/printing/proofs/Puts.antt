@@ -10,7 +10,8 @@ use lib.Seq.{length-sets, sets, sets-eq, take-length, take-suc}
 use Rattle.printing.specs.Printed.{Filled}
 use Rattle.printing.specs.Put.{Put, stored}
 
-stored-then : (buffer : List ℕ) (at : ℕ) (s t : List ℕ) → stored (stored buffer at s) (at + length s) t ≡ stored buffer at (s ++ t)
+stored-then : (buffer : List ℕ) (at : ℕ) (s t : List ℕ)
+    → stored (stored buffer at s) (at + length s) t ≡ stored buffer at (s ++ t)
 unfolding stored
 stored-then buffer at [] t = rw add-zero
 stored-then buffer at (x ∷ s) t =

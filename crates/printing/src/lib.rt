@@ -6,7 +6,8 @@ ghost use mathlib.Core.List.{[], _∷_};
 ghost use Prim.Native.Nat.{_+_, _*_, _<_, _≤_};
 ghost use lib.ListN.{length};
 ghost use Rattle.table.specs.Checks.{told};
-ghost use Rattle.printing.specs.Printed.{Filled, cells, decimal, glyph, line, lines, printed, printedList, printedRefusal, programPrints};
+ghost use Rattle.printing.specs.Printed.{cells, decimal, glyph, line, lines};
+ghost use Rattle.printing.specs.Printed.{Filled, printed, printedList, printedRefusal, programPrints};
 ghost use Rattle.printing.specs.Put.{Put, lineRoom, room};
 
 // 4,096 lines of ten digits, and a last line.
@@ -36,7 +37,8 @@ fn put_answer(input: &[u8], out: &mut [u8]) -> usize
 fn put_list(out: &mut [u8], sets: &[u32]) -> usize
     requires { ⌜ length (now sets) ≤ cells ⌝ }
     requires { ⌜ room ≤ length (now out) ⌝ }
-    ensures { λ r. ⌜ Filled (printedList (now (sets .entry)) (length (now (sets .entry)))) (now (out .entry)) (now (out .exit)) r ⌝ }
+    ensures { λ r. ⌜ Filled (printedList (now (sets .entry)) (length (now (sets .entry))))
+        (now (out .entry)) (now (out .exit)) r ⌝ }
 {
     let mut next = put_lines(out, sets);
     next = put(out, next, b"sets ");

@@ -1,5 +1,5 @@
--- `minimal_sets::read_input` is safe and ends: it has filled no more than the buffer, and each turn fills more of it. The measure is
--- what is left of the buffer. Assumes nothing.
+-- `minimal_sets::read_input` is safe and ends: no more than the buffer is filled, and each turn fills more of it. The measure is what
+-- is left of it. Assumes nothing.
 use borrow.Author.Needs.{needs}
 use mathlib.Core.Path.{_≡_, refl, _∙_}
 use Prim.Native.Nat.{_≤_, _<_, _-_, _^_}
@@ -42,7 +42,10 @@ cast-result : tie.Need-cast-result Inv-loop μ-loop
 cast-result c = search needs
 
 same-length-2 : tie.Need-same-length-2 Inv-loop μ-loop
-same-length-2 c = c .before .before .before .before .before .before .before .read-more .kept .0 ∙ c .before .before .before .before .before .before .before .before .before .before .loop .inv .1
+same-length-2 c =
+    let read = c .before .before .before .before .before .before .before in
+    let turn = read .before .before .before in
+    read .read-more .kept .0 ∙ turn .loop .inv .1
 
 returns-2 : tie.Need-returns-2 Inv-loop μ-loop
 returns-2 c = search needs
@@ -54,7 +57,10 @@ loop-less : tie.Need-loop-less Inv-loop μ-loop
 loop-less c = search needs
 
 loop-again : tie.Need-loop-again Inv-loop μ-loop
-loop-again c = (omega arith, c .before .before .before .before .before .before .before .read-more .kept .0 ∙ c .before .before .before .before .before .before .before .before .before .before .loop .inv .1, c .before .before .before .before .before .before .before .before .before .before .loop .inv .2)
+loop-again c =
+    let read = c .before .before .before .before .before .before .before in
+    let turn = read .before .before .before in
+    (omega arith, read .read-more .kept .0 ∙ turn .loop .inv .1, turn .loop .inv .2)
 
 cast-result-2 : tie.Need-cast-result-2 Inv-loop μ-loop
 cast-result-2 c = search needs

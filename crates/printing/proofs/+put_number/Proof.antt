@@ -42,14 +42,23 @@ put-number-put-number-requires t c κs = omega (arith, c .before .before .before
 
 put-number-put-digit-requires-2 : (t : ℕ) → put-number-lts.Need-put-digit-requires-2 (put-number-claims t) (put-number-at t) put-number.Post
 put-number-put-digit-requires-2 t c κs =
-    let put-number = c .before .before .before .put-number in
-    omega (arith, c .before .before .before .before .before .before .before .pre, put-number .ensures, put-number .kept .0, length-more _ (c .before .before .before .before .before .if1 .left))
+    let number = c .before .before .before in
+    let test = number .before .before in
+    let start = test .before .before in
+    omega (arith, start .pre, number .put-number .ensures, number .put-number .kept .0, length-more _ (test .if1 .left))
 
 put-number-same-length-2 : (t : ℕ) → put-number-lts.Need-same-length-2 (put-number-claims t) (put-number-at t) put-number.Post
-put-number-same-length-2 t c = c .before .before .put-digit2 .kept .0 ∙ c .before .before .before .before .before .before .put-number .kept .0
+put-number-same-length-2 t c =
+    let last = c .before .before in
+    let number = last .before .before .before .before in
+    last .put-digit2 .kept .0 ∙ number .put-number .kept .0
 
 put-number-returns-2 : (t : ℕ) → put-number-lts.Need-returns-2 (put-number-claims t) (put-number-at t) put-number.Post
-put-number-returns-2 t c = put-more _ (c .before .before .before .before .before .before .before .before .if1 .left) (c .before .before .before .before .before .before .put-number .ensures) (c .before .before .put-digit2 .ensures)
+put-number-returns-2 t c =
+    let last = c .before .before in
+    let number = last .before .before .before .before in
+    let test = number .before .before in
+    put-more _ (test .if1 .left) (number .put-number .ensures) (last .put-digit2 .ensures)
 
 pub +put-number-spec : {M : Type 1} → statement M
 +put-number-spec = close μ-put-number λ t. put-number-lts.spec (put-number-claims t) (put-number-at t)

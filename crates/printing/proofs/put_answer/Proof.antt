@@ -20,19 +20,22 @@ enum-known-count c = search needs
 
 array-share-prefix-sets : tie.Need-array-share-prefix-sets
 array-share-prefix-sets c =
-    let answer = c .before .before .before .before .before .list-input in
-    listed-within _ _ _ (answer .ensures .0) (answer .ensures .1) (answer .kept .1 .0) _ (c .before .before .count .given .1)
+    let told = c .before .before in
+    let listed = told .before .before .before in
+    listed-within _ _ _ (listed .list-input .ensures) (listed .list-input .kept .1 .0) _ (told .count .given .1)
 
 slice-aggregate-put-list : tie.Need-slice-aggregate-put-list
 slice-aggregate-put-list c =
-    let answer = c .before .before .before .before .before .before .list-input in
-    let within = listed-within _ _ _ (answer .ensures .0) (answer .ensures .1) (answer .kept .1 .0) _ (c .before .before .before .count .given .1) in
+    let told = c .before .before .before in
+    let listed = told .before .before .before in
+    let within = listed-within _ _ _ (listed .list-input .ensures) (listed .list-input .kept .1 .0) _ (told .count .given .1) in
     sym (length-take-le _ _ within)
 
 put-list-requires : tie.Need-put-list-requires
 put-list-requires c κs =
-    let answer = c .before .before .before .before .before .before .list-input in
-    (simp length-take (omega (arith, answer .kept .1 .0)), c .before .before .before .before .before .before .before .before .before .before .pre)
+    let listed = c .before .before .before .before .before .before in
+    let start = listed .before .before .before .before in
+    (simp length-take (omega (arith, listed .list-input .kept .1 .0)), start .pre)
 
 enum-known-why : tie.Need-enum-known-why
 enum-known-why c = search needs
@@ -45,16 +48,22 @@ same-length c = search needs
 
 returns : tie.Need-returns
 returns c =
-    let answer = c .before .before .before .before .before .before .before .before .before .list-input in
-    listed-filled _ _ _ (answer .ensures .0) (answer .ensures .1) (answer .kept .1 .0) _ (c .before .before .before .before .before .before .count .given .1) (c .before .before .put-list .ensures)
+    let list = c .before .before in
+    let told = list .before .before .before .before in
+    let listed = told .before .before .before in
+    listed-filled _ _ _ (listed .list-input .ensures) (listed .list-input .kept .1 .0) _ (told .count .given .1)
+    (list .put-list .ensures)
 
 same-length-2 : tie.Need-same-length-2
 same-length-2 c = search needs
 
 returns-2 : tie.Need-returns-2
 returns-2 c =
-    let answer = c .before .before .before .before .before .before .before .before .list-input in
-    refused-filled _ _ _ (answer .ensures .0) (answer .ensures .1) (answer .kept .1 .0) _ (c .before .before .before .before .before .why .given .1) (c .before .before .put-refusal .ensures)
+    let refusal = c .before .before in
+    let told = refusal .before .before .before in
+    let listed = told .before .before .before in
+    refused-filled _ _ _ (listed .list-input .ensures) (listed .list-input .kept .1 .0) _ (told .why .given .1)
+    (refusal .put-refusal .ensures)
 
 pub put-answer-spec : {M : Type 1} → statement M
 put-answer-spec =

@@ -13,15 +13,18 @@ slice-aggregate-put c = search needs
 
 put-requires : tie.Need-put-requires
 put-requires c κs =
-    let start = c .before .before .before .before .before .before .before in
-    let put-number = c .before .before .before .before .put-number in
-    omega (arith, start .pre, put-number .ensures, put-number .kept .0, decimal-long _ (start .fits .number))
+    let number = c .before .before .before .before in
+    let start = number .before .before .before in
+    omega (arith, start .pre, number .put-number .ensures, number .put-number .kept .0, decimal-long _ (start .fits .number))
 
 same-length : tie.Need-same-length
 same-length c = search needs
 
 returns : tie.Need-returns
-returns c = put-ended _ (c .before .before .before .before .before .before .before .put-number .ensures) (c .before .before .put .ensures)
+returns c =
+    let text = c .before .before in
+    let number = text .before .before .before .before .before in
+    put-ended _ (number .put-number .ensures) (text .put .ensures)
 
 pub put-line-spec : {M : Type 1} → statement M
 put-line-spec =

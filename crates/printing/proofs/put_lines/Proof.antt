@@ -42,15 +42,18 @@ loop-less c = omega arith
 
 loop-again : tie.Need-loop-again Inv-loop μ-loop
 loop-again c =
-    let loop = c .before .before .before .before .before .before .loop in
-    let fits = c .before .before .before .shared-slice-known2 .given (loop .i) in
-    let short = line-short (getD (now (c .before .before .before .before .before .before .before .before .before .args .sets)) (loop .i) 0) (omega arith) in
-    let put-line = c .before .before .put-line in (
+    let line = c .before .before in
+    let known = line .before in
+    let test = known .before .before in
+    let turn = test .before in
+    let start = turn .before .before .before in
+    let fits = known .shared-slice-known2 .given (turn .loop .i) in
+    let short = line-short (getD (now (start .args .sets)) (turn .loop .i) 0) (omega arith) in (
       omega arith,
-      loop .inv .1,
-      put-line .kept .0 ∙ loop .inv .2,
-      omega (arith, put-line .ensures),
-      lines-next _ _ (loop .inv .4) (c .before .before .before .before .before .loop-test .taken) (put-line .ensures),
+      turn .loop .inv .1,
+      line .put-line .kept .0 ∙ turn .loop .inv .2,
+      omega (arith, line .put-line .ensures),
+      lines-next _ _ (turn .loop .inv .4) (test .loop-test .taken) (line .put-line .ensures),
     )
 
 same-length : tie.Need-same-length Inv-loop μ-loop

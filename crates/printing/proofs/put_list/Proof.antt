@@ -15,13 +15,21 @@ put-requires : tie.Need-put-requires
 put-requires c κs = search needs
 
 put-line-requires : tie.Need-put-line-requires
-put-line-requires c κs = omega (arith, c .before .before .before .before .before .before .before .before .before .before .before .before .pre, c .before .before .before .before .before .before .before .before .put-lines, c .before .before .before .put)
+put-line-requires c κs =
+    let text = c .before .before .before in
+    let lines = text .before .before .before .before .before in
+    let start = lines .before .before .before .before in
+    omega (arith, start .pre, lines .put-lines, text .put)
 
 same-length : tie.Need-same-length
 same-length c = search needs
 
 returns : tie.Need-returns
-returns c = list-filled _ _ (c .before .before .before .before .before .before .before .before .before .before .before .put-lines .ensures .0) (c .before .before .before .before .before .before .put .ensures) (c .before .before .put-line .ensures)
+returns c =
+    let line = c .before .before in
+    let text = line .before .before .before .before in
+    let lines = text .before .before .before .before .before in
+    list-filled _ _ (lines .put-lines .ensures .0) (text .put .ensures) (line .put-line .ensures)
 
 pub put-list-spec : {M : Type 1} → statement M
 put-list-spec =

@@ -13,24 +13,39 @@ put-requires : tie.Need-put-requires
 put-requires c κs = search needs
 
 put-number-requires : tie.Need-put-number-requires
-put-number-requires c κs = omega (arith, c .before .before .before .before .before .before .before .pre, c .before .before .before .put, decimal-long _ (c .before .before .before .before .before .before .before .fits .number))
+put-number-requires c κs =
+    let text = c .before .before .before in
+    let start = text .before .before .before .before in
+    omega (arith, start .pre, text .put, decimal-long _ (start .fits .number))
 
 slice-aggregate-put-2 : tie.Need-slice-aggregate-put-2
 slice-aggregate-put-2 c = search needs
 
 put-requires-2 : tie.Need-put-requires-2
 put-requires-2 c κs =
-    let start = c .before .before .before .before .before .before .before .before .before .before .before .before in
-    omega (arith, start .pre, c .before .before .before .before .before .before .before .before .put, c .before .before .before .before .put-number, decimal-long _ (start .fits .number))
+    let number = c .before .before .before .before in
+    let text = number .before .before .before .before in
+    let start = text .before .before .before .before in
+    omega (arith, start .pre, text .put, number .put-number, decimal-long _ (start .fits .number))
 
 put-line-requires : tie.Need-put-line-requires
-put-line-requires c κs = omega (arith, c .before .before .before .before .before .before .before .before .before .before .before .before .before .before .before .before .pre, c .before .before .before .before .before .before .before .before .before .before .before .before .put, c .before .before .before .before .before .before .before .before .put-number, c .before .before .before .put2, decimal-long _ (c .before .before .before .before .before .before .before .before .before .before .before .before .before .before .before .before .fits .number))
+put-line-requires c κs =
+    let space = c .before .before .before in
+    let number = space .before .before .before .before .before in
+    let text = number .before .before .before .before in
+    let start = text .before .before .before .before in
+    omega (arith, start .pre, text .put, number .put-number, space .put2, decimal-long _ (start .fits .number))
 
 same-length : tie.Need-same-length
 same-length c = search needs
 
 returns : tie.Need-returns
-returns c = refusal-filled _ _ (c .before .before .before .before .before .before .before .before .before .before .before .before .before .before .before .put .ensures) (c .before .before .before .before .before .before .before .before .before .before .before .put-number .ensures) (c .before .before .before .before .before .before .put2 .ensures) (c .before .before .put-line .ensures)
+returns c =
+    let line = c .before .before in
+    let space = line .before .before .before .before in
+    let number = space .before .before .before .before .before in
+    let text = number .before .before .before .before in
+    refusal-filled _ _ (text .put .ensures) (number .put-number .ensures) (space .put2 .ensures) (line .put-line .ensures)
 
 pub put-place-spec : {M : Type 1} → statement M
 put-place-spec =
