@@ -1,11 +1,11 @@
 -- The whole answer: a list's lines and the count's, a refusal's line, and which of them is printed for an input.
-use mathlib.Core.Path.{_≡_, refl, sym, ap, _∙_}
-use mathlib.Core.List.{List, [], _∷_}
+use mathlib.Core.Path.{_≡_, sym, ap, _∙_}
+use mathlib.Core.List.{List, []}
 use Prim.Native.Nat.{ℕ, _≤_}
 use lib.ListN.{length, replicate, take}
 use lib.Seq.{length-take-le}
 use Rattle.table.specs.Checks.{numberOf, told}
-use Rattle.table.specs.Outcome.Outcome.{accepted, refused}
+use Rattle.table.specs.Outcome.Outcome.{accepted}
 use Rattle.table.specs.declared.Refusal.{Refusal}
 use Rattle.input.specs.Input.{inputBuffer, inputOutcome}
 use Rattle.listing.specs.Minimal.{listingTold}

@@ -1,12 +1,12 @@
 -- Texts that are put into a buffer one after the other.
-use mathlib.Core.Path.{_≡_, refl, sym, ap, _∙_}
+use mathlib.Core.Path.{_≡_, refl, ap, _∙_}
 use mathlib.Core.List.{List, [], _∷_, _++_}
 use Prim.Native.Nat.{ℕ, suc, _+_, _<_, _≤_}
 use native.Mathlib.Nat.{add-zero}
 use native.Mathlib.Numerals.{add-one}
 use native.Mathlib.Omega.{arith}
-use lib.ListN.{drop, getD, length, set, take, length-append}
-use lib.Seq.{length-sets, sets, sets-eq, take-length, take-suc}
+use lib.ListN.{getD, length, set, take, length-append}
+use lib.Seq.{length-sets, sets-eq, take-length, take-suc}
 use Rattle.printing.specs.Printed.{Filled}
 use Rattle.printing.specs.Put.{Put, stored}
 

@@ -2,7 +2,6 @@
 use borrow.Author.Needs.{needs}
 use mathlib.Core.Path.{sym}
 use native.Mathlib.Omega.{arith}
-use denote.Ref.{now}
 use lib.ListN.{length-take}
 use lib.Seq.{length-take-le}
 use Rattle.printing.proofs.Answering.{listed-filled, listed-within, refused-filled}
