@@ -1,5 +1,5 @@
--- Document 01, "Derivations and words": how an automaton reads a word. It starts in its starting set; on each role its set
--- becomes all `to` states of matching edges of its own from states in it; it accepts if an accepting state is in the set at the end.
+-- docs/DEFINITION.md, "Words": how an automaton reads a word. It starts in its starting set; on each role its set becomes all
+-- `to` states of matching edges of its own from states in it; it accepts if an accepting state is in the set at the end.
 use Prim.Native.Nat.{ℕ, zero, suc, _^_}
 use mathlib.Core.List.{List, [], _∷_}
 use mathlib.Core.Bool.{Bool, true, false, not}

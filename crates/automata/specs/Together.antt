@@ -1,4 +1,4 @@
--- Document 01, "Derivations and words": the state sets of all eight automata travel down a branch together. Each is moved as
+-- docs/DEFINITION.md, "Words": the state sets of all eight automata travel down a branch together. Each is moved as
 -- specs/Automata.antt says of one automaton.
 use Prim.Native.Nat.{ℕ, zero, suc, _-_, _^_}
 use mathlib.Core.List.{List, [], _∷_, _++_}

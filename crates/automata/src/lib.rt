@@ -1,5 +1,5 @@
-// State sets of all automata of a table, and how they move along a role (document 01, "Derivations and words"). The sets of
-// all eight travel together, by value: each child of a node starts from its own copy.
+// State sets of all automata of a table, and how they move along a role (docs/DEFINITION.md, "Words"). The sets of all eight
+// travel together, by value: each child of a node starts from its own copy.
 use sets::AutomatonSet;
 use sets::StateSet;
 use table::EVERY_ROLE;

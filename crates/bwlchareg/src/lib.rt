@@ -1,5 +1,6 @@
-// The C interface. A slice is a pointer and a length. Each call returns 0 or document 01's refusal number, and writes the
-// position, or on 0 the value that the call returns: 0 where there is none. bindings/c/bwlchareg.h has the promises in words.
+// The C interface. A slice is a pointer and a length. Each call returns 0 or the refusal's number in docs/DEFINITION.md, and
+// writes the position, or on 0 the value that the call returns: 0 where there is none. bindings/c/bwlchareg.h has the promises
+// in words.
 use checks::QueryCheck;
 use checks::TableCheck;
 use listing::Listing;
@@ -88,7 +89,7 @@ pub extern "C" fn bwlchareg_verify(
     }
 }
 
-// A query's four numbers, in document 01's order.
+// A query's four numbers, in the definition's order.
 fn query_of(principal: u16, owner: u16, name: u16, depth: u16) -> Query
     ensures { λ r. ⌜ r ≡ asQuery principal owner name depth ⌝ }
 {

@@ -1,4 +1,4 @@
--- What the answers of the checks tell: accepted, or document 01's number and position.
+-- What the answers of the checks tell: accepted, or the definition's number and position.
 use Rattle.table.specs.Outcome.{Outcome}
 use Rattle.table.specs.Outcome.Outcome.{accepted}
 use Rattle.table.specs.Checks.{told}

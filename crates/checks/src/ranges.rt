@@ -1,4 +1,4 @@
-// What a single record must be, given by value: the ranges of document 01, "The table", by kind and by label.
+// What a single record must be, given by value: the ranges of docs/DEFINITION.md, "The table", by kind and by label.
 use table::Cell;
 use table::Credential;
 use table::EVERY_ROLE;

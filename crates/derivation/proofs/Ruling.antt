@@ -1,5 +1,5 @@
--- The rule by which a credential applies to a goal, and what that rule asks (document 01, "Derivations and words"): one of four,
--- by the credential's kind.
+-- The rule by which a credential applies to a goal, and what that rule asks (docs/DEFINITION.md, "Derivations"): one of four, by
+-- the credential's kind.
 use mathlib.Core.Path.{_≡_, _∙_}
 use mathlib.Core.List.{List, [], _∷_, map}
 use mathlib.Core.Option.{some}

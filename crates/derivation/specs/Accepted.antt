@@ -1,4 +1,4 @@
--- Document 01, "Derivations and words": a record is accepted if it derives the queried membership and complies.
+-- docs/DEFINITION.md, "Words": a record is accepted if it derives the queried membership and complies.
 use Prim.Native.Nat.{ℕ}
 use mathlib.Core.Path.{_≡_}
 use mathlib.Core.List.{List, [], _∷_}

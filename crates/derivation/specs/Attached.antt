@@ -1,4 +1,4 @@
--- Document 01, "Derivations and words": the automata attached to the credentials of a set, as a set. Credential i counts 2^(i-1) in the
+-- docs/DEFINITION.md, "Words": the automata attached to the credentials of a set, as a set. Credential i counts 2^(i-1) in the
 -- one, automaton k counts 2^(k-1) in the other.
 use Prim.Native.Nat.{ℕ, zero, suc, _-_, _^_}
 use mathlib.Core.List.{List}

@@ -1,5 +1,5 @@
--- Document 01, "Derivations and words": "Sixteen levels of four premises give at most 1,431,655,765 nodes, so a slice's length
--- excludes no derivation." How many nodes a derivation has, and that a lent slice can hold its record.
+-- docs/DEFINITION.md, "Derivations": "So no derivation is excluded by what a slice can hold." How many nodes a derivation has,
+-- and that a lent slice can hold its record.
 use Prim.Native.Nat.{ℕ, _-_, _*_, _/_, _^_, _<_, _≤_}
 use mathlib.Core.Path.{_≡_}
 use mathlib.Core.List.{List, [], _∷_}
@@ -19,7 +19,7 @@ FewNodes =
     (t : List ℕ) (levels : ℕ) (branch goals : List Goal) (f : Forest)
     → WellFormed t → Derives t levels branch goals f → countFrom 0 f ≤ length goals * nodesWithin levels
 
--- the document's number, which is that of the deepest limit
+-- the definition's number, which is that of the deepest limit
 abbrev pub mostNodes : ℕ
 mostNodes = 1431655765
 

@@ -1,5 +1,5 @@
--- Document 01, "Derivations and words": derivations as forests, each node with its children and its later siblings, and what
--- it means that a forest derives a list of goals.
+-- docs/DEFINITION.md, "Derivations" and "Records": derivations as forests, each node with its children and its later siblings,
+-- and what it means that a forest derives a list of goals.
 use Prim.Native.Nat.{ℕ, suc, _-_, _^_}
 use mathlib.Core.Path.{_≡_}
 use mathlib.Core.List.{List, [], _∷_, _++_}

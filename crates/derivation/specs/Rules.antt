@@ -1,5 +1,5 @@
--- Document 01, "Derivations and words": which goals a credential asks for a goal, the four inference rules of document 001,
--- Figure 1, as one function; and what may not repeat on a branch.
+-- docs/DEFINITION.md, "Derivations": which goals a credential asks for a goal, the four inference rules of the 2015 paper
+-- (docs/SOURCES.md), Figure 1, as one function; and what may not repeat on a branch.
 use Prim.Native.Nat.{ℕ}
 use mathlib.Core.List.{List, [], _∷_, map}
 use mathlib.Core.Bool.{Bool, true, not}

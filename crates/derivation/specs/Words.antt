@@ -1,4 +1,4 @@
--- Document 01, "Derivations and words": the words of a derivation, and whether it complies with every used automaton.
+-- docs/DEFINITION.md, "Words": the words of a derivation, and whether it complies with every used automaton.
 use Prim.Native.Nat.{ℕ}
 use mathlib.Core.Path.{_≡_}
 use mathlib.Core.List.{List, [], _∷_, _++_}

@@ -1,6 +1,7 @@
-// Derivations of memberships by the rules of RT0 (document 01, "Derivations and words"): which goals a credential asks, what may not
-// repeat on a branch, and which automata are attached to the credentials of a set. The verifier's end and the holder's end both go by
-// these. specs/Rules.antt, Forest.antt and Words.antt say what a derivation is, specs/Accepted.antt when a record is accepted.
+// Derivations of memberships by the rules of RT0 (docs/DEFINITION.md, "Derivations"): which goals a credential asks, what may
+// not repeat on a branch, and which automata are attached to the credentials of a set. The verifier's end and the holder's end
+// both go by these. specs/Rules.antt, Forest.antt and Words.antt say what a derivation is, specs/Accepted.antt when a record is
+// accepted.
 mod attached; // attached.rt: the automata of a set of credentials
 mod branches; // branches.rt: the goals above a node
 pub mod rules; // rules.rt: which goals a credential asks

@@ -1,5 +1,5 @@
--- Document 01, the listing program's input: at most 4,096 bytes as 16-bit numbers, low byte first, the query's four and then
--- the table. Later bytes are ignored and not counted.
+-- docs/DEFINITION.md, "The listing program", its input: at most 4,096 bytes as 16-bit numbers, low byte first, the query's four
+-- and then the table. Later bytes are ignored and not counted.
 use Prim.Native.Nat.{ℕ, _+_, _*_, _%_}
 use mathlib.Core.List.{List, [], _∷_}
 use mathlib.Core.Bool.{Bool}
@@ -24,7 +24,7 @@ numbersOf [] = []
 numbersOf (low ∷ []) = []
 numbersOf (low ∷ high ∷ bytes) = numberOf low high ∷ numbersOf bytes
 
--- a query's four numbers, in the document's order, and the table after them
+-- a query's four numbers, in the definition's order, and the table after them
 abbrev pub querySize : ℕ
 querySize = 4
 

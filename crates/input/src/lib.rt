@@ -1,5 +1,5 @@
-// The listing program's input (document 01, "The shop example"): bytes as 16-bit numbers, low byte first, the query's four and
-// then the table. specs/Input.antt says what is told of it.
+// The listing program's input (docs/DEFINITION.md, "The listing program"): bytes as 16-bit numbers, low byte first, the query's
+// four and then the table. specs/Input.antt says what is told of it.
 use listing::Listing;
 use table::Name;
 use table::Number;

@@ -69,7 +69,7 @@ module _ (t : List ℕ) (wf : WellFormed t) (q : Query) (valid : Valid q) where
             ⊎-elim (λ z. z) (λ some. let (rec, e) = m .only 0 some .used in absurd (never rec _ e))
             (eq-zero-or-pos (length sets))
 
-    -- the minimal sets in the first cells are a list as the document has it
+    -- the minimal sets in the first cells are a list as the definition has it
     laid-listed : (buffer : List ℕ) → length sets ≤ length buffer → Listed t q buffer (laid sets buffer) (length sets)
     laid-listed buffer room =
         record {

@@ -1,5 +1,5 @@
--- The Boolean `isMinimal` decides what the document calls a minimal set, so that `minimalSets` is the document's list. Every set
--- within which a record is accepted includes a minimal one.
+-- The Boolean `isMinimal` decides what the definition calls a minimal set, so that `minimalSets` is the definition's list. Every
+-- set within which a record is accepted includes a minimal one.
 use mathlib.Core.Path.{_≡_}
 use mathlib.Core.List.{List}
 use mathlib.Core.Bool.{true}

@@ -1,5 +1,5 @@
--- Document 01, "The shop example": all rows marked •, those that list and those that judge a record, as one list of inputs and
--- expected results with one lemma for the list.
+-- docs/DEFINITION.md, "The shop example": all rows marked •, those that list and those that judge a record, as one list of
+-- inputs and expected results with one lemma for the list.
 use mathlib.Core.Path.{_≡_, refl}
 use mathlib.Core.List.{List, [], _∷_}
 use Prim.Native.Nat.{ℕ}

@@ -1,5 +1,5 @@
--- Document 01, "The list" and rows 9 and 10: the minimal sets, and what a buffer holds afterwards. specs/Demands.antt states that
--- this is the list that the document means.
+-- docs/DEFINITION.md, "The list" and rows 9 and 10: the minimal sets, and what a buffer holds afterwards. specs/Demands.antt
+-- states that this is the list that the definition means.
 use Prim.Native.Nat.{ℕ, zero, suc, _^_}
 use mathlib.Core.List.{List, [], _∷_, _++_}
 use mathlib.Core.Bool.{Bool, not}

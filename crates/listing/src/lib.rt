@@ -1,6 +1,6 @@
-// The holder's end: every minimal set of credentials that proves the queried membership, ascending (document 01, "The list").
-// It knows of derivations only what `derivation` promises. specs/Minimal.antt says what the answer and the buffer are;
-// specs/Demands.antt states that this is the list that the document means.
+// The holder's end: every minimal set of credentials that proves the queried membership, ascending (docs/DEFINITION.md,
+// "The list"). It knows of derivations only what `derivation` promises. specs/Minimal.antt says what the answer and the buffer
+// are; specs/Demands.antt states that this is the list that the definition means.
 use checks::QueryCheck;
 use sets::CredentialSet;
 use table::Number;

@@ -1,5 +1,6 @@
 // The listing program: reads at most 4,096 bytes of standard input, the query's four numbers and then the table, and prints what
-// `printing::answer` makes of them (document 01, "The shop example"). A read or a write that fails is told on standard error.
+// `printing::answer` makes of them (docs/DEFINITION.md, "The listing program"). A read or a write that fails is told on standard
+// error.
 use libc::STDERR_FILENO;
 use libc::STDIN_FILENO;
 use libc::STDOUT_FILENO;

@@ -17,7 +17,7 @@ use Rattle.listing.proofs.Minimals.{is-minimal-set}
 use Rattle.listing.proofs.Shop as lists
 use Rattle.misreadings.specs.Misreadings.{Fewest, Misreadings, atEachUse, discountFirst, fewestSets, howMany, isAttached}
 use Rattle.misreadings.specs.Misreadings.{isFewest, judgedBy, metFromOwnNode, metThroughOwnNode, metUsedOrNot}
-use Rattle.misreadings.specs.Misreadings.{notAccredited, outright, verdictBy}
+use Rattle.misreadings.specs.Misreadings.{firstAccepted, metFirstWord, notAccredited, notStudent, outright, verdictBy}
 
 -- with our own notion of when an automaton is met the verdict is ours
 judged-by-met : (t : List ℕ) (r : Reading) → judgedBy met t r ≡ judged t r
@@ -32,8 +32,8 @@ verdict-by-met t q rec = rw (judged-by-met t)
 
 -- what the misreadings compute with
 unfoldable opened : Unit {0}
-unfolding lists.opened judgedBy verdictBy atEachUse metFromOwnNode metThroughOwnNode isAttached metUsedOrNot howMany isFewest
-    fewestSets discountFirst notAccredited
+unfolding lists.opened judgedBy verdictBy atEachUse metFromOwnNode metThroughOwnNode isAttached metUsedOrNot firstAccepted
+    metFirstWord howMany isFewest fewestSets discountFirst notAccredited notStudent
 opened = tt
 
 -- a list of two sets, and one of one set
@@ -54,6 +54,7 @@ misreadings =
       own-node-accepts = record { verifier = refl; misreader = refl; differ = refused-accepted };
       own-node-refuses = record { verifier = refl; misreader = refl; differ = λ e. refused-accepted (sym e) };
       own-words-accept = record { verifier = refl; misreader = refl; differ = refused-accepted };
+      first-word-accepts = record { verifier = refl; misreader = refl; differ = refused-accepted };
       unused-refuses = record { verifier = refl; misreader = refl; differ = λ e. refused-accepted (sym e) };
       both-listed = refl;
       fewest-listed = refl;

@@ -1,5 +1,6 @@
--- Document 01, "Misreadings of the 2015 text": each as what a verifier or a lister would tell that reads the text so. Each is
--- ours but for one notion, and comes with a table, a query and a record (the last: a list) on which it tells something else.
+-- docs/DEFINITION.md, "Misreadings": each as what a verifier or a lister would tell that reads the text so.
+-- Each is ours but for one notion, and comes with a table, a query and a record (the last: a list) on which it tells something
+-- else.
 use Prim.Native.Nat.{ℕ, suc, _^_, _≤_}
 use mathlib.Core.Path.{_≡_}
 use mathlib.Core.List.{List, [], _∷_, _++_}
@@ -16,10 +17,11 @@ use Rattle.table.specs.Shop.{annAsks, shop, tableT, tableU}
 use Rattle.table.specs.declared.Role.{Role}
 use Rattle.table.specs.declared.Query.{Query}
 use Rattle.sets.specs.Sets.{inSet}
+use Rattle.automata.specs.Automata.{accepts}
 use Rattle.derivation.specs.Rules.{goalOf}
 use Rattle.derivation.specs.Forest.{Forest, countFrom, usedSet}
 use Rattle.derivation.specs.Forest.Forest.{end, node}
-use Rattle.derivation.specs.Words.{acceptsAll, met, words}
+use Rattle.derivation.specs.Words.{acceptsAll, met, usesAutomaton, words}
 use Rattle.verifier.specs.Reading.{Reading, reader}
 use Rattle.verifier.specs.Reading.Reading.{read, stop}
 use Rattle.verifier.specs.Verdict.{verdict}
@@ -58,7 +60,15 @@ isAttached t k = anyBelow (λ c. eqb (credential t (suc c) .automaton) k) (crede
 unfoldable pub metUsedOrNot : List ℕ → Forest → ℕ → Bool
 metUsedOrNot t f k = not (isAttached t k) or acceptsAll t k (words t [] f)
 
--- 4. Minimal means fewest credentials: how many of the table's credentials are in the set
+-- 4. Only the first word is judged, in the order of the record: no misreading of the text, but a verifier that demand 2 shuts out
+unfoldable pub firstAccepted : List ℕ → ℕ → List (List Role) → Bool
+firstAccepted t k [] = true
+firstAccepted t k (word ∷ more) = accepts t k word
+
+unfoldable pub metFirstWord : List ℕ → Forest → ℕ → Bool
+metFirstWord t f k = not (usesAutomaton t f k) or firstAccepted t k (words t [] f)
+
+-- 5. Minimal means fewest credentials: how many of the table's credentials are in the set
 unfoldable pub howMany : List ℕ → ℕ → ℕ
 howMany t S = length (those (inSet S) (credentials t))
 
@@ -89,6 +99,10 @@ discountFirst = shop 1 (automatonOf 1 2 ∷ []) (edgeOf 1 0 1 1 1 1 ∷ edgeOf 1
 unfoldable pub notAccredited : List ℕ
 notAccredited = shop 1 (automatonOf 1 1 ∷ []) (edgeOf 1 0 3 1 3 0 ∷ [])
 
+-- and with one that accepts the words in which School.student does not occur
+unfoldable pub notStudent : List ℕ
+notStudent = shop 1 (automatonOf 1 1 ∷ []) (edgeOf 1 0 3 2 2 0 ∷ [])
+
 -- Ann is in Shop.discount as a student of the school, which Shop has accredited: words Shop.discount Shop.accredited and
 -- Shop.discount School.student, the second through credential 3
 abbrev pub asStudent : List ℕ
@@ -108,7 +122,9 @@ pub record Misreadings : Type 0 where
   pub own-words-accept : Apart metThroughOwnNode notAccredited (annAsks 2) asStudent (refused 14 1) (accepted 7)
   -- 3. U's automaton rejects the word, and its credential is not used. It imposes more automata than we do
   pub unused-refuses : Apart metUsedOrNot tableU (annAsks 2) outright (accepted 8) (refused 14 1)
-  -- 4. 7 has three credentials, 8 has one, both are listed
+  -- 4. the automaton accepts the first word and rejects the second
+  pub first-word-accepts : Apart metFirstWord notStudent (annAsks 2) asStudent (refused 14 1) (accepted 7)
+  -- 5. 7 has three credentials, 8 has one, both are listed
   pub both-listed : minimalSets tableT (annAsks 2) ≡ 7 ∷ 8 ∷ []
   pub fewest-listed : fewestSets tableT (annAsks 2) ≡ 8 ∷ []
   pub lists-differ : minimalSets tableT (annAsks 2) ≡ fewestSets tableT (annAsks 2) → ⊥

@@ -1,5 +1,5 @@
--- Document 01, the listing program: "It prints one decimal set a line, then `sets` and the count; or one line `refused`, the
--- number, the position." What is printed is a list of bytes, each the ASCII code of a character.
+-- docs/DEFINITION.md, "The listing program": one decimal set a line, then `sets` and the count; or one line `refused`, the
+-- number, the position. What is printed is a list of bytes, each the ASCII code of a character.
 use Prim.Native.Nat.{ℕ, zero, suc, _+_, _/_, _%_}
 use Prim.Native.Char.{code}
 use Prim.Native.String.{String, [] as none, _∷_ as _then_}
@@ -49,7 +49,7 @@ unfoldable pub printed : Outcome → List ℕ → List ℕ
 printed (accepted count) cells = printedList (take count cells) count
 printed (refused number position) cells = printedRefusal number position
 
--- "It has 4,096 cells."
+-- the program lists with a buffer of 4,096 cells
 abbrev pub cells : ℕ
 cells = 4096
 

@@ -1,5 +1,5 @@
-// What the listing program prints (document 01, "The shop example"): one decimal set a line, then `sets` and the count; or one
-// line `refused`, the number, the position. specs/Printed.antt says which bytes these are.
+// What the listing program prints (docs/DEFINITION.md, "The listing program"): one decimal set a line, then `sets` and the
+// count; or one line `refused`, the number, the position. specs/Printed.antt says which bytes these are.
 use listing::Listing;
 use table::Refusal;
 ghost use mathlib.Core.List.{[], _∷_};

@@ -1,6 +1,6 @@
--- Document 01, "The list": which memberships the credentials of a set can prove when every word must be accepted by each of some
--- automata. `Provable` says it by derivations; `provable` decides it level by level, a goal through a credential and a credential
--- through the goals of its premises (proofs/Searching.antt).
+-- docs/DEFINITION.md, "The list": which memberships the credentials of a set can prove when every word must be accepted by each
+-- of some automata. `Provable` says it by derivations; `provable` decides it level by level, a goal through a credential and a
+-- credential through the goals of its premises (proofs/Searching.antt).
 use Prim.Native.Nat.{ℕ, zero, suc, _-_, _<_, _≤_}
 use mathlib.Core.Path.{_≡_}
 use mathlib.Core.List.{List, [], _∷_}

@@ -1,6 +1,7 @@
 // The search: whether the credentials of a set prove a membership when every word must be accepted by each of some automata, and
-// which credentials of a set bear on a query at all (document 01, "The list"). It knows of derivations what `derivation` promises: which
-// goals a credential asks, and what may not repeat on a branch. specs/Search.antt and specs/Relevance.antt say what the answers mean.
+// which credentials of a set bear on a query at all (docs/DEFINITION.md, "The list"). It knows of derivations what `derivation`
+// promises: which goals a credential asks, and what may not repeat on a branch. specs/Search.antt and specs/Relevance.antt say
+// what the answers mean.
 mod goals; // goals.rt: a goal through a credential, and a credential through the goals of its premises
 mod relevance; // relevance.rt: which credentials bear on a query
 

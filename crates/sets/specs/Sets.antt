@@ -1,4 +1,5 @@
--- A set of states is a number: state s counts 2^s (document 01, "The table"). Nothing here depends on how many states there are.
+-- A set of states is a number: state s counts 2^s (docs/DEFINITION.md, "The table"). Nothing here depends on how many states
+-- there are.
 use Prim.Native.Nat.{ℕ, zero, suc, _/_, _%_, _^_}
 use mathlib.Core.Bool.{Bool, not}
 use lib.Bits.{bitAnd, bitOr}

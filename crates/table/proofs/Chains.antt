@@ -2,8 +2,9 @@
 use mathlib.Core.Path.{_≡_, refl}
 use mathlib.Core.List.{List, [], _∷_}
 use mathlib.Core.Bool.{true}
-use Prim.Native.Nat.{ℕ, zero, suc, _+_, _-_, _≤_}
+use Prim.Native.Nat.{ℕ, zero, suc, _+_, _-_, _≤_, _<_}
 use native.Mathlib.Omega.{arith}
+use native.Mathlib.Decide.{ℕ-discrete}
 use lib.ListN.{length}
 use borrow.Author.Tests.{ne-eqb}
 use Rattle.sets.specs.Logic.{pick}
@@ -59,3 +60,19 @@ module _ (t : List ℕ) (first met j : ℕ) (walked : Walked t first met j) wher
   -- the chain has ended with `met` cells
   pub walk-ends : j ≡ 0 → length (chain t first) ≡ met
   walk-ends e = let z = rw (stop-at t (suc mostParts - met) j e) at (walked .whole) in omega arith
+
+-- where the chain from cell j ends before the limit `most`, a greater limit gives the same chain
+abbrev Settled : List ℕ → ℕ → ℕ → ℕ → Type 0
+Settled t most big j = length (cellsFrom t most j) < most → cellsFrom t big j ≡ cellsFrom t most j
+
+settled-step : (t : List ℕ) (most big j : ℕ) → Dec (j ≡ 0) → Settled t most big (cell t j .next) → Settled t (suc most) (suc big) j
+settled-step t most big j (yes z) later h = rw (stop-at t (suc big) j z, stop-at t (suc most) j z)
+settled-step t most big j (no nz) later h =
+    let shorter = rw (step-from t most j nz) at h in
+    rw (step-from t big j nz, step-from t most j nz, later (omega arith))
+
+pub cells-settled : (t : List ℕ) (most big j : ℕ) → most ≤ big → Settled t most big j
+cells-settled t zero big j le = λ h. absurd (omega arith)
+cells-settled t (suc most) zero j le = absurd (omega arith)
+cells-settled t (suc most) (suc big) j le =
+    settled-step t most big j (ℕ-discrete j 0) (cells-settled t most big (cell t j .next) (omega arith))

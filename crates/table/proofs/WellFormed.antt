@@ -2,11 +2,13 @@
 use mathlib.Core.Path.{_≡_, ap, _∙_}
 use mathlib.Core.List.{List}
 use mathlib.Core.Bool.{true}
-use Prim.Native.Nat.{ℕ}
+use Prim.Native.Nat.{ℕ, suc, _≤_}
+use native.Mathlib.Omega.{arith}
 use Rattle.sets.specs.Logic.{pick}
 use Rattle.table.specs.Outcome.{demandEach}
 use Rattle.table.specs.Outcome.Outcome.{accepted}
-use Rattle.table.specs.Layout.{Numbered, automata, cell, cells, credential, credentials, edge, edges}
+use Rattle.table.specs.Limits.{mostParts}
+use Rattle.table.specs.Layout.{Numbered, automata, cell, cells, cellsFrom, chain, credential, credentials, edge, edges}
 use Rattle.table.specs.Holding.{Sized, WellFormed}
 use Rattle.table.specs.Checks.{AcceptedTable, Valid, chainOk, goodCredential, goodCell, goodChain, goodEdge}
 use Rattle.table.specs.Checks.{headOutcome, queryOutcome, requestOutcome, tableOutcome}
@@ -14,7 +16,7 @@ use Rattle.table.specs.declared.Query.{Query}
 use Rattle.table.proofs.Stages.{then-first, then-second, each-ok, each-value}
 use Rattle.table.proofs.Sizes.{sized}
 use Rattle.table.proofs.Fields.{CredentialRange, CellRange, EdgeRange, credential-range, cell-range, edge-range}
-use Rattle.table.proofs.Chains.{ChainRange, chain-range}
+use Rattle.table.proofs.Chains.{ChainRange, cells-settled, chain-range}
 
 -- every check has passed, and what it passes with is 0
 record Passed (t : List ℕ) (v : ℕ) : Type 0 where
@@ -63,6 +65,13 @@ module _ (t : List ℕ) (wf : WellFormed t) where
 
   pub wf-chain : (i : ℕ) → Numbered (credentials t) i → credential t i .kind ≡ 4 → ChainRange t (credential t i .first)
   wf-chain i h four = chain-range t (credential t i .first) (wf-chain-ok i h four)
+
+  -- the chain is whole: reading on gives no further cell. `chain` reads five cells at most, and this says that nothing is lost
+  pub wf-chain-whole : (i : ℕ) → Numbered (credentials t) i → credential t i .kind ≡ 4 → (big : ℕ) → suc mostParts ≤ big
+      → cellsFrom t big (credential t i .first) ≡ chain t (credential t i .first)
+  wf-chain-whole i h four big le =
+      let few = wf-chain i h four .most in
+      cells-settled t (suc mostParts) big (credential t i .first) le (omega arith)
 
 -- where rows 1 to 8 find nothing, the table is accepted and the query valid
 pub request-accepted : (t : List ℕ) (q : Query) → requestOutcome t q ≡ accepted 0 → WellFormed t × Valid q

@@ -1,4 +1,4 @@
--- Document 01, "Where each input is stopped", rows 1 to 8, with the ranges of "The table": what each record must be, and
+-- docs/DEFINITION.md, "Where each input is stopped", rows 1 to 8, with the ranges of "The table": what each record must be, and
 -- the order in which the checks are made.
 use Prim.Native.Nat.{ℕ}
 use mathlib.Core.Path.{_≡_}
@@ -129,7 +129,7 @@ AcceptedTable t = tableOutcome t ≡ accepted 0
 abbrev pub Valid : Query → Type 0
 Valid q = queryOutcome q ≡ accepted 0
 
--- document 01's number of each reason
+-- the number of each reason: docs/DEFINITION.md, "Where each input is stopped"
 unfoldable pub numberOf : Reason → ℕ
 numberOf reason.ShortHead = 1
 numberOf reason.CountOverLimit = 2

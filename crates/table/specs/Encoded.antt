@@ -1,5 +1,6 @@
--- Document 01, "The table", the other way round: a table's numbers, written from its records. Each record's numbers stand in
--- the document's order; proofs/Encoding.antt shows that every accessor of specs/Layout.antt reads back what is written here.
+-- docs/DEFINITION.md, "The table", the other way round: a table's numbers, written from its records. Each record's numbers stand
+-- in the definition's order; proofs/Encoding.antt shows that every accessor of specs/Layout.antt reads back what is written
+-- here.
 use Prim.Native.Nat.{ℕ}
 use mathlib.Core.List.{List, [], _∷_, _++_, flatMap}
 use lib.ListN.{length}

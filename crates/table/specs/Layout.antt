@@ -1,4 +1,4 @@
--- Document 01, "The table": the head's four counts, then the records of credentials, part cells, automata and edges, each
+-- docs/DEFINITION.md, "The table": the head's four counts, then the records of credentials, part cells, automata and edges, each
 -- numbered from 1. Sizes and bases stand here and nowhere else; all other definitions go by the records.
 use Prim.Native.Nat.{ℕ, zero, suc, _+_, _-_, _*_, _≤_}
 use mathlib.Core.List.{List, [], _∷_, map}

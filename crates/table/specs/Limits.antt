@@ -1,4 +1,4 @@
--- Document 01, "The table" and "Derivations and words": the limits of counts and fields, each under its name.
+-- docs/DEFINITION.md, "The table" and "The query": the limits of counts and fields, each under its name.
 use Prim.Native.Nat.{ℕ}
 
 abbrev pub mostCredentials : ℕ

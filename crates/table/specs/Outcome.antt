@@ -1,5 +1,5 @@
--- Document 01, "Where each input is stopped": the result of a call is what it accepts, or a refusal number and a position.
--- Checks go down the table; within a row, by ascending record number.
+-- docs/DEFINITION.md, "Where each input is stopped": the result of a call is what it accepts, or a refusal number and a
+-- position. Checks go down the table; within a row, by ascending record number.
 use Prim.Native.Nat.{ℕ, zero, suc}
 use mathlib.Core.Bool.{Bool, true, false}
 

@@ -1,5 +1,5 @@
--- Document 01, "The shop example": tables T and U and the query, for the proved rows and for whatever else is told of them.
--- Principals Shop 1, School 2, Ann 4; names discount 1, student 2, accredited 3.
+-- docs/DEFINITION.md, "The shop example": tables T and U and the query, for the proved rows and for whatever else is told of
+-- them. Principals Shop 1, School 2, Ann 4; names discount 1, student 2, accredited 3.
 use Prim.Native.Nat.{ℕ}
 use mathlib.Core.List.{List, [], _∷_}
 use Rattle.table.specs.Encoded.{automatonOf, credentialOf, edgeOf, encoded}

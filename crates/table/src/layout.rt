@@ -1,4 +1,4 @@
-// Where the records of a table stand, and each record by its number, from 1. Sizes, bases and limits of document 01,
+// Where the records of a table stand, and each record by its number, from 1. Sizes, bases and limits of docs/DEFINITION.md,
 // "The table", stand here and nowhere else. A caller shows that the table has the length that its head says.
 use crate::Automaton;
 use crate::Cell;

@@ -1,4 +1,4 @@
-// The types of a table of credentials and of a query, as document 01 lays them out, and why an input is stopped. What an
+// The types of a table of credentials and of a query, as docs/DEFINITION.md lays them out, and why an input is stopped. What an
 // accepted table and a valid query are is in specs/Checks.antt; what an accepted table gives its readers, in
 // proofs/WellFormed.antt. The crate `checks` makes the checks.
 pub mod layout; // layout.rt: the records of a table, by number
@@ -93,7 +93,7 @@ pub const EVERY_ROLE: Number = 2;
 
 pub const OTHER_ROLES: Number = 3;
 
-// Why an input is stopped, in the order of document 01's table.
+// Why an input is stopped, in the order of docs/DEFINITION.md, "Where each input is stopped".
 pub enum Reason {
     ShortHead,
     CountOverLimit,
@@ -112,7 +112,7 @@ pub enum Reason {
 }
 
 impl Reason {
-    // Document 01's number of it.
+    // The definition's number of it.
     pub fn number(self) -> u32
         ensures { λ r. ⌜ r ≡ numberOf self ⌝ }
     {

@@ -1,4 +1,5 @@
--- Document 01, "The shop example": the record rows marked •, as one list of inputs and expected outcomes with one lemma for it.
+-- docs/DEFINITION.md, "The shop example": the record rows marked •, as one list of inputs and expected outcomes with one lemma
+-- for it.
 use mathlib.Core.Path.{_≡_, refl}
 use mathlib.Core.List.{List, [], _∷_}
 use Prim.Native.Nat.{ℕ}

@@ -1,5 +1,5 @@
--- Document 01, "Where each input is stopped", rows 11 to 13: how a record is read, node by node in preorder. At each node 11, 12
--- and 13 are tested in that order before its children.
+-- docs/DEFINITION.md, "Where each input is stopped", rows 11 to 13: how a record is read, node by node in preorder. At each node
+-- 11, 12 and 13 are tested in that order before its children.
 use Prim.Native.Nat.{ℕ, zero, suc}
 use mathlib.Core.List.{List, [], _∷_}
 use mathlib.Core.Bool.{Bool, false}

@@ -1,5 +1,5 @@
 // The verifier's end: whether a proof record derives the queried membership by the rules of RT0 and complies with every
-// automaton attached to a credential that it uses (document 01, "Derivations and words"). specs/Verdict.antt says what the
+// automaton attached to a credential that it uses (docs/DEFINITION.md, "Records" and "Words"). specs/Verdict.antt says what the
 // answer means; specs/DemandTwo.antt states that it is right.
 mod reader; // reader.rt: a record, node by node
 mod words; // words.rt: row 14
