@@ -1,6 +1,6 @@
 -- Row 6: what the walk along a chain tells of it, and which credentials have one. Rows 4 and 5 have passed before, so that every
 -- cell on the way is there.
-use mathlib.Core.Path.{_≡_, sym, ap, _∙_}
+use mathlib.Core.Path.{_≡_, refl, sym, ap, _∙_}
 use mathlib.Core.List.{List}
 use mathlib.Core.Bool.{true, false}
 use Prim.Native.Nat.{ℕ, _+_, _≤_, _<_}
@@ -10,27 +10,28 @@ use borrow.Author.Tests.{ne-eqb, le-leb, lt-leb}
 use Rattle.sets.specs.Logic.{_and_, pick}
 use Rattle.sets.proofs.Tests.{and-none}
 use Rattle.table.specs.Limits.{mostParts, leastParts}
+use Rattle.table.specs.Outcome.{demand}
 use Rattle.table.specs.Outcome.Outcome.{accepted}
 use Rattle.table.specs.Layout.{Numbered, cell, cells, chain, credential, credentials}
-use Rattle.table.specs.Checks.{within, chainOk, goodCell, goodChain, goodCredential, numberOf}
+use Rattle.table.specs.Checks.{within, chainOk, goodCell, goodChain, goodCredential}
 use Rattle.table.specs.declared.Credential.{Credential}
-use Rattle.table.proofs.Stages.{each-ok}
+use Rattle.table.proofs.Stages.{each-all, each-ok}
 use Rattle.table.proofs.Fields.{credential-range, cell-range}
 use Rattle.table.proofs.Chains.{Walked, walk-more, walk-ends}
-use Rattle.checks.specs.Rows.{good, reasonOf, records, rowOutcome}
+use Rattle.checks.specs.Rows.{FirstBad, good, records, rowOutcome}
 use Rattle.checks.specs.declared.rows.Row.the-variants as row
 
 module _ (t : List ℕ) where
   -- a kind 4 credential's first cell is there, and so is every next one but 0
-  pub first-inside : rowOutcome t row.Credentials ≡ accepted 0 → (i : ℕ) → Numbered (credentials t) i → {c : Credential}
+  pub first-inside : rowOutcome t row.Credentials 4 ≡ accepted 0 → (i : ℕ) → Numbered (credentials t) i → {c : Credential}
       → c ≡ credential t i → c .kind ≡ 4 → c .first ≤ cells t
-  unfolding rowOutcome good records reasonOf numberOf
+  unfolding rowOutcome good records
   first-inside e i h read four =
       let range = credential-range t i (each-ok (goodCredential t) 4 (credentials t) 0 e i h) in
       rw read (range .intersection (ap (λ (x : Credential). x .kind) (sym read) ∙ four) .last)
 
-  pub next-inside : rowOutcome t row.Cells ≡ accepted 0 → (j : ℕ) → Numbered (cells t) j → cell t j .next ≤ cells t
-  unfolding rowOutcome good records reasonOf numberOf
+  pub next-inside : rowOutcome t row.Cells 5 ≡ accepted 0 → (j : ℕ) → Numbered (cells t) j → cell t j .next ≤ cells t
+  unfolding rowOutcome good records
   next-inside e j h = cell-range t j (each-ok (goodCell t) 5 (cells t) 0 e j h) .next
 
 module _ (t : List ℕ) (first met j : ℕ) (walked : Walked t first met j) where
@@ -60,3 +61,11 @@ module _ (t : List ℕ) (i : ℕ) {c : Credential} (read : c ≡ credential t i)
   pub no-chain : (c .kind ≡ 4 → ⊥) → goodChain t i ≡ true
   unfolding goodChain pick
   no-chain h = rw (← read, ne-eqb (c .kind) 4 h)
+
+-- without part cells no credential has a chain
+pub no-cells : (t : List ℕ) → rowOutcome t row.Credentials 4 ≡ accepted 0 → cells t ≡ 0 → FirstBad (goodChain t) (credentials t) 0
+unfolding rowOutcome good records demand
+no-cells t e none number =
+    sym (each-all (goodChain t) number (credentials t) (λ i h. no-chain t i refl (λ four.
+    let range = credential-range t i (each-ok (goodCredential t) 4 (credentials t) 0 e i h) .intersection four in
+    omega arith)))

@@ -1,13 +1,13 @@
--- The rows of checks that ask every record of one kind by itself, as one row: how many records there are, what each must be, and
--- why one is refused. `tableOutcome` has these rows written out.
+-- The rows of checks that ask every record of one kind by itself, as one row: how many records there are, and what each must be.
+-- `tableOutcome` has these rows written out.
 use Prim.Native.Nat.{ℕ}
 use mathlib.Core.List.{List}
 use mathlib.Core.Bool.{Bool}
-use Rattle.table.specs.Outcome.{Outcome, demandEach}
+use mathlib.Core.Path.{_≡_}
+use lib.Dec.{eqb}
+use Rattle.table.specs.Outcome.{Outcome, demand, demandEach}
 use Rattle.table.specs.Layout.{cells, credentials, edges}
-use Rattle.table.specs.Checks.{goodCell, goodCredential, goodEdge, numberOf}
-use Rattle.table.specs.declared.Reason.{Reason}
-use Rattle.table.specs.declared.Reason.the-variants as reason
+use Rattle.table.specs.Checks.{goodCell, goodCredential, goodEdge}
 use Rattle.checks.specs.declared.rows.Row.{Row}
 use Rattle.checks.specs.declared.rows.Row.the-variants as row
 
@@ -21,10 +21,9 @@ good t row.Credentials = goodCredential t
 good t row.Cells = goodCell t
 good t row.Edges = goodEdge t
 
-unfoldable pub reasonOf : Row → Reason
-reasonOf row.Credentials = reason.Credential
-reasonOf row.Cells = reason.Cell
-reasonOf row.Edges = reason.Edge
+unfoldable pub rowOutcome : List ℕ → Row → ℕ → Outcome
+rowOutcome t r number = demandEach (good t r) (records t r) number
 
-unfoldable pub rowOutcome : List ℕ → Row → Outcome
-rowOutcome t r = demandEach (good t r) (records t r) (numberOf (reasonOf r))
+-- the first of the records 1 to n that is not ok, or 0 where every one is: what a row tells of them, whatever its number
+abbrev pub FirstBad : (ℕ → Bool) → ℕ → ℕ → Type 0
+FirstBad ok n first = (number : ℕ) → demand (eqb first 0) number first ≡ demandEach ok n number

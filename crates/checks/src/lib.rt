@@ -9,6 +9,7 @@ use table::Number;
 use table::Query;
 use table::Reason;
 use table::Refusal;
+use table::layout;
 use table::layout::MOST_DEPTH;
 ghost use mathlib.Core.Path.{_≡_};
 ghost use Rattle.table.specs.Outcome.{Outcome};
@@ -33,19 +34,26 @@ pub fn check_table(table: &[Number]) -> TableCheck
     let TableCheck::Accepted = head else {
         return head;
     };
-    let credentials = rows::check_records(table, Row::Credentials);
-    let TableCheck::Accepted = credentials else {
-        return credentials;
-    };
-    let cells = rows::check_records(table, Row::Cells);
-    let TableCheck::Accepted = cells else {
-        return cells;
-    };
-    let chains = rows::check_chains(table);
-    let TableCheck::Accepted = chains else {
-        return chains;
-    };
-    rows::check_records(table, Row::Edges)
+    let credential = rows::first_bad(table, Row::Credentials);
+    if credential != 0 {
+        return rows::refused(Reason::Credential, credential);
+    }
+    let cell = rows::first_bad(table, Row::Cells);
+    if cell != 0 {
+        return rows::refused(Reason::Cell, cell);
+    }
+    let chain = rows::first_bad_chain(table);
+    if chain != 0 {
+        return rows::refused(Reason::Chain, chain);
+    }
+    if layout::edges(table) == 0 {
+        return TableCheck::Accepted;
+    }
+    let edge = rows::first_bad(table, Row::Edges);
+    if edge != 0 {
+        return rows::refused(Reason::Edge, edge);
+    }
+    TableCheck::Accepted
 }
 
 // Whether the table is accepted and the query valid: rows 1 to 8, which every call with a query makes first.

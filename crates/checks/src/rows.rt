@@ -17,14 +17,14 @@ use table::layout::MOST_PARTS;
 ghost use mathlib.Core.Path.{_≡_};
 ghost use Prim.Native.Nat.{_≤_};
 ghost use lib.ListN.{length};
-ghost use Rattle.table.specs.Outcome.{Outcome, demandEach};
+ghost use Rattle.table.specs.Outcome.{Outcome};
 ghost use Rattle.table.specs.Layout;
 ghost use Rattle.table.specs.Layout.{Numbered, headSize};
 ghost use Rattle.table.specs.Holding.{Counted, Sized};
 ghost use Rattle.table.specs.Checks.{countsOk, goodChain, headOutcome, numberOf};
 ghost use Rattle.checks.specs.Told.{tableTold};
 ghost use Rattle.checks.specs.Rows;
-ghost use Rattle.checks.specs.Rows.{good, reasonOf, rowOutcome};
+ghost use Rattle.checks.specs.Rows.{FirstBad, good, rowOutcome};
 ghost use Rattle.checks.specs.declared.rows.Row.the-variants as row;
 
 // The rows that ask every record of one kind by itself: 4, 5 and 7.
@@ -61,16 +61,6 @@ impl Row {
             Row::Edges => ranges::edge_ok(layout::edge(table, i), layout::automata(table)),
         }
     }
-
-    fn reason(self) -> Reason
-        ensures { λ r. ⌜ r ≡ reasonOf self ⌝ }
-    {
-        match self {
-            Row::Credentials => Reason::Credential,
-            Row::Cells => Reason::Cell,
-            Row::Edges => Reason::Edge,
-        }
-    }
 }
 
 // Rows 1 to 3.
@@ -98,34 +88,38 @@ fn counts_ok(table: &[Number]) -> bool
         && (table[1] <= MOST_CELLS && (table[2] <= MOST_AUTOMATA && table[3] <= MOST_EDGES))
 }
 
-// Rows 4, 5 and 7, each over its records by ascending number.
-pub fn check_records(table: &[Number], row: Row) -> TableCheck
+// Rows 4, 5 and 7: the first record of the row that is not good, by ascending number, or 0 where every one is.
+pub fn first_bad(table: &[Number], row: Row) -> usize
     requires { ⌜ Sized (now table) ⌝ }
-    ensures { λ r. ⌜ tableTold r ≡ rowOutcome (now (table .entry)) row ⌝ }
+    ensures { λ r. ⌜ FirstBad (good (now (table .entry)) row) (Rows.records (now (table .entry)) row) r ⌝ }
 {
     let n = row.records(table);
     let mut i = 0;
     while i < n {
         i += 1;
         if !row.is_good(table, i) {
-            return refused(row.reason(), i);
+            return i;
         }
     }
-    TableCheck::Accepted
+    0
 }
 
-// Row 6: the chain of each kind 4 credential has 2 to 4 cells. It is left as soon as a fifth cell is met.
-pub fn check_chains(table: &[Number]) -> TableCheck
+// Row 6: the first credential whose chain has not 2 to 4 cells, or 0; without part cells there is no chain. A chain is left as soon
+// as a fifth cell is met.
+pub fn first_bad_chain(table: &[Number]) -> usize
     requires { ⌜ Sized (now table) ⌝ }
-    requires { ⌜ rowOutcome (now table) row.Credentials ≡ Outcome.accepted 0 ⌝ }
-    requires { ⌜ rowOutcome (now table) row.Cells ≡ Outcome.accepted 0 ⌝ }
-    ensures { λ r. ⌜ tableTold r ≡ demandEach (goodChain (now (table .entry))) (Layout.credentials (now (table .entry))) 6 ⌝ }
+    requires { ⌜ rowOutcome (now table) row.Credentials 4 ≡ Outcome.accepted 0 ⌝ }
+    requires { ⌜ rowOutcome (now table) row.Cells 5 ≡ Outcome.accepted 0 ⌝ }
+    ensures { λ r. ⌜ FirstBad (goodChain (now (table .entry))) (Layout.credentials (now (table .entry))) r ⌝ }
 {
+    if layout::cells(table) == 0 {
+        return 0;
+    }
     let n = layout::credentials(table);
     let mut i = 0;
     'credentials: loop {
         if i == n {
-            break TableCheck::Accepted;
+            break 0;
         }
         i += 1;
         let c = layout::credential(table, i);
@@ -137,17 +131,17 @@ pub fn check_chains(table: &[Number]) -> TableCheck
         while j != 0 {
             met += 1;
             if MOST_PARTS < met {
-                break 'credentials refused(Reason::Chain, i);
+                break 'credentials i;
             }
             j = layout::cell(table, layout::wide(j)).next;
         }
         if met < LEAST_PARTS {
-            break refused(Reason::Chain, i);
+            break i;
         }
     }
 }
 
-fn refused(reason: Reason, position: usize) -> TableCheck
+pub fn refused(reason: Reason, position: usize) -> TableCheck
     ensures { λ r. ⌜ tableTold r ≡ Outcome.refused (numberOf reason) position ⌝ }
 {
     TableCheck::Refused(Refusal {

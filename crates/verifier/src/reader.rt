@@ -123,11 +123,11 @@ pub fn read<'a>(
         return rec;
     }
     let below = states.moved(table, goal.role);
-    let deeper = branch.with(goal);
     let len = step.len;
     let goals = step.goals;
     *used = with_credential(*used, step.credential);
     *every = after_node(table, *every, below, len);
+    let deeper = branch.with(goal);
     let mut rest = &rec[2..];
     let mut i = 0;
     while i < len {

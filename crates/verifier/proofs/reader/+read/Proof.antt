@@ -30,11 +30,11 @@ abbrev read-below : ℕ → In 6 read-kinds.ps
 read-below t = and 6 read-kinds.ps (falls 6 read-kinds.ps _<_ μ-read t) read.Pre
 
 abbrev read-Inv-loop : read-lts.InvT-loop
-read-Inv-loop table rec levels used₀ nodes₀ every₀ refusal₀ stopped below deeper len goals rest₀ i₀ used nodes every refusal rest i =
+read-Inv-loop table rec levels used₀ nodes₀ every₀ refusal₀ stopped below len goals deeper rest₀ i₀ used nodes every refusal rest i =
     Onward table (levels - 1) (above deeper) goals len below rest₀ used₀ nodes₀ every₀ rest used nodes every refusal i
 
 abbrev read-μ-loop : read-lts.MeasureT-loop
-read-μ-loop table rec levels used₀ nodes₀ every₀ refusal₀ stopped below deeper len goals rest₀ i₀ used nodes every refusal rest i = len - i
+read-μ-loop table rec levels used₀ nodes₀ every₀ refusal₀ stopped below len goals deeper rest₀ i₀ used nodes every refusal rest i = len - i
 
 abbrev read-claims : ℕ → read-lts.Claims
 read-claims t = (
@@ -42,12 +42,12 @@ read-claims t = (
   enter-reads.Learnt,
   moved-reads.Asked,
   moved-reads.Learnt,
-  with-reads.Asked,
-  with-reads.Learnt,
   with-credential-reads.Asked,
   with-credential-reads.Learnt,
   after-node-reads.Asked,
   after-node-reads.Learnt,
+  with-reads.Asked,
+  with-reads.Learnt,
   read-below t,
   read.Post,
 )
@@ -74,26 +74,26 @@ module _ (t : ℕ) where
 
   down : (at : Children) → let from = start (entered at) .args in
       let step = entered at .before .enter .result in
-      let deeper = at .before .before .before .before .before .before .with .result in
+      let deeper = at .before .with .result in
       let below = at .before .before .before .before .before .before .before .moved .result in
-      let used₀ = at .before .before .before .with-credential .result in
-      let every₀ = at .before .after-node .result in
+      let used₀ = at .before .before .before .before .with-credential .result in
+      let every₀ = at .before .before .after-node .result in
       Down (now (from .table)) (from .branch) (from .goal) (from .states) step (now (from .used)) (now (from .every))
       deeper below used₀ every₀
   down at =
       record {
-        branches = at .before .before .before .before .before .before .with .ensures .1 .1;
+        branches = at .before .with .ensures .1 .1;
         moves = at .before .before .before .before .before .before .before .moved .ensures;
-        uses = at .before .before .before .with-credential .ensures;
-        keeps = at .before .after-node .ensures;
+        uses = at .before .before .before .before .with-credential .ensures;
+        keeps = at .before .before .after-node .ensures;
       }
 
-  deeper-fits : (at : Children) → let deeper = at .before .before .before .before .before .before .with .result in
+  deeper-fits : (at : Children) → let deeper = at .before .with .result in
       Room mostDepth (deeper .len) (deeper .goals) × (deeper .len + (start (entered at) .args .levels - 1) ≤ mostDepth)
   deeper-fits at =
-      let one-more = at .before .before .before .before .before .before .with .ensures .1 .0 in
+      let one-more = at .before .with .ensures .1 .0 in
       let above-fits = start (entered at) .pre .1 .1 .0 .1 in
-      (at .before .before .before .before .before .before .with .ensures .0, omega (arith, one-more, above-fits, node-level (node (entered at))))
+      (at .before .with .ensures .0, omega (arith, one-more, above-fits, node-level (node (entered at))))
 
 read-add-nodes : (t : ℕ) → read-lts.Need-add-nodes (read-claims t) (read-at t) read.Post read-Inv-loop read-μ-loop
 read-add-nodes t c =
@@ -111,18 +111,18 @@ read-returns t c = node-halts _ _ (c .before .enter .ensures .1) (c .if1 .taken)
 read-moved-requires : (t : ℕ) → read-lts.Need-moved-requires (read-claims t) (read-at t) read.Post read-Inv-loop read-μ-loop
 read-moved-requires t c κs = start t c .pre .1 .0
 
-read-with-requires : (t : ℕ) → read-lts.Need-with-requires (read-claims t) (read-at t) read.Post read-Inv-loop read-μ-loop
-read-with-requires t c κs =
-    let at = c .before in
-    let pre = start t at .pre in
-    (pre .1 .1 .0 .0, omega (arith, pre .1 .1 .0 .1, node-level (node t at)))
-
 read-with-credential-requires : (t : ℕ)
     → read-lts.Need-with-credential-requires (read-claims t) (read-at t) read.Post read-Inv-loop read-μ-loop
-read-with-credential-requires t c κs = node-credential (node t (c .before .before .before .before))
+read-with-credential-requires t c κs = node-credential (node t (c .before .before .before))
 
 read-after-node-requires : (t : ℕ) → read-lts.Need-after-node-requires (read-claims t) (read-at t) read.Post read-Inv-loop read-μ-loop
-read-after-node-requires t c κs = start t (c .before .before .before .before .before .before) .pre .1 .0
+read-after-node-requires t c κs = start t (c .before .before .before .before .before) .pre .1 .0
+
+read-with-requires : (t : ℕ) → read-lts.Need-with-requires (read-claims t) (read-at t) read.Post read-Inv-loop read-μ-loop
+read-with-requires t c κs =
+    let at = c .before .before .before .before .before .before in
+    let pre = start t at .pre in
+    (pre .1 .1 .0 .0, omega (arith, pre .1 .1 .0 .1, node-level (node t at)))
 
 read-sub-rest : (t : ℕ) → read-lts.Need-sub-rest (read-claims t) (read-at t) read.Post read-Inv-loop read-μ-loop
 read-sub-rest t c = omega (arith, node-long (node t (c .before .before .before .before .before .before .before)))
@@ -192,9 +192,9 @@ pub +read-spec : {M : Type 1} → statement M
     (read-enter-requires t)
     (read-returns t)
     (read-moved-requires t)
-    (read-with-requires t)
     (read-with-credential-requires t)
     (read-after-node-requires t)
+    (read-with-requires t)
     (read-sub-rest t)
     (read-part-rest-start t)
     (read-part-rest-end t)
