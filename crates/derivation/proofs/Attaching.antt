@@ -1,7 +1,7 @@
 -- The automata of a set, credential by credential, as the code gathers them.
 use mathlib.Core.Path.{_≡_}
 use mathlib.Core.List.{List}
-use mathlib.Core.Bool.{true, false, not}
+use mathlib.Core.Bool.{Bool, not}
 use Prim.Native.Nat.{ℕ, _+_, _-_, _^_, _≤_}
 use native.Mathlib.Omega.{arith}
 use native.Mathlib.Numerals.{add-one}
@@ -23,13 +23,9 @@ automaton-few t wf i there x found =
     let few = wf .sized .counted .fewAutomata in
     rw found (omega arith)
 
--- one credential more, which the code has read as x; it is in the set, or it is not
-module _ (t : List ℕ) (S i : ℕ) {mask : ℕ} (so-far : mask ≡ automataUpTo t S i) where
-  pub automata-more : {x : Credential} → inSet S i ≡ true → x ≡ credential t (i + 1)
-      → pick (not (eqb (x .automaton) 0)) (bitOr mask (2 ^ (x .automaton - 1))) mask ≡ automataUpTo t S (i + 1)
-  unfolding automataUpTo _and_
-  automata-more member found = rw (found, so-far, add-one i, member)
-
-  pub automata-same : inSet S i ≡ false → mask ≡ automataUpTo t S (i + 1)
-  unfolding automataUpTo _and_ pick
-  automata-same other = rw (so-far, add-one i, other)
+-- one credential more, which the code has read as x, and whose membership as `member`
+pub automata-next : (t : List ℕ) (S i : ℕ) {mask : ℕ} {x : Credential} {member : Bool} → member ≡ inSet S i → x ≡ credential t (i + 1)
+    → mask ≡ automataUpTo t S i
+    → pick (member and not (eqb (x .automaton) 0)) (bitOr mask (2 ^ (x .automaton - 1))) mask ≡ automataUpTo t S (i + 1)
+unfolding automataUpTo
+automata-next t S i looked found so-far = rw (looked, found, so-far, add-one i)

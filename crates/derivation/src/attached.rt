@@ -8,7 +8,7 @@ ghost use mathlib.Core.Bool.{not};
 ghost use Prim.Native.Nat.{_-_, _^_, _≤_};
 ghost use lib.Bits.{bitOr};
 ghost use lib.Dec.{eqb};
-ghost use Rattle.sets.specs.Logic.{pick};
+ghost use Rattle.sets.specs.Logic.{_and_, pick};
 ghost use Rattle.table.specs.Limits.{mostAutomata};
 ghost use Rattle.table.specs.Holding.{WellFormed};
 ghost use Rattle.derivation.specs.Attached.{automataOf};
@@ -21,20 +21,21 @@ pub fn automata_of(table: &[Number], set: CredentialSet) -> AutomatonSet
     let mut mask = 0;
     let mut i = 0;
     while i < n {
-        if sets::has(set, i) {
-            let credential = layout::credential(table, i + 1);
-            mask = with_automaton(mask, credential.automaton);
-        }
+        let credential = layout::credential(table, i + 1);
+        mask = with_automaton(mask, sets::has(set, i), credential.automaton);
         i += 1;
     }
     mask
 }
 
-// The set with the automaton of a credential that has one.
-fn with_automaton(mask: AutomatonSet, automaton: Number) -> AutomatonSet
+// The mask with the automaton, where the credential is in the set and has one.
+fn with_automaton(mask: AutomatonSet, member: bool, automaton: Number) -> AutomatonSet
     requires { ⌜ automaton ≤ mostAutomata ⌝ }
-    ensures { λ r. ⌜ r ≡ pick (not (eqb automaton 0)) (bitOr mask (2 ^ (automaton - 1))) mask ⌝ }
+    ensures { λ r. ⌜ r ≡ pick (member and not (eqb automaton 0)) (bitOr mask (2 ^ (automaton - 1))) mask ⌝ }
 {
+    if !member {
+        return mask;
+    }
     if automaton == 0 {
         return mask;
     }

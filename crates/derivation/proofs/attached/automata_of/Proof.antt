@@ -1,14 +1,13 @@
 -- `derivation::attached::automata_of` meets its contract: the mask has the automata of those of the first i credentials that are in
 -- the set. Assumes nothing.
-use mathlib.Core.Logic.{⊎-elim}
-use mathlib.Core.Path.{_∙_, _≡_, refl, sym}
+use mathlib.Core.Path.{_∙_, _≡_, refl}
 use Prim.Native.Nat.{_-_, _≤_}
 use native.Mathlib.Omega.{arith}
 use borrow.Author.Needs.{needs}
 use denote.Ref.{now}
 use Rattle.table.specs.Layout.{credentials}
 use Rattle.derivation.specs.Attached.{automataOf, automataUpTo}
-use Rattle.derivation.proofs.Attaching.{automata-more, automata-same, automaton-few}
+use Rattle.derivation.proofs.Attaching.{automata-next, automaton-few}
 use Rattle.derivation.proofs.attached.automata_of.Statement.{statement}
 use Rattle.derivation.proofs.attached.automata_of.Tie as tie
 
@@ -25,17 +24,17 @@ loop-holds : tie.Need-loop-holds Inv-loop μ-loop
 unfolding automataUpTo
 loop-holds c = (omega arith, refl)
 
-has-requires : tie.Need-has-requires Inv-loop μ-loop
-has-requires c κs = search needs
-
 add-credential : tie.Need-add-credential Inv-loop μ-loop
 add-credential c = search needs
 
 credential-requires : tie.Need-credential-requires Inv-loop μ-loop
 credential-requires c κs = search needs
 
+has-requires : tie.Need-has-requires Inv-loop μ-loop
+has-requires c κs = search needs
+
 with-automaton-requires : tie.Need-with-automaton-requires Inv-loop μ-loop
-with-automaton-requires c κs = automaton-few _ (c .before .before .before .before .before .before .before .pre) _ (omega arith) _ (c .credential .ensures)
+with-automaton-requires c κs = automaton-few _ (c .before .before .before .before .before .before .pre) _ (omega arith) _ (c .before .credential .ensures)
 
 add-i : tie.Need-add-i Inv-loop μ-loop
 add-i c = search needs
@@ -45,10 +44,8 @@ loop-less c = search needs
 
 loop-again : tie.Need-loop-again Inv-loop μ-loop
 loop-again c =
-    let so-far = c .before .before .before .loop .inv .1 in
-    let mask = ⊎-elim (λ w. w .3 ∙ w .2 .ensures ∙ automata-more _ _ _ so-far (sym (c .before .has .ensures) ∙ w .0 .taken) (w .1 .ensures))
-    (λ w. w .1 ∙ automata-same _ _ _ so-far (sym (c .before .has .ensures) ∙ w .0 .left)) (c .if1 .came) in
-    (omega arith, mask)
+    let next = automata-next _ _ _ (c .before .has .ensures) (c .before .before .credential .ensures) (c .before .before .before .before .loop .inv .1) in
+    (omega arith, c .with-automaton .ensures ∙ next)
 
 returns : tie.Need-returns Inv-loop μ-loop
 unfolding automataOf
@@ -64,9 +61,9 @@ automata-of-spec =
     μ-loop
     credentials-requires
     loop-holds
-    has-requires
     add-credential
     credential-requires
+    has-requires
     with-automaton-requires
     add-i
     loop-less
