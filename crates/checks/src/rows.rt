@@ -79,7 +79,7 @@ pub fn check_head(table: &[Number]) -> TableCheck
     TableCheck::Accepted
 }
 
-// Each count of the head is inside its limit.
+// Each count of the head is inside its limit. They are read by place: the accessors ask for counts inside their limits.
 fn counts_ok(table: &[Number]) -> bool
     requires { ⌜ headSize ≤ length (now table) ⌝ }
     ensures { λ r. ⌜ r ≡ countsOk (now (table .entry)) ⌝ }

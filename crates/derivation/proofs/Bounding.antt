@@ -12,12 +12,12 @@ use Rattle.table.specs.Layout.{Numbered, credential, credentials, parts}
 use Rattle.table.specs.Holding.{WellFormed}
 use Rattle.table.specs.declared.Role.{Role}
 use Rattle.table.specs.declared.Goal.{Goal}
-use Rattle.table.proofs.WellFormed.{wf-chain}
+use Rattle.table.proofs.WellFormed.{well-formed, wf-chain}
 use Rattle.derivation.specs.Rules.{premises}
 use Rattle.derivation.specs.Forest.{Derives, Forest, countFrom, written}
 use Rattle.derivation.specs.Forest.Forest.{end, node}
 use Rattle.derivation.specs.Forest.Derives.{done, step}
-use Rattle.derivation.specs.Bounds.{FewNodes, Holdable, MostNodes, NoneExcluded, ShortEnough, nodesWithin, numberBits}
+use Rattle.derivation.specs.Bounds.{FewNodes, MostNodes, NoneExcluded, ShortEnough, nodesWithin, numberBits}
 use Rattle.derivation.proofs.Applying.{applies-numbered}
 use Rattle.derivation.proofs.Ruling.{Rule, rule-applied}
 use Rattle.derivation.proofs.Ruling.Rule.{membership, containment, linking, intersection}
@@ -116,7 +116,7 @@ few-trees {t} wf (step {levels} {c} {m} {goals = asked} {rest} {g} {children} {s
     (few-trees wf below) (few-trees wf later))
 
 pub few-nodes : FewNodes
-few-nodes t levels branch goals f wf d = rw (tree-nodes levels) at (few-trees wf d)
+few-nodes t levels branch goals f table d = rw (tree-nodes levels) at (few-trees (well-formed t table) d)
 
 -- every number fits its type
 abbrev Narrow : List ℕ → Type 0
@@ -146,9 +146,9 @@ narrow-record {t} wf (step {c = c} {m} {goals = asked} {g = g} {children} {sibli
     (narrow-record wf below) (narrow-record wf later)
 
 pub none-excluded : NoneExcluded
-none-excluded t levels branch g f wf h d =
-    let nodes = few-nodes t levels branch (g ∷ []) f wf d in
+none-excluded t levels branch g f table h d =
+    let nodes = few-nodes t levels branch (g ∷ []) f table d in
     record {
       short = omega (arith, written-length f, nodes, nodes-mono levels mostDepth h);
-      narrow = narrow-record wf d;
+      narrow = narrow-record (well-formed t table) d;
     }

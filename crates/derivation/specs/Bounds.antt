@@ -5,7 +5,7 @@ use mathlib.Core.Path.{_≡_}
 use mathlib.Core.List.{List, [], _∷_}
 use lib.ListN.{getD, length}
 use Rattle.table.specs.Limits.{mostDepth, mostParts}
-use Rattle.table.specs.Holding.{WellFormed}
+use Rattle.table.specs.Checks.{AcceptedTable}
 use Rattle.table.specs.declared.Goal.{Goal}
 use Rattle.derivation.specs.Forest.{Derives, Forest, countFrom, written}
 
@@ -17,7 +17,7 @@ nodesWithin levels = (mostParts ^ levels - 1) / (mostParts - 1)
 abbrev pub FewNodes : Type 0
 FewNodes =
     (t : List ℕ) (levels : ℕ) (branch goals : List Goal) (f : Forest)
-    → WellFormed t → Derives t levels branch goals f → countFrom 0 f ≤ length goals * nodesWithin levels
+    → AcceptedTable t → Derives t levels branch goals f → countFrom 0 f ≤ length goals * nodesWithin levels
 
 -- the definition's number, which is that of the deepest limit
 abbrev pub mostNodes : ℕ
@@ -43,4 +43,4 @@ ShortEnough = (rec : List ℕ) → Holdable rec → length rec * (numberBits / 8
 abbrev pub NoneExcluded : Type 0
 NoneExcluded =
     (t : List ℕ) (levels : ℕ) (branch : List Goal) (g : Goal) (f : Forest)
-    → WellFormed t → levels ≤ mostDepth → Derives t levels branch (g ∷ []) f → Holdable (written f)
+    → AcceptedTable t → levels ≤ mostDepth → Derives t levels branch (g ∷ []) f → Holdable (written f)

@@ -20,13 +20,13 @@ use Rattle.sets.proofs.Tests.{and-both, and-is, and-is-off}
 use Rattle.table.proofs.Stages.{then-second}
 use Rattle.listing.specs.Minimal.{bufferAfter, listing, listingTold}
 use Rattle.listing.proofs.Counting.{accepted-counted}
-use Rattle.input.specs.Input.{countedBytes, inputBuffer, inputOutcome, isWhole, numberOf, numbersOf, queryOf, querySize, tableOf}
+use Rattle.input.specs.Input.{countedBytes, inputBuffer, inputOutcome, isWhole, fromBytes, numbersOf, queryOf, querySize, tableOf}
 use Rattle.listing.specs.declared.Listing.{Listing}
 use Rattle.listing.specs.declared.Listing.the-variants as listing′
 
 -- two bytes are left, or fewer
 numbers-two : (s : List ℕ) (k : ℕ) → suc k < length s
-    → numbersOf (drop k s) ≡ numberOf (getD s k 0) (getD s (suc k) 0) ∷ numbersOf (drop (suc (suc k)) s)
+    → numbersOf (drop k s) ≡ fromBytes (getD s k 0) (getD s (suc k) 0) ∷ numbersOf (drop (suc (suc k)) s)
 unfolding numbersOf
 numbers-two s k h = rw (drop-cons s k 0 (omega arith), drop-cons s (suc k) 0 h)
 
@@ -51,7 +51,7 @@ pub decoded-none : (bytes before : List ℕ) → Decoded bytes before before 0
 decoded-none bytes before = record { numbers = refl; beyond = refl }
 
 module _ {bytes before places : List ℕ} {i : ℕ} (d : Decoded bytes before places i) where
-  pub decoded-next : (x : ℕ) → i < length bytes / 2 → i < length places → x ≡ numberOf (getD bytes (2 * i) 0) (getD bytes (2 * i + 1) 0)
+  pub decoded-next : (x : ℕ) → i < length bytes / 2 → i < length places → x ≡ fromBytes (getD bytes (2 * i) 0) (getD bytes (2 * i + 1) 0)
       → Decoded bytes before (set places i x) (i + 1)
   decoded-next x h room e =
       let twice : 2 * (i + 1) ≡ suc (suc (2 * i)) = omega arith in

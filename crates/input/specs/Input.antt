@@ -16,13 +16,13 @@ abbrev pub mostBytes : ℕ
 mostBytes = 4096
 
 -- low byte first
-unfoldable pub numberOf : ℕ → ℕ → ℕ
-numberOf low high = low + 256 * high
+unfoldable pub fromBytes : ℕ → ℕ → ℕ
+fromBytes low high = low + 256 * high
 
 unfoldable pub numbersOf : List ℕ → List ℕ
 numbersOf [] = []
 numbersOf (low ∷ []) = []
-numbersOf (low ∷ high ∷ bytes) = numberOf low high ∷ numbersOf bytes
+numbersOf (low ∷ high ∷ bytes) = fromBytes low high ∷ numbersOf bytes
 
 -- a query's four numbers, in the definition's order, and the table after them
 abbrev pub querySize : ℕ

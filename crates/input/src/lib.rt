@@ -1,6 +1,7 @@
 // The listing program's input (docs/DEFINITION.md, "The listing program"): bytes as 16-bit numbers, low byte first, the query's
 // four and then the table. specs/Input.antt says what is told of it.
 use listing::Listing;
+use sets::CredentialSet;
 use table::Name;
 use table::Number;
 use table::Principal;
@@ -12,7 +13,7 @@ ghost use mathlib.Core.List.{_++_};
 ghost use Prim.Native.Nat.{_/_, _≤_};
 ghost use lib.ListN.{drop, length};
 ghost use Rattle.listing.specs.Minimal.{bufferAfter, listing, listingTold};
-ghost use Rattle.input.specs.Input.{countedBytes, inputBuffer, inputOutcome, numberOf, numbersOf, queryOf, querySize, tableOf};
+ghost use Rattle.input.specs.Input.{countedBytes, inputBuffer, inputOutcome, fromBytes, numbersOf, queryOf, querySize, tableOf};
 
 const MOST_BYTES: usize = 4096;
 
@@ -22,7 +23,7 @@ const QUERY_SIZE: usize = 4;
 
 // Lists the minimal sets for the query and the table that the bytes hold; the buffer is as `list` leaves it. Bytes after the first
 // 4,096 are ignored and not counted. An odd count, or one too small for a query, is refused as a short head.
-pub fn list_input(bytes: &[u8], sets: &mut [u32]) -> Listing
+pub fn list_input(bytes: &[u8], sets: &mut [CredentialSet]) -> Listing
     ensures { λ r. ⌜ (listingTold r ≡ inputOutcome (now (bytes .entry)) (length (now (sets .entry))))
         × (now (sets .exit) ≡ inputBuffer (now (bytes .entry)) (now (sets .entry))) ⌝ }
 {
@@ -68,13 +69,13 @@ pub fn decode(bytes: &[u8], numbers: &mut [Number])
 }
 
 fn number_of(low: u8, high: u8) -> Number
-    ensures { λ r. ⌜ r ≡ numberOf low high ⌝ }
+    ensures { λ r. ⌜ r ≡ fromBytes low high ⌝ }
 {
     low as Number + 256 * (high as Number)
 }
 
 // The query's four numbers, then the table.
-fn list_numbers(numbers: &[Number], sets: &mut [u32]) -> Listing
+fn list_numbers(numbers: &[Number], sets: &mut [CredentialSet]) -> Listing
     requires { ⌜ querySize ≤ length (now numbers) ⌝ }
     ensures { λ r. ⌜ (listingTold r ≡ listing (tableOf (now (numbers .entry))) (queryOf (now (numbers .entry))) (length (now (sets .entry))))
         × (now (sets .exit) ≡ bufferAfter (tableOf (now (numbers .entry))) (queryOf (now (numbers .entry))) (now (sets .entry))) ⌝ }

@@ -49,7 +49,7 @@ module _ (t : List ℕ) (wf : WellFormed t) (q : Query) (valid : Valid q) where
   accepted-holdable : (rec : List ℕ) (S : ℕ) → verdict t q rec ≡ accepted S → Holdable rec
   accepted-holdable rec S e =
       let a = demand-two t q rec S (wf .accepted) valid .0 e in
-      rw (a .whole) at (none-excluded t (q .depth) [] (goalOf q) (a .forest) wf (depth-fits q valid) (a .derives))
+      rw (a .whole) at (none-excluded t (q .depth) [] (goalOf q) (a .forest) (wf .accepted) (depth-fits q valid) (a .derives))
 
   by-slice : (S : ℕ) → Used t q S → UsedBySlice t q S
   by-slice S (rec, e) = (rec, e, accepted-holdable rec S e)

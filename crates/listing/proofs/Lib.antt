@@ -1,4 +1,4 @@
--- Laws that belong to no one function.
+-- Laws that belong to no one function; crates above cite those marked `pub mod`.
 pub mod Lists
 pub mod Ascending
 pub mod Blocks

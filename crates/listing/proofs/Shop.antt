@@ -31,7 +31,7 @@ pub data Row : Type 0 where
   -- a record is judged
   judges : (row : records.Row) → Row
 
--- the record rows stand in crate derivation
+-- the record rows stand in crate verifier
 judging : List records.Row → List Row
 judging [] = []
 judging (row ∷ rows) = judges row ∷ judging rows

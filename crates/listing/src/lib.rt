@@ -31,7 +31,7 @@ pub enum Listing {
 
 // Lists the minimal sets: rows 1 to 8, then 9, 10 or the list, for any table, query and buffer. Cells beyond the list are
 // unchanged, and so is the buffer on a refusal, except that 10 fills it with the first sets.
-pub fn list(table: &[Number], query: Query, sets: &mut [u32]) -> Listing
+pub fn list(table: &[Number], query: Query, sets: &mut [CredentialSet]) -> Listing
     ensures { λ r. ⌜ (listingTold r ≡ listing (now (table .entry)) query (length (now (sets .entry))))
         × (now (sets .exit) ≡ bufferAfter (now (table .entry)) query (now (sets .entry))) ⌝ }
 {
@@ -42,7 +42,7 @@ pub fn list(table: &[Number], query: Query, sets: &mut [u32]) -> Listing
 }
 
 // Rows 9 and 10, or the list. With nothing chosen no constraint is imposed yet.
-fn list_checked(table: &[Number], query: Query, sets: &mut [u32]) -> Listing
+fn list_checked(table: &[Number], query: Query, sets: &mut [CredentialSet]) -> Listing
     requires { ⌜ WellFormed (now table) ⌝ }
     requires { ⌜ Valid query ⌝ }
     ensures { λ r. ⌜ (listingTold r ≡ counted (length (now (sets .entry))) (length (minimalSets (now (table .entry)) query)))
@@ -85,7 +85,7 @@ fn below(
     chosen: CredentialSet,
     usable: CredentialSet,
     next: usize,
-    sets: &mut [u32],
+    sets: &mut [CredentialSet],
     found: &mut usize,
 )
     requires { ⌜ Indexed (now table) (now index) ⌝ }
@@ -158,7 +158,7 @@ fn is_met(
 }
 
 // One of the first `found` sets is a part of the set.
-fn is_any_part(sets: &[u32], found: usize, set: CredentialSet) -> bool
+fn is_any_part(sets: &[CredentialSet], found: usize, set: CredentialSet) -> bool
     requires { ⌜ found ≤ length (now sets) ⌝ }
     ensures { λ r. ⌜ r ≡ anyBelow (λ i. part (getD (now (sets .entry)) i 0) set) found ⌝ }
 {
@@ -173,7 +173,7 @@ fn is_any_part(sets: &[u32], found: usize, set: CredentialSet) -> bool
 }
 
 // The next set of the list, where there is a cell for it; it counts in any case.
-fn put(sets: &mut [u32], found: &mut usize, chosen: CredentialSet)
+fn put(sets: &mut [CredentialSet], found: &mut usize, chosen: CredentialSet)
     requires { ⌜ now found ≤ length (now sets) ⌝ }
     ensures { λ r. ⌜ (now (found .exit) ≡ now (found .entry) + 1)
         × (now (sets .exit) ≡ set (now (sets .entry)) (now (found .entry)) chosen) ⌝ }

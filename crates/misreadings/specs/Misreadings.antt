@@ -1,5 +1,5 @@
 -- docs/DEFINITION.md, "Misreadings": each as what a verifier or a lister would tell that reads the text so.
--- Each is ours but for one notion, and comes with a table, a query and a record (the last: a list) on which it tells something
+-- Each is ours but for one notion, and comes with a table, a query and a record (the fourth: a list) on which it tells something
 -- else.
 use Prim.Native.Nat.{ℕ, suc, _^_, _≤_}
 use mathlib.Core.Path.{_≡_}
@@ -60,15 +60,7 @@ isAttached t k = anyBelow (λ c. eqb (credential t (suc c) .automaton) k) (crede
 unfoldable pub metUsedOrNot : List ℕ → Forest → ℕ → Bool
 metUsedOrNot t f k = not (isAttached t k) or acceptsAll t k (words t [] f)
 
--- 4. Only the first word is judged, in the order of the record: no misreading of the text, but a verifier that demand 2 shuts out
-unfoldable pub firstAccepted : List ℕ → ℕ → List (List Role) → Bool
-firstAccepted t k [] = true
-firstAccepted t k (word ∷ more) = accepts t k word
-
-unfoldable pub metFirstWord : List ℕ → Forest → ℕ → Bool
-metFirstWord t f k = not (usesAutomaton t f k) or firstAccepted t k (words t [] f)
-
--- 5. Minimal means fewest credentials: how many of the table's credentials are in the set
+-- 4. Minimal means fewest credentials: how many of the table's credentials are in the set
 unfoldable pub howMany : List ℕ → ℕ → ℕ
 howMany t S = length (those (inSet S) (credentials t))
 
@@ -83,6 +75,14 @@ isFewest t q S = admits t q S and not (anyBelow (λ T. ltb (howMany t T) (howMan
 
 unfoldable pub fewestSets : List ℕ → Query → List ℕ
 fewestSets t q = those (isFewest t q) (2 ^ credentials t)
+
+-- Besides, no misreading of the text: a verifier that judges only the first word, in the order of the record
+unfoldable pub firstAccepted : List ℕ → ℕ → List (List Role) → Bool
+firstAccepted t k [] = true
+firstAccepted t k (word ∷ more) = accepts t k word
+
+unfoldable pub metFirstWord : List ℕ → Forest → ℕ → Bool
+metFirstWord t f k = not (usesAutomaton t f k) or firstAccepted t k (words t [] f)
 
 -- of this record our verifier and the one that misreads tell different things
 pub record Apart (isMet : List ℕ → Forest → ℕ → Bool) (t : List ℕ) (q : Query) (rec : List ℕ)
@@ -122,11 +122,11 @@ pub record Misreadings : Type 0 where
   pub own-words-accept : Apart metThroughOwnNode notAccredited (annAsks 2) asStudent (refused 14 1) (accepted 7)
   -- 3. U's automaton rejects the word, and its credential is not used. It imposes more automata than we do
   pub unused-refuses : Apart metUsedOrNot tableU (annAsks 2) outright (accepted 8) (refused 14 1)
-  -- 4. the automaton accepts the first word and rejects the second
-  pub first-word-accepts : Apart metFirstWord notStudent (annAsks 2) asStudent (refused 14 1) (accepted 7)
-  -- 5. 7 has three credentials, 8 has one, both are listed
+  -- 4. 7 has three credentials, 8 has one, both are listed
   pub both-listed : minimalSets tableT (annAsks 2) ≡ 7 ∷ 8 ∷ []
   pub fewest-listed : fewestSets tableT (annAsks 2) ≡ 8 ∷ []
   pub lists-differ : minimalSets tableT (annAsks 2) ≡ fewestSets tableT (annAsks 2) → ⊥
   pub minimal : Minimal tableT (annAsks 2) 7
   pub not-fewest : Fewest tableT (annAsks 2) 7 → ⊥
+  -- the first word alone: the automaton accepts it and rejects the second
+  pub first-word-accepts : Apart metFirstWord notStudent (annAsks 2) asStudent (refused 14 1) (accepted 7)

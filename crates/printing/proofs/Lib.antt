@@ -1,4 +1,4 @@
--- Laws that belong to no one function.
+-- Laws that belong to no one function; crates above cite those marked `pub mod`.
 pub mod Decimals
 pub mod Puts
 pub mod Lines

@@ -1,6 +1,7 @@
 // What the listing program prints (docs/DEFINITION.md, "The listing program"): one decimal set a line, then `sets` and the
 // count; or one line `refused`, the number, the position. specs/Printed.antt says which bytes these are.
 use listing::Listing;
+use sets::CredentialSet;
 use table::Refusal;
 ghost use mathlib.Core.List.{[], _∷_};
 ghost use Prim.Native.Nat.{_+_, _*_, _<_, _≤_};
@@ -34,7 +35,7 @@ fn put_answer(input: &[u8], out: &mut [u8]) -> usize
     }
 }
 
-fn put_list(out: &mut [u8], sets: &[u32]) -> usize
+fn put_list(out: &mut [u8], sets: &[CredentialSet]) -> usize
     requires { ⌜ length (now sets) ≤ cells ⌝ }
     requires { ⌜ room ≤ length (now out) ⌝ }
     ensures { λ r. ⌜ Filled (printedList (now (sets .entry)) (length (now (sets .entry))))
@@ -65,7 +66,7 @@ fn put_place(out: &mut [u8], number: usize, position: usize) -> usize
 }
 
 // One set a line.
-fn put_lines(out: &mut [u8], sets: &[u32]) -> usize
+fn put_lines(out: &mut [u8], sets: &[CredentialSet]) -> usize
     requires { ⌜ 11 * length (now sets) + lineRoom ≤ length (now out) ⌝ }
     ensures { λ r. ⌜ Put (now (out .entry)) 0 (lines (now (sets .entry))) (now (out .exit)) r ⌝ }
     ensures { λ r. ⌜ r ≤ 11 * length (now (sets .entry)) ⌝ }

@@ -1,5 +1,5 @@
--- A set of states is a number: state s counts 2^s (docs/DEFINITION.md, "The table"). Nothing here depends on how many states
--- there are.
+-- A set is a number: member i counts 2^i. A state s counts 2^s, automaton k and credential k count 2^(k-1). Nothing here depends on
+-- how many members there may be.
 use Prim.Native.Nat.{ℕ, zero, suc, _/_, _%_, _^_}
 use mathlib.Core.Bool.{Bool, not}
 use lib.Bits.{bitAnd, bitOr}
@@ -9,7 +9,7 @@ use Rattle.sets.specs.Logic.{pick}
 unfoldable pub inSet : ℕ → ℕ → Bool
 inSet x s = eqb (x / 2 ^ s % 2) 1
 
--- the two sets have a state in common
+-- the two sets have a member in common
 unfoldable pub meets : ℕ → ℕ → Bool
 meets x y = not (eqb (bitAnd x y) 0)
 

@@ -13,14 +13,14 @@ pub type AutomatonSet = u16;
 pub type CredentialSet = u32;
 
 // Whether i is in a set of credentials, and the set with it.
-pub fn has(set: u32, i: usize) -> bool
+pub fn has(set: CredentialSet, i: usize) -> bool
     requires { ⌜ i < 32 ⌝ }
     ensures { λ r. ⌜ r ≡ inSet set i ⌝ }
 {
     (set >> i) % 2 == 1
 }
 
-pub fn with(set: u32, i: usize) -> u32
+pub fn with(set: CredentialSet, i: usize) -> CredentialSet
     requires { ⌜ i < 32 ⌝ }
     ensures { λ r. ⌜ r ≡ bitOr set (2 ^ i) ⌝ }
 {

@@ -47,8 +47,8 @@ numbersTold rest used nodes every refusal = pick (eqb refusal 0) (passed rest us
 unfoldable pub tallyOn : List ℕ → ℕ → List Goal → List Goal → StateSets → List ℕ → ℕ → ℕ → ℕ → Told
 tallyOn t levels branch goals s rec used nodes every = tally t s used nodes every (reader t levels branch goals rec (suc nodes))
 
--- what the code's reader of one goal gives: the numbers tell the reading; where it passed each node has taken two numbers, and where
--- it stopped the whole record is handed back
+-- what the code's reader of one goal gives: the numbers tell the reading; where it passed, nodes and numbers left are no more
+-- than before, and where it stopped the whole record is handed back
 pub record ReadOn (t : List ℕ) (levels : ℕ) (branch : List Goal) (g : Goal) (s : StateSets)
     (rec : List ℕ) (used nodes every : ℕ) (rest : List ℕ) (used′ nodes′ every′ refusal : ℕ) : Type 0 where
   pub told : numbersTold rest used′ nodes′ every′ refusal ≡ tallyOn t levels branch (g ∷ []) s rec used nodes every

@@ -94,7 +94,8 @@ fn after_node(table: &[Number], every: AutomatonSet, states: StateSets, len: usi
     every
 }
 
-// Reads the derivation of a goal from the front of the record. A refusal that is not 0 stops it, at node number `nodes`.
+// Reads the derivation of a goal from the front of the record. A refusal that is not 0 stops it, at node number `nodes`; then the
+// whole record is handed back, and `used` and `every` mean nothing.
 pub fn read<'a>(
     table: &[Number],
     rec: &'a [Number],

@@ -1,7 +1,7 @@
 -- `input::number_of` meets its contract: two bytes fit in a number. Assumes nothing.
 use mathlib.Core.Path.{refl}
 use native.Mathlib.Omega.{arith}
-use Rattle.input.specs.Input.{numberOf}
+use Rattle.input.specs.Input.{fromBytes}
 use Rattle.input.proofs.number_of.Statement.{statement}
 use Rattle.input.proofs.number_of.Tie as tie
 
@@ -12,7 +12,7 @@ add-result : tie.Need-add-result
 add-result c = omega arith
 
 returns : tie.Need-returns
-unfolding numberOf
+unfolding fromBytes
 returns c = refl
 
 pub number-of-spec : {M : Type 1} → statement M
