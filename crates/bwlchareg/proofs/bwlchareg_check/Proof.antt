@@ -1,7 +1,6 @@
 -- `bwlchareg::bwlchareg_check` meets its contract: it tells what `check_table` answers. Assumes nothing.
-use mathlib.Core.Path.{_∙_, ap, sym}
 use borrow.Author.Needs.{needs}
-use Rattle.derivation.specs.Held.{given}
+use Rattle.bwlchareg.proofs.Answers.{told-as}
 use Rattle.checks.specs.Told.{tableTold}
 use Rattle.bwlchareg.proofs.bwlchareg_check.Statement.{statement}
 use Rattle.bwlchareg.proofs.bwlchareg_check.Tie as tie
@@ -24,16 +23,14 @@ refuse-requires c κs = search needs
 returns : tie.Need-returns
 unfolding tableTold
 returns c =
-    let enum-told = c .before .before .enum-told in
-    let check-table = c .before .before .before .before .check-table in
-    c .accept .ensures ∙ ap tableTold (sym (enum-told .given .1)) ∙ check-table .ensures
+    let found = c .before .before in
+    told-as tableTold (c .accept .ensures) (found .enum-told .given .1) (found .before .before .check-table .ensures)
 
 returns-2 : tie.Need-returns-2
 unfolding tableTold
 returns-2 c =
-    let why = c .before .before .before .why in
-    let check-table = c .before .before .before .before .before .check-table in
-    c .refuse .ensures ∙ ap tableTold (sym (why .given .1)) ∙ check-table .ensures
+    let found = c .before .before .before in
+    told-as tableTold (c .refuse .ensures) (found .why .given .1) (found .before .before .check-table .ensures)
 
 pub bwlchareg-check-spec : {M : Type 1} → statement M
 bwlchareg-check-spec =

@@ -1,11 +1,24 @@
 -- `bwlchareg::bwlchareg_check_query` meets its contract: it tells what `check_request` answers. Assumes nothing.
+use mathlib.Core.Path.{_≡_}
 use borrow.Author.Needs.{needs}
+use denote.Ref.{now}
 use Rattle.bwlchareg.proofs.Answers.{told-as}
-use Rattle.derivation.specs.Held.{given}
-use Rattle.table.specs.Checks.{requestOutcome}
+use Rattle.table.specs.Checks.{asQuery, requestOutcome}
 use Rattle.checks.specs.Told.{queryTold}
 use Rattle.bwlchareg.proofs.bwlchareg_check_query.Statement.{statement}
 use Rattle.bwlchareg.proofs.bwlchareg_check_query.Tie as tie
+
+-- the place where `check_request` has answered, the one where the call was asked, and the answer for what was asked
+abbrev Answered : Type 0
+Answered = tie.After-check-request
+
+abbrev asked : Answered → tie.Start
+asked c = c .before .before .before
+
+answer : (c : Answered) → let from = asked c .args in
+    queryTold (c .check-request .result)
+    ≡ requestOutcome (now (from .table)) (asQuery (from .principal) (from .owner) (from .name) (from .depth))
+answer c = rw (c .before .query-of .ensures) at (c .check-request .ensures)
 
 query-of-requires : tie.Need-query-of-requires
 query-of-requires c κs = search needs
@@ -28,18 +41,14 @@ refuse-requires c κs = search needs
 returns : tie.Need-returns
 unfolding queryTold
 returns c =
-    let enum-told = c .before .before .enum-told in
-    let check-request = c .before .before .before .before .check-request in
-    let query-of = c .before .before .before .before .before .query-of in
-    told-as queryTold (requestOutcome _) (c .accept .ensures) (enum-told .given .1) (check-request .ensures) (query-of .ensures)
+    let found = c .before .before in
+    told-as queryTold (c .accept .ensures) (found .enum-told .given .1) (answer (found .before .before))
 
 returns-2 : tie.Need-returns-2
 unfolding queryTold
 returns-2 c =
-    let why = c .before .before .before .why in
-    let check-request = c .before .before .before .before .before .check-request in
-    let query-of = c .before .before .before .before .before .before .query-of in
-    told-as queryTold (requestOutcome _) (c .refuse .ensures) (why .given .1) (check-request .ensures) (query-of .ensures)
+    let found = c .before .before .before in
+    told-as queryTold (c .refuse .ensures) (found .why .given .1) (answer (found .before .before))
 
 pub bwlchareg-check-query-spec : {M : Type 1} → statement M
 bwlchareg-check-query-spec =

@@ -1,9 +1,26 @@
 -- `bwlchareg::bwlchareg_list` meets its contract: it tells what `list` answers, and leaves the buffer as `list` does. Assumes nothing.
-use Rattle.listing.specs.Minimal.{listingTold}
+use mathlib.Core.Path.{_≡_}
+use lib.ListN.{length}
 use borrow.Author.Needs.{needs}
-use Rattle.bwlchareg.proofs.Answers.{listed-as}
+use denote.Ref.{now}
+use Rattle.bwlchareg.proofs.Answers.{told-as}
+use Rattle.table.specs.Checks.{asQuery}
+use Rattle.listing.specs.Minimal.{bufferAfter, listing, listingTold}
 use Rattle.bwlchareg.proofs.bwlchareg_list.Statement.{statement}
 use Rattle.bwlchareg.proofs.bwlchareg_list.Tie as tie
+
+-- the place where `list` has answered, the one where the call was asked, and the answer and the buffer for what was asked
+abbrev Answered : Type 0
+Answered = tie.After-list
+
+abbrev asked : Answered → tie.Start
+asked c = c .before .before .before .before .before
+
+answer : (c : Answered) → let from = asked c .args in
+    let query = asQuery (from .principal) (from .owner) (from .name) (from .depth) in
+    (listingTold (c .list .result) ≡ listing (now (from .table)) query (length (now (from .sets))))
+    × (c .list .last .1 .1 .0 ≡ bufferAfter (now (from .table)) query (now (from .sets)))
+answer c = rw (c .before .before .query-of .ensures) at (c .list .ensures)
 
 query-of-requires : tie.Need-query-of-requires
 query-of-requires c κs = search needs
@@ -29,10 +46,9 @@ same-length c = search needs
 returns : tie.Need-returns
 unfolding listingTold
 returns c =
-    let count = c .before .before .before .count in
-    let list = c .before .before .before .before .before .before .before .list in
-    let query-of = c .before .before .before .before .before .before .before .before .before .query-of in
-    listed-as _ _ _ (c .accept .ensures) (count .given .1) (list .ensures) (query-of .ensures)
+    let found = c .before .before .before in
+    let (outcome, buffer) = answer (found .before .before .before .before) in
+    (told-as listingTold (c .accept .ensures) (found .count .given .1) outcome, buffer)
 
 same-length-2 : tie.Need-same-length-2
 same-length-2 c = search needs
@@ -40,10 +56,9 @@ same-length-2 c = search needs
 returns-2 : tie.Need-returns-2
 unfolding listingTold
 returns-2 c =
-    let why = c .before .before .before .why in
-    let list = c .before .before .before .before .before .before .before .list in
-    let query-of = c .before .before .before .before .before .before .before .before .before .query-of in
-    listed-as _ _ _ (c .refuse .ensures) (why .given .1) (list .ensures) (query-of .ensures)
+    let found = c .before .before .before in
+    let (outcome, buffer) = answer (found .before .before .before .before) in
+    (told-as listingTold (c .refuse .ensures) (found .why .given .1) outcome, buffer)
 
 pub bwlchareg-list-spec : {M : Type 1} → statement M
 bwlchareg-list-spec =

@@ -1,11 +1,24 @@
 -- `bwlchareg::bwlchareg_verify` meets its contract: it tells what `verify` answers. Assumes nothing.
+use mathlib.Core.Path.{_≡_}
 use borrow.Author.Needs.{needs}
-use Rattle.bwlchareg.proofs.Answers.{told-as}
 use denote.Ref.{now}
-use Rattle.derivation.specs.Held.{given}
+use Rattle.bwlchareg.proofs.Answers.{told-as}
+use Rattle.table.specs.Checks.{asQuery}
 use Rattle.verifier.specs.Verdict.{verdict, verdictTold}
 use Rattle.bwlchareg.proofs.bwlchareg_verify.Statement.{statement}
 use Rattle.bwlchareg.proofs.bwlchareg_verify.Tie as tie
+
+-- the place where `verify` has answered, the one where the call was asked, and the answer for what was asked
+abbrev Answered : Type 0
+Answered = tie.After-verify
+
+abbrev asked : Answered → tie.Start
+asked c = c .before .before .before .before
+
+answer : (c : Answered) → let from = asked c .args in
+    verdictTold (c .verify .result)
+    ≡ verdict (now (from .table)) (asQuery (from .principal) (from .owner) (from .name) (from .depth)) (now (from .rec))
+answer c = rw (c .before .query-of .ensures) at (c .verify .ensures)
 
 query-of-requires : tie.Need-query-of-requires
 query-of-requires c κs = search needs
@@ -31,22 +44,14 @@ refuse-requires c κs = search needs
 returns : tie.Need-returns
 unfolding verdictTold
 returns c =
-    let used = c .before .before .before .used in
-    let verify = c .before .before .before .before .before .verify in
-    let args = c .before .before .before .before .before .before .before .before .before .args in
-    let query-of = c .before .before .before .before .before .before .query-of in
-    told-as verdictTold (λ q. verdict (now (args .table)) q (now (args .rec))) (c .accept .ensures) (used .given .1)
-    (verify .ensures) (query-of .ensures)
+    let found = c .before .before .before in
+    told-as verdictTold (c .accept .ensures) (found .used .given .1) (answer (found .before .before))
 
 returns-2 : tie.Need-returns-2
 unfolding verdictTold
 returns-2 c =
-    let why = c .before .before .before .why in
-    let verify = c .before .before .before .before .before .verify in
-    let args = c .before .before .before .before .before .before .before .before .before .args in
-    let query-of = c .before .before .before .before .before .before .query-of in
-    told-as verdictTold (λ q. verdict (now (args .table)) q (now (args .rec))) (c .refuse .ensures) (why .given .1)
-    (verify .ensures) (query-of .ensures)
+    let found = c .before .before .before in
+    told-as verdictTold (c .refuse .ensures) (found .why .given .1) (answer (found .before .before))
 
 pub bwlchareg-verify-spec : {M : Type 1} → statement M
 bwlchareg-verify-spec =
