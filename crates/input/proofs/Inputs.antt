@@ -10,7 +10,7 @@ use lib.Dec.{leb}
 use lib.ListN.{drop, getD, length, length-drop, length-take, set, take, take-append-drop}
 use lib.Seq.{drop-cons, drop-drop, drop-set-lt, length-take-le, take-all, take-at, take-suc-set}
 use borrow.Author.Tests.{eq-eqb, le-leb, lt-leb, ne-eqb}
-use Rattle.sets.specs.Logic.{_and_, pick}
+use Rattle.sets.specs.Logic.{pick}
 use Rattle.table.specs.Outcome.{_andThen_, demand}
 use Rattle.table.specs.Checks.{requestOutcome, told}
 use Rattle.table.specs.declared.Query.{Query}

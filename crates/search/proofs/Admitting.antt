@@ -6,7 +6,6 @@ use mathlib.Core.Bool.{true}
 use Prim.Native.Nat.{ℕ, suc, _-_, _^_, _<_}
 use native.Mathlib.Omega.{arith}
 use native.Mathlib.Numerals.{sub-one}
-use Rattle.sets.specs.Logic.{_and_}
 use Rattle.table.specs.Layout.{credential, credentials}
 use Rattle.table.specs.Holding.{WellFormed}
 use Rattle.table.specs.declared.Goal.{Goal}

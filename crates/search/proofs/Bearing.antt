@@ -8,7 +8,7 @@ use mathlib.Core.Option.{some}
 use Prim.Native.Nat.{ℕ, _-_}
 use lib.Bits.{bitOr}
 use borrow.Author.Tests.{eq-eqb, lt-ltb, ne-eqb}
-use Rattle.sets.specs.Logic.{_and_, pick}
+use Rattle.sets.specs.Logic.{pick}
 use Rattle.table.specs.Layout.{Numbered, credential, credentials, parts, role}
 use Rattle.table.specs.declared.Role.{Role}
 use Rattle.table.specs.declared.Goal.{Goal}
@@ -17,9 +17,8 @@ use Rattle.table.specs.declared.Credential.{Credential}
 use Rattle.sets.proofs.Tests.{and-both, and-first, and-second, false-true, or-first, or-second}
 use Rattle.sets.specs.Sets.{inSet, part}
 use Rattle.sets.proofs.Members.{inSet-zero, part-member, part-or, part-or-left, part-or-right, part-refl, part-shown, part-trans, part-zero, setOf-members}
-use Rattle.derivation.specs.Rules.{asks, goal, goalOf, premises}
+use Rattle.derivation.specs.Rules.{goal, goalOf, premises}
 use Rattle.derivation.specs.Forest.{Derives, Forest}
-use Rattle.derivation.specs.Forest.Forest.{node}
 use Rattle.derivation.specs.Forest.Derives.{done, step}
 use Rattle.search.specs.Search.{UsesOnly}
 use Rattle.search.specs.Relevance.{Productive, Reached, Relevant, allDefined, definers, linkedRoles, meant, rolesAsked, withDefiners}

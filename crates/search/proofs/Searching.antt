@@ -14,7 +14,7 @@ use lib.Dec.{eqb}
 use borrow.Author.Tests.{ne-eqb, lt-leb, le-leb, le-ltb}
 use Rattle.sets.specs.Logic.{_and_, pick}
 use Rattle.table.specs.Limits.{mostPrincipals}
-use Rattle.table.specs.Layout.{automata, credential, credentials, role}
+use Rattle.table.specs.Layout.{automata, credential, credentials}
 use Rattle.table.specs.Holding.{WellFormed}
 use Rattle.table.specs.Checks.{within}
 use Rattle.table.specs.declared.Role.{Role}
@@ -27,7 +27,7 @@ use Rattle.automata.specs.Together.{acceptingSet, movedSets}
 use Rattle.automata.specs.declared.StateSets.{StateSets}
 use Rattle.sets.proofs.Members.{part-member, part-shown, setOf-members}
 use Rattle.automata.proofs.Moves.{run-empty}
-use Rattle.derivation.specs.Rules.{asks, fresh, goal, goalOf, premises}
+use Rattle.derivation.specs.Rules.{fresh, goalOf, premises}
 use Rattle.derivation.specs.Forest.{Derives, Forest, names}
 use Rattle.derivation.specs.Forest.Forest.{end, node}
 use Rattle.derivation.specs.Forest.Derives.{done, step}

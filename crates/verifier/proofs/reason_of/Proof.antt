@@ -1,5 +1,5 @@
 -- `verifier::reason_of` meets its contract: 11, 12 or 13. Assumes nothing.
-use mathlib.Core.Path.{_≡_, sym}
+use mathlib.Core.Path.{sym}
 use native.Mathlib.Omega.{arith}
 use Rattle.table.specs.Checks.{numberOf}
 use Rattle.verifier.proofs.reason_of.Statement.{statement}

@@ -1,5 +1,4 @@
 -- `verifier::words::is_kept` meets its contract: the two sets are asked for the automaton. Assumes nothing.
-use mathlib.Core.Path.{_∙_}
 use borrow.Author.Needs.{needs}
 use Rattle.sets.specs.Logic.{_or_}
 use Rattle.sets.proofs.Tests.{failed, passed}
