@@ -38,7 +38,8 @@ pub extern "C" fn bwlchareg_check_query(
     depth: u16,
     position: &mut u64,
 ) -> u32
-    ensures { λ r. ⌜ answered r (now (position .exit)) ≡ requestOutcome (now (table .entry)) (asQuery principal owner name depth) ⌝ }
+    ensures { λ r. ⌜ answered r (now (position .exit))
+        ≡ requestOutcome (now (table .entry)) (asQuery principal owner name depth) ⌝ }
 {
     let query = query_of(principal, owner, name, depth);
     match checks::check_request(table, query) {
@@ -58,7 +59,8 @@ pub extern "C" fn bwlchareg_list(
     sets: &mut [u32],
     value: &mut u64,
 ) -> u32
-    ensures { λ r. ⌜ (answered r (now (value .exit)) ≡ listing (now (table .entry)) (asQuery principal owner name depth) (length (now (sets .entry))))
+    ensures { λ r. ⌜ (answered r (now (value .exit))
+        ≡ listing (now (table .entry)) (asQuery principal owner name depth) (length (now (sets .entry))))
         × (now (sets .exit) ≡ bufferAfter (now (table .entry)) (asQuery principal owner name depth) (now (sets .entry))) ⌝ }
 {
     let query = query_of(principal, owner, name, depth);

@@ -104,8 +104,8 @@ pub fn first_bad(table: &[Number], row: Row) -> usize
     0
 }
 
-// Row 6: the first credential whose chain has not 2 to 4 cells, or 0; without part cells there is no chain. A chain is left as soon
-// as a fifth cell is met.
+// Row 6: the first credential whose chain has not 2 to 4 cells, or 0; without part cells there is no chain. A chain is left as
+// soon as a fifth cell is met.
 pub fn first_bad_chain(table: &[Number]) -> usize
     requires { ⌜ Sized (now table) ⌝ }
     requires { ⌜ rowOutcome (now table) row.Credentials 4 ≡ Outcome.accepted 0 ⌝ }

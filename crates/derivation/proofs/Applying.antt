@@ -1,4 +1,5 @@
--- What it means that a credential applies to a goal: it is there, it defines the goal's role, and it asks nothing exactly for kind 1.
+-- What it means that a credential applies to a goal: it is there, it defines the goal's role, and it asks nothing exactly for
+-- kind 1.
 use mathlib.Core.Path.{_≡_, refl, sym, ap₂, _∙_}
 use mathlib.Core.List.{List, [], _∷_, map}
 use mathlib.Core.Bool.{Bool, true, false}
@@ -38,7 +39,8 @@ when-some true asked goals h = cc
 when-some false asked goals h = absurd (none-some h)
 
 module _ (t : List ℕ) (g : Goal) (c m : ℕ) (goals : List Goal) (applies : premises t g c m ≡ some goals) where
-  both : ((within 1 (credentials t) c and sameRole (credential t c .role) (g .role)) ≡ true) × (asks t g (credential t c) m ≡ some goals)
+  both : ((within 1 (credentials t) c and sameRole (credential t c .role) (g .role)) ≡ true)
+      × (asks t g (credential t c) m ≡ some goals)
   unfolding premises
   both = picked _ _ goals applies
 

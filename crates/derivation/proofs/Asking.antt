@@ -19,7 +19,8 @@ use Rattle.table.specs.declared.Role.{Role}
 use Rattle.table.specs.declared.Goal.{Goal}
 use Rattle.table.specs.declared.Credential.{Credential}
 use Rattle.sets.proofs.Tests.{and-is, and-is-off}
-use Rattle.derivation.specs.Rules.{asks, containmentAsks, goal, intersectionAsks, linkingAsks, membershipAsks, premises, when}
+use Rattle.derivation.specs.Rules.{asks, containmentAsks, goal, intersectionAsks}
+use Rattle.derivation.specs.Rules.{linkingAsks, membershipAsks, premises, when}
 
 -- a callee's answer, which is what the caller promises
 pub answer-is : {A B : Type 0} {x y z : B} → A × (x ≡ y) → y ≡ z → A × (x ≡ z)

@@ -24,7 +24,8 @@ automaton-few t wf i there x found =
     rw found (omega arith)
 
 -- one credential more, which the code has read as x, and whose membership as `member`
-pub automata-next : (t : List ℕ) (S i : ℕ) {mask : ℕ} {x : Credential} {member : Bool} → member ≡ inSet S i → x ≡ credential t (i + 1)
+pub automata-next : (t : List ℕ) (S i : ℕ) {mask : ℕ} {x : Credential} {member : Bool} → member ≡ inSet S i
+    → x ≡ credential t (i + 1)
     → mask ≡ automataUpTo t S i
     → pick (member and not (eqb (x .automaton) 0)) (bitOr mask (2 ^ (x .automaton - 1))) mask ≡ automataUpTo t S (i + 1)
 unfolding automataUpTo

@@ -1,5 +1,5 @@
--- The state sets of all automata along a word: moved role by role they are what each automaton's own run says, and the automata that
--- accept there are those that accept the word.
+-- The state sets of all automata along a word: moved role by role they are what each automaton's own run says, and the automata
+-- that accept there are those that accept the word.
 use mathlib.Core.Path.{_≡_, refl, sym, ap, _∙_}
 use mathlib.Core.List.{List, [], _∷_, _++_}
 use Prim.Native.Nat.{ℕ, suc, _-_, _≤_}
@@ -46,12 +46,14 @@ pub sets-after-none : (t : List ℕ) → setsAfter t [] ≡ startingSets t
 unfolding setsAfter startingSets run
 sets-after-none t = refl
 
-pub sets-after-next : (t : List ℕ) (word : List Role) (r : Role) → movedSets t r (setsAfter t word) ≡ setsAfter t (word ++ (r ∷ []))
+pub sets-after-next : (t : List ℕ) (word : List Role) (r : Role)
+    → movedSets t r (setsAfter t word) ≡ setsAfter t (word ++ (r ∷ []))
 unfolding setsAfter movedSets
 sets-after-next t word r =
     together-ext _ _ (λ k own. rw (together-at (λ i. run t i (starting t i) word) k own, run-next t k (starting t k) word r))
 
-pub accepts-all-append : (t : List ℕ) (k : ℕ) (a b : List (List Role)) → acceptsAll t k (a ++ b) ≡ (acceptsAll t k a and acceptsAll t k b)
+pub accepts-all-append : (t : List ℕ) (k : ℕ) (a b : List (List Role))
+    → acceptsAll t k (a ++ b) ≡ (acceptsAll t k a and acceptsAll t k b)
 unfolding acceptsAll _and_
 accepts-all-append t k [] b = refl
 accepts-all-append t k (word ∷ a) b = rw (accepts-all-append t k a b) (sym (and-assoc (accepts t k word) _ _))

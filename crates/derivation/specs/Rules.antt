@@ -35,7 +35,8 @@ containmentAsks g c m = when (eqb m 0) (goal (g .principal) (role (c .first) (c 
 abbrev pub linkingAsks : Goal → Credential → ℕ → Option (List Goal)
 linkingAsks g c m =
     when (isPrincipal (principal m))
-    (goal (principal m) (record { owner = c .role .owner; name = name (c .first) }) ∷ goal (g .principal) (role m (c .second)) ∷ [])
+    (goal (principal m) (record { owner = c .role .owner; name = name (c .first) })
+    ∷ goal (g .principal) (role m (c .second)) ∷ [])
 
 abbrev pub intersectionAsks : Goal → List Role → ℕ → Option (List Goal)
 intersectionAsks g roles m = when (eqb m 0) (map (λ (r : Role). goal (g .principal) r) roles)

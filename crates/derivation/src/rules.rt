@@ -138,7 +138,8 @@ fn linking(c: Credential, goal: Goal, middle: Number) -> Premises
 // Kind 4: the goal's principal in every part's role, in chain order.
 fn intersection(chain: Chain, goal: Goal, middle: Number) -> Premises
     requires { ⌜ (chain .len ≤ mostParts) × (length (chain .roles) ≡ mostParts) ⌝ }
-    ensures { λ r. ⌜ Room mostParts (r .len) (r .goals) × (given r ≡ intersectionAsks goal (take (chain .len) (chain .roles)) middle) ⌝ }
+    ensures { λ r. ⌜ Room mostParts (r .len) (r .goals)
+        × (given r ≡ intersectionAsks goal (take (chain .len) (chain .roles)) middle) ⌝ }
 {
     if middle != 0 {
         return not_applying(goal);

@@ -20,7 +20,8 @@ use Rattle.sets.proofs.Tests.{and-both, and-is, and-is-off}
 use Rattle.table.proofs.Stages.{then-second}
 use Rattle.listing.specs.Minimal.{bufferAfter, listing, listingTold}
 use Rattle.listing.proofs.Counting.{accepted-counted}
-use Rattle.input.specs.Input.{countedBytes, inputBuffer, inputOutcome, isWhole, fromBytes, numbersOf, queryOf, querySize, tableOf}
+use Rattle.input.specs.Input.{countedBytes, inputBuffer, inputOutcome, isWhole, fromBytes}
+use Rattle.input.specs.Input.{numbersOf, queryOf, querySize, tableOf}
 use Rattle.listing.specs.declared.Listing.{Listing}
 use Rattle.listing.specs.declared.Listing.the-variants as listing′
 
@@ -51,7 +52,8 @@ pub decoded-none : (bytes before : List ℕ) → Decoded bytes before before 0
 decoded-none bytes before = record { numbers = refl; beyond = refl }
 
 module _ {bytes before places : List ℕ} {i : ℕ} (d : Decoded bytes before places i) where
-  pub decoded-next : (x : ℕ) → i < length bytes / 2 → i < length places → x ≡ fromBytes (getD bytes (2 * i) 0) (getD bytes (2 * i + 1) 0)
+  pub decoded-next : (x : ℕ) → i < length bytes / 2 → i < length places
+      → x ≡ fromBytes (getD bytes (2 * i) 0) (getD bytes (2 * i + 1) 0)
       → Decoded bytes before (set places i x) (i + 1)
   decoded-next x h room e =
       let twice : 2 * (i + 1) ≡ suc (suc (2 * i)) = omega arith in
@@ -59,7 +61,9 @@ module _ {bytes before places : List ℕ} {i : ℕ} (d : Decoded bytes before pl
       let two = numbers-two bytes (2 * i) (omega arith) in
       record {
         numbers = rw (twice, add-one i, take-suc-set places i x room, append-assoc, e, after, ← two) (d .numbers);
-        beyond = drop-set-lt (i + 1) places i x (omega arith) ∙ sym (drop-drop 1 i places) ∙ ap (drop 1) (d .beyond) ∙ drop-drop 1 i before;
+        beyond =
+            drop-set-lt (i + 1) places i x (omega arith) ∙ sym (drop-drop 1 i places)
+            ∙ ap (drop 1) (d .beyond) ∙ drop-drop 1 i before;
       }
 
   pub decoded-all : i ≤ length bytes / 2 → length bytes / 2 ≤ i → places ≡ numbersOf bytes ++ drop (length bytes / 2) before
@@ -130,4 +134,5 @@ pub listed-fits : (bytes before after : List ℕ) (r : Listing) (count : ℕ) �
 unfolding inputOutcome listing listingTold
 listed-fits bytes before after r count is told same =
     let counts = then-second (demand (isWhole _) 1 0) _ count (sym told ∙ ap listingTold is) in
-    let (all, few) = accepted-counted (length before) _ count (then-second (requestOutcome _ _) _ count counts) in rw (same, all) few
+    let (all, few) = accepted-counted (length before) _ count (then-second (requestOutcome _ _) _ count counts) in
+    rw (same, all) few

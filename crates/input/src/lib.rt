@@ -13,7 +13,8 @@ ghost use mathlib.Core.List.{_++_};
 ghost use Prim.Native.Nat.{_/_, _≤_};
 ghost use lib.ListN.{drop, length};
 ghost use Rattle.listing.specs.Minimal.{bufferAfter, listing, listingTold};
-ghost use Rattle.input.specs.Input.{countedBytes, inputBuffer, inputOutcome, fromBytes, numbersOf, queryOf, querySize, tableOf};
+ghost use Rattle.input.specs.Input.{countedBytes, inputBuffer, inputOutcome, fromBytes};
+ghost use Rattle.input.specs.Input.{numbersOf, queryOf, querySize, tableOf};
 
 const MOST_BYTES: usize = 4096;
 
@@ -21,8 +22,8 @@ const MOST_NUMBERS: usize = 2048;
 
 const QUERY_SIZE: usize = 4;
 
-// Lists the minimal sets for the query and the table that the bytes hold; the buffer is as `list` leaves it. Bytes after the first
-// 4,096 are ignored and not counted. An odd count, or one too small for a query, is refused as a short head.
+// Lists the minimal sets for the query and the table that the bytes hold; the buffer is as `list` leaves it. Bytes after the
+// first 4,096 are ignored and not counted. An odd count, or one too small for a query, is refused as a short head.
 pub fn list_input(bytes: &[u8], sets: &mut [CredentialSet]) -> Listing
     ensures { λ r. ⌜ (listingTold r ≡ inputOutcome (now (bytes .entry)) (length (now (sets .entry))))
         × (now (sets .exit) ≡ inputBuffer (now (bytes .entry)) (now (sets .entry))) ⌝ }
@@ -77,8 +78,10 @@ fn number_of(low: u8, high: u8) -> Number
 // The query's four numbers, then the table.
 fn list_numbers(numbers: &[Number], sets: &mut [CredentialSet]) -> Listing
     requires { ⌜ querySize ≤ length (now numbers) ⌝ }
-    ensures { λ r. ⌜ (listingTold r ≡ listing (tableOf (now (numbers .entry))) (queryOf (now (numbers .entry))) (length (now (sets .entry))))
-        × (now (sets .exit) ≡ bufferAfter (tableOf (now (numbers .entry))) (queryOf (now (numbers .entry))) (now (sets .entry))) ⌝ }
+    ensures { λ r. ⌜ (listingTold r
+        ≡ listing (tableOf (now (numbers .entry))) (queryOf (now (numbers .entry))) (length (now (sets .entry))))
+        × (now (sets .exit)
+        ≡ bufferAfter (tableOf (now (numbers .entry))) (queryOf (now (numbers .entry))) (now (sets .entry))) ⌝ }
 {
     let query = Query {
         principal: Principal(numbers[0]),

@@ -94,7 +94,8 @@ fn below(
     requires { ⌜ Decided (now table) query chosen usable next ⌝ }
     requires { ⌜ Promising (now table) query chosen usable ⌝ }
     requires { ⌜ Found (now table) query chosen (now sets) (now found) ⌝ }
-    ensures { λ r. ⌜ FoundUpTo (now (table .entry)) query (chosen + 2 ^ next) (now (sets .entry)) (now (sets .exit)) (now (found .exit)) ⌝ }
+    ensures { λ r. ⌜ FoundUpTo (now (table .entry)) query (chosen + 2 ^ next)
+        (now (sets .entry)) (now (sets .exit)) (now (found .exit)) ⌝ }
 {
     if next == 0 {
         put(sets, found, chosen);

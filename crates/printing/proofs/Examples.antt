@@ -1,4 +1,5 @@
--- What a reader expects of the definition, by computation. That a number's digits stand for it is `decimal-reads` of Decimals.antt.
+-- What a reader expects of the definition, by computation. That a number's digits stand for it is `decimal-reads` of
+-- Decimals.antt.
 use mathlib.Core.Path.{_≡_, refl}
 use mathlib.Core.List.{[], _∷_}
 use Rattle.sets.specs.Logic.{pick}

@@ -16,12 +16,14 @@ use Rattle.table.specs.declared.Query.{Query}
 use Rattle.table.specs.declared.Credential.{Credential}
 use Rattle.sets.proofs.Tests.{and-both, and-first, and-second, false-true, or-first, or-second}
 use Rattle.sets.specs.Sets.{inSet, part}
-use Rattle.sets.proofs.Members.{inSet-zero, part-member, part-or, part-or-left, part-or-right, part-refl, part-shown, part-trans, part-zero, setOf-members}
+use Rattle.sets.proofs.Members.{inSet-zero, part-member, part-or, part-or-left, part-or-right}
+use Rattle.sets.proofs.Members.{part-refl, part-shown, part-trans, part-zero, setOf-members}
 use Rattle.derivation.specs.Rules.{goal, goalOf, premises}
 use Rattle.derivation.specs.Forest.{Derives, Forest}
 use Rattle.derivation.specs.Forest.Derives.{done, step}
 use Rattle.search.specs.Search.{UsesOnly}
-use Rattle.search.specs.Relevance.{Productive, Reached, Relevant, allDefined, definers, linkedRoles, meant, rolesAsked, withDefiners}
+use Rattle.search.specs.Relevance.{Productive, Reached, Relevant, allDefined, definers}
+use Rattle.search.specs.Relevance.{linkedRoles, meant, rolesAsked, withDefiners}
 use Rattle.derivation.proofs.Applying.{applies-numbered, applies-role}
 use Rattle.derivation.proofs.Using.{placed}
 use Rattle.derivation.proofs.Ruling.{Rule, rule-applied}
@@ -70,7 +72,8 @@ means-parts g [] = nothing
 means-parts g (r ∷ roles) = also (meant-same r) (means-parts g roles)
 
 -- the premises of a goal are of the roles that its credential asks
-rule-meant : (t : List ℕ) (g : Goal) (x : Credential) (m : ℕ) (goals : List Goal) → Rule t g x m goals → Means (rolesAsked t x) goals
+rule-meant : (t : List ℕ) (g : Goal) (x : Credential) (m : ℕ) (goals : List Goal) → Rule t g x m goals
+    → Means (rolesAsked t x) goals
 rule-meant t g x m goals (membership one named z e) = rw (roles-1 t x one, ← e) nothing
 rule-meant t g x m goals (containment two z e) = rw (roles-2 t x two, ← e) (also (meant-same _) nothing)
 rule-meant t g x m goals (linking three range e) =
@@ -182,7 +185,8 @@ module _ (t : List ℕ) (P R : ℕ) (all : Reached t P R) where
       let there = applies-numbered t g c m goals applies in
       let has = definers-has t P c r there (only-here P c m ch si uses) (rw (applies-role t g c m goals applies) means) in
       let own = part-member _ R (c - 1) h (with-has t P x (c - 1) r roles has) in
-      let below = reached-covers d (only-below P c m ch si uses) (premises-meant t g c m goals applies) 0 (asked-reached c there own) in
+      let asked = asked-reached c there own in
+      let below = reached-covers d (only-below P c m ch si uses) (premises-meant t g c m goals applies) 0 asked in
       only-node R c m ch si own below (reached-covers e (only-later P c m ch si uses) more (bitOr x (definers t P r)) h)
 
 -- the code has the queried goal as g

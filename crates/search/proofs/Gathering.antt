@@ -22,7 +22,8 @@ use Rattle.table.specs.declared.Chain.{Chain}
 use Rattle.table.specs.declared.Credential.{Credential}
 use Rattle.sets.proofs.Tests.{and-both, and-first, and-is, and-is-off, and-on, and-second, false-true, or-first, or-second}
 use Rattle.sets.specs.Sets.{inSet, part, setOf}
-use Rattle.sets.proofs.Members.{inSet-or, one-among, own-bit, part-antisym, part-le, part-or, part-or-left, part-refl, part-trans, part-zero}
+use Rattle.sets.proofs.Members.{inSet-or, one-among, own-bit, part-antisym, part-le, part-or}
+use Rattle.sets.proofs.Members.{part-or-left, part-refl, part-trans, part-zero}
 use Rattle.search.specs.Relevance.{Asking, ChainThere, Round, allDefined, meant, rolesAsked, withDefiners}
 use Rattle.derivation.proofs.Asking.{chain-there}
 use Rattle.search.proofs.Bearing.{roles-4, with-among, with-grows, with-more}

@@ -1,4 +1,5 @@
--- The index of a table: what its cells hold, and that by it the roles asked are met, and their definers taken in, as they are by the table.
+-- The index of a table: what its cells hold, and that by it the roles asked are met, and their definers taken in, as they are
+-- by the table.
 use mathlib.Core.Path.{_≡_, refl, sym, ap, _∙_}
 use mathlib.Core.List.{List, [], _∷_, _++_}
 use mathlib.Core.Bool.{Bool, true, false, not}
@@ -22,7 +23,8 @@ use Rattle.table.specs.declared.Credential.{Credential}
 use Rattle.sets.proofs.Tests.{and-assoc, and-both, and-on, and-second}
 use Rattle.sets.specs.Sets.{inSet, setOf}
 use Rattle.sets.proofs.Members.{inSet-and, same-members, setOf-members}
-use Rattle.search.specs.Relevance.{Asking, ChainThere, Indexed, Place, allDefined, allMet, definers, everyCredential, indexed, met, meant, rolesAsked, withDefiners, withMet, withMetTo}
+use Rattle.search.specs.Relevance.{Asking, ChainThere, Indexed, Place, allDefined, allMet, definers, everyCredential}
+use Rattle.search.specs.Relevance.{indexed, met, meant, rolesAsked, withDefiners, withMet, withMetTo}
 use Rattle.search.proofs.Bearing.{roles-1, roles-2, roles-3, roles-4, roles-none}
 use Rattle.search.proofs.Gathering.{chain-whole}
 use Rattle.derivation.proofs.Ruling.{by-kind}

@@ -14,7 +14,8 @@ use Rattle.table.specs.Limits.{mostPrincipals}
 use Rattle.table.specs.Layout.{credential, credentials}
 use Rattle.table.specs.declared.Credential.{Credential}
 use Rattle.table.specs.declared.Goal.{Goal}
-use Rattle.sets.proofs.Tests.{and-both, and-first, and-is, and-is-off, and-none, and-second, any-next, any-none, any-on, any-reached, false-true, or-first, or-second, refuted}
+use Rattle.sets.proofs.Tests.{and-both, and-first, and-is, and-is-off, and-none, and-second, any-next, any-none}
+use Rattle.sets.proofs.Tests.{any-on, any-reached, false-true, or-first, or-second, refuted}
 use Rattle.sets.specs.Sets.{inSet}
 use Rattle.derivation.specs.Rules.{premises}
 use Rattle.derivation.specs.Held.{given}
@@ -141,7 +142,12 @@ module _ (t : List ℕ) (S c from : ℕ) (x : Credential) (read : x ≡ credenti
   middle-linking m n three all h =
       let kind = eq-eqb (credential t c .kind) 3 (sym (ap (λ (y : Credential). y .kind) read) ∙ three) in
       let near = rw all at h in
-      record { later = h .later; few = h .few; first = λ y a b. rw kind (near .first y a b); tried = λ few. rw kind (near .tried few) }
+      record {
+        later = h .later;
+        few = h .few;
+        first = λ y a b. rw kind (near .first y a b);
+        tried = λ few. rw kind (near .tried few);
+      }
 
   module _ (other : x .kind ≡ 3 → ⊥) where
     tries-zero : (m : ℕ) → tries t S c m ≡ eqb m 0

@@ -57,7 +57,8 @@ named-by t S c p there own one named =
     let at = placed there in
     any-reached _ (credentials t) (c - 1) (at .0) (and-both own (rw (at .1) (and-both (eq-eqb _ 1 one) (eq-eqb _ _ named))))
 
--- a credential of the set that applies to a goal: where all whom it asks for are named, so are the goal's principal and the middle
+-- a credential of the set that applies to a goal: where all whom it asks for are named, so are the goal's principal and the
+-- middle
 module _ (t : List ℕ) (wf : WellFormed t) (S : ℕ) (g : Goal) (c m : ℕ) (goals : List Goal) (there : Numbered (credentials t) c)
     (below : AllNamed t S goals) where
   -- the rule of membership names the principal, and every other asks for it
@@ -99,4 +100,5 @@ middle-tried {t} wf S g c m goals applies d only =
 -- whoever is derived to be in a role is a member that the set names
 pub member-known : {t : List ℕ} → WellFormed t → (S : ℕ) {levels : ℕ} {branch goals : List Goal} {g : Goal} {f : Forest}
     → Derives t levels branch (g ∷ goals) f → UsesOnly f S → isMember t S (credentials t) (g .principal .0) ≡ true
-member-known wf S {goals = goals} {g = g} d only = members-known wf S d only (g .principal .0) (asks-first (g .principal) (g .role) goals)
+member-known wf S {goals = goals} {g = g} d only =
+    members-known wf S d only (g .principal .0) (asks-first (g .principal) (g .role) goals)

@@ -54,7 +54,8 @@ accepting-exact t wf word k = go (decLt k (automata t))
   where
     go : Dec (k < automata t) → inSet (acceptingSet t (setsAfter t word)) k ≡ accepts t (suc k) word
     go (yes there) =
-        rw sub-one at (accepting-member t (suc k) (record { first = omega arith; last = there }) (wf .sized .counted .fewAutomata) word)
+        let few = wf .sized .counted .fewAutomata in
+        rw sub-one at (accepting-member t (suc k) (record { first = omega arith; last = there }) few word)
     go (no beyond) =
         setOf-members _ (automata t) k ∙ rw (le-ltb k (automata t) (omega arith), rejects-all t k word (omega arith))
 
@@ -268,7 +269,8 @@ module _ (t : List ℕ) (wf : WellFormed t) (q : Query) where
         (λ h. exact .1 (record { forest = h .forest; derives = h .derives; usesOnly = h .usesOnly; accepted = h .accepted })),
       )
 
-  pub provable-by : (S A : ℕ) {f : Forest} → Derives t (q .depth) [] (goalOf q ∷ []) f → UsesOnly f S → AllAccept t A (words t [] f)
+  pub provable-by : (S A : ℕ) {f : Forest} → Derives t (q .depth) [] (goalOf q ∷ []) f → UsesOnly f S
+      → AllAccept t A (words t [] f)
       → provable t q S A ≡ true
   provable-by S A {f} d only all =
       provable-exact S A .1 (record { forest = f; derives = d; usesOnly = only; accepted = all })

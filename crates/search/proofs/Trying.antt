@@ -16,7 +16,8 @@ use Rattle.table.specs.Layout.{credential, credentials, principal, sameRole}
 use Rattle.table.specs.declared.Credential.{Credential}
 use Rattle.table.specs.declared.Goal.{Goal}
 use Rattle.table.specs.declared.Query.{Query}
-use Rattle.sets.proofs.Tests.{and-both, and-first, and-is, and-is-off, and-none, and-on, and-second, any-all, any-next, any-reached, any-shows, false-true, refuted}
+use Rattle.sets.proofs.Tests.{and-both, and-first, and-is, and-is-off, and-none, and-on, and-second}
+use Rattle.sets.proofs.Tests.{any-all, any-next, any-reached, any-shows, false-true, refuted}
 use Rattle.sets.specs.Sets.{inSet, part}
 use Rattle.automata.specs.Together.{acceptingSet, movedSets, startingSets}
 use Rattle.automata.specs.declared.StateSets.{StateSets}
@@ -62,7 +63,8 @@ every-next one (g ∷ goals) zero l h e = and-both e refl
 every-next one (g ∷ goals) (suc i) l h e =
     and-both (and-first (one g) _ h) (every-next one goals i (omega arith) (and-second (one g) _ h) e)
 
-module _ (one : Goal → Bool) (goals : List Goal) (i : ℕ) (there : i < length goals) (before : everyGoal one (take i goals) ≡ true) where
+module _ (one : Goal → Bool) (goals : List Goal) (i : ℕ) (there : i < length goals)
+    (before : everyGoal one (take i goals) ≡ true) where
   pub every-more : one (getD goals i noGoal) ≡ true → everyGoal one (take (i + 1) goals) ≡ true
   every-more here = rw (add-one i) (every-next one goals i there before here)
 
@@ -87,10 +89,12 @@ module _ (one : Goal → Bool) (word : Bool) (goals : List Goal) (len : ℕ) whe
         let size = length-take-le len goals fits in
         rw (ne-eqb (length (take len goals)) 0 (λ z. more (sym size ∙ z))) (sym e)
 
-    pub proved-all : (i : ℕ) → i ≡ len → everyGoal one (take i goals) ≡ true → true ≡ provedPremises one word (some (take len goals))
+    pub proved-all : (i : ℕ) → i ≡ len → everyGoal one (take i goals) ≡ true
+        → true ≡ provedPremises one word (some (take len goals))
     proved-all i e each = proved-goals (rw e at each)
 
-    pub proved-not : (i : ℕ) → i < len → one (getD goals i noGoal) ≡ false → false ≡ provedPremises one word (some (take len goals))
+    pub proved-not : (i : ℕ) → i < len → one (getD goals i noGoal) ≡ false
+        → false ≡ provedPremises one word (some (take len goals))
     proved-not i l unproved =
         proved-goals (refuted _ (λ each. false-true (sym unproved ∙ every-at one goals len i each l fits)))
 
@@ -114,11 +118,13 @@ abbrev pub provesAt : List ℕ → ℕ → (Goal → Bool) → Bool → Goal →
 provesAt t S one word g = λ c. mayUse t S g (suc c) and provesBy t S one word g (suc c)
 
 -- the next credential, number i + 1, proves the goal, or it may not be used, or it does not
-module _ (t : List ℕ) (S : ℕ) (one : Goal → Bool) (word : Bool) (g : Goal) (i : ℕ) {may : Bool} (told : may ≡ mayUse t S g (i + 1)) where
+module _ (t : List ℕ) (S : ℕ) (one : Goal → Bool) (word : Bool) (g : Goal) (i : ℕ) {may : Bool}
+    (told : may ≡ mayUse t S g (i + 1)) where
   pub proves-here : (n : ℕ) {by : Bool} → i < n → may ≡ true → by ≡ provesBy t S one word g (i + 1) → by ≡ true
       → anyBelow (provesAt t S one word g) n ≡ true
   proves-here n l on e proved =
-      any-reached (provesAt t S one word g) n i l (and-both (rw (add-one i) at (sym told ∙ on)) (rw (add-one i) at (sym e ∙ proved)))
+      any-reached (provesAt t S one word g) n i l
+      (and-both (rw (add-one i) at (sym told ∙ on)) (rw (add-one i) at (sym e ∙ proved)))
 
   module _ (before : anyBelow (provesAt t S one word g) i ≡ false) where
     pub unused-next : may ≡ false → anyBelow (provesAt t S one word g) (i + 1) ≡ false
@@ -138,7 +144,8 @@ pub record Entered (t : List ℕ) (levels : ℕ) (branch branch′ : List Goal) 
 step-down : (t : List ℕ) (S A levels : ℕ) (branch : List Goal) (s : StateSets) (g : Goal) → (levels ≡ 0 → ⊥)
     → let below = movedSets t (g .role) s in
     let one = proves t S A (levels - 1) (g ∷ branch) below in
-    (fresh branch g and anyBelow (provesAt t S one (part A (acceptingSet t below)) g) (credentials t)) ≡ proves t S A levels branch s g
+    (fresh branch g and anyBelow (provesAt t S one (part A (acceptingSet t below)) g) (credentials t))
+    ≡ proves t S A levels branch s g
 unfolding proves
 step-down t S A zero branch s g some-left = absurd (some-left refl)
 step-down t S A (suc l) branch s g some-left = rw (sub-one (suc l))

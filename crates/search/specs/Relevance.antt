@@ -110,7 +110,8 @@ withMet index i P x = withMetTo index i P x (getD index (placeCells * i) 0)
 -- P has every credential of S whose roles asked are all defined in P
 abbrev pub Productive : List ℕ → ℕ → ℕ → Type 0
 Productive t S P =
-    (c : ℕ) → c < credentials t → inSet S c ≡ true → allDefined t P (rolesAsked t (credential t (suc c))) ≡ true → inSet P c ≡ true
+    (c : ℕ) → c < credentials t → inSet S c ≡ true → allDefined t P (rolesAsked t (credential t (suc c))) ≡ true
+    → inSet P c ≡ true
 
 -- R has every credential of P that defines a role asked by one of R
 abbrev pub Reached : List ℕ → ℕ → ℕ → Type 0

@@ -21,7 +21,8 @@ ghost use Rattle.table.specs.Limits.{mostCredentials, mostParts};
 ghost use Rattle.sets.specs.Logic.{_and_};
 ghost use Rattle.table.specs.Holding.{WellFormed};
 ghost use Rattle.sets.specs.Sets.{inSet, part};
-ghost use Rattle.search.specs.Relevance.{Asking, ChainThere, Indexed, Place, Productive, Reached, Round, allMet, definers, indexed, linkedRoles, meant, rolesAsked, withMet};
+ghost use Rattle.search.specs.Relevance.{Asking, ChainThere, Indexed, Place, Productive, Reached, Round, allMet};
+ghost use Rattle.search.specs.Relevance.{definers, indexed, linkedRoles, meant, rolesAsked, withMet};
 
 // Five cells for each of at most 20 credentials.
 const PLACE: usize = 5;

@@ -1,5 +1,5 @@
--- A set is a number: member i counts 2^i. A state s counts 2^s, automaton k and credential k count 2^(k-1). Nothing here depends on
--- how many members there may be.
+-- A set is a number: member i counts 2^i. A state s counts 2^s, automaton k and credential k count 2^(k-1). Nothing here
+-- depends on how many members there may be.
 use Prim.Native.Nat.{ℕ, zero, suc, _/_, _%_, _^_}
 use mathlib.Core.Bool.{Bool, not}
 use lib.Bits.{bitAnd, bitOr}

@@ -65,7 +65,8 @@ module _ (t : List ℕ) (first met j : ℕ) (walked : Walked t first met j) wher
 abbrev Settled : List ℕ → ℕ → ℕ → ℕ → Type 0
 Settled t most big j = length (cellsFrom t most j) < most → cellsFrom t big j ≡ cellsFrom t most j
 
-settled-step : (t : List ℕ) (most big j : ℕ) → Dec (j ≡ 0) → Settled t most big (cell t j .next) → Settled t (suc most) (suc big) j
+settled-step : (t : List ℕ) (most big j : ℕ) → Dec (j ≡ 0) → Settled t most big (cell t j .next)
+    → Settled t (suc most) (suc big) j
 settled-step t most big j (yes z) later h = rw (stop-at t (suc big) j z, stop-at t (suc most) j z)
 settled-step t most big j (no nz) later h =
     let shorter = rw (step-from t most j nz) at h in

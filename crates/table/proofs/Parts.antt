@@ -34,7 +34,8 @@ module _ (t : List ℕ) (first : ℕ) (roles : List Role) (len j : ℕ) (so-far 
 
   -- with cell j's role there is one role more among those gathered, and one less to come
   one-more : (j ≡ 0 → ⊥) → len < mostParts
-      → take (len + 1) (set roles len (cell t j .role)) ++ partsFrom t (suc mostParts - (len + 1)) (cell t j .next) ≡ parts t first
+      → take (len + 1) (set roles len (cell t j .role)) ++ partsFrom t (suc mostParts - (len + 1)) (cell t j .next)
+      ≡ parts t first
   one-more h room =
       let one-less : suc mostParts - len ≡ suc (suc mostParts - suc len) = omega arith in
       rw (add-one len, take-suc-set roles len (cell t j .role) (omega (arith, so-far .room)), append-assoc)

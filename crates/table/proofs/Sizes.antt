@@ -25,6 +25,7 @@ sized t v e =
     let later = then-second _ _ v e in
     record {
       counted =
-          counted t (leb-true _ _ (demand-true _ 1 0 _ (then-first _ _ v e .1))) (demand-true _ 2 0 _ (then-first _ _ v later .1));
+          counted t (leb-true _ _ (demand-true _ 1 0 _ (then-first _ _ v e .1)))
+          (demand-true _ 2 0 _ (then-first _ _ v later .1));
       exact = eqb-true _ _ (demand-true _ 3 0 _ (then-second _ _ v later));
     }

@@ -50,7 +50,8 @@ module _ (t : List ℕ) (open′ : Bool) (g : Goal) where
   entry-short (c ∷ m ∷ rest) h = absurd (omega arith)
 
   entry-two : (rec : List ℕ) → 2 ≤ length rec
-      → entry t open′ g rec ≡ admitted open′ (getD rec 0 0) (getD rec 1 0) (drop 2 rec) (premises t g (getD rec 0 0) (getD rec 1 0))
+      → entry t open′ g rec
+      ≡ admitted open′ (getD rec 0 0) (getD rec 1 0) (drop 2 rec) (premises t g (getD rec 0 0) (getD rec 1 0))
   unfolding entry
   entry-two [] h = absurd (omega arith)
   entry-two (c ∷ []) h = absurd (omega arith)

@@ -93,7 +93,8 @@ leftover t [] f nodes after reads counts more = absurd (more refl)
 leftover t (x ∷ rest) f nodes after reads counts more = rw (reads, counts, add-one (countFrom 0 f), ← count-next 0 f)
 
 -- none is left over: row 14 by what is kept is row 14 by the forest
-words-verdict : (t : List ℕ) → WellFormed t → (q : Query) (rec : List ℕ) (f : Forest) (used every : ℕ) → queried t q rec ≡ read [] f
+words-verdict : (t : List ℕ) → WellFormed t → (q : Query) (rec : List ℕ) (f : Forest) (used every : ℕ)
+    → queried t q rec ≡ read [] f
     → used ≡ usedFrom 0 f → every ≡ everyFrom t (startingSets t) allAutomata f
     → (demandEach (keeps t used every) (automata t) 14 andThen accepted used) ≡ judged t (queried t q rec)
 unfolding judged usedSet

@@ -52,7 +52,8 @@ unfolding setOf pick _and_
 all-automata k own = setOf-members (λ s. true) mostAutomata (k - 1) ∙ rw (lt-ltb (k - 1) mostAutomata (omega arith))
 
 -- tests that agree on 1 to n stop a row of checks at the same record
-demandEach-ext : (p q : ℕ → Bool) (n number : ℕ) → ((k : ℕ) → Numbered n k → p k ≡ q k) → demandEach p n number ≡ demandEach q n number
+demandEach-ext : (p q : ℕ → Bool) (n number : ℕ) → ((k : ℕ) → Numbered n k → p k ≡ q k)
+    → demandEach p n number ≡ demandEach q n number
 unfolding demandEach
 demandEach-ext p q zero number same = refl
 demandEach-ext p q (suc n) number same =
@@ -62,11 +63,13 @@ demandEach-ext p q (suc n) number same =
     )
 
 pub words-judged : (t : List ℕ) (l : ℕ) (b gs : List Goal) (f : Forest) → WellFormed t → Derives t l b gs f
-    → demandEach (keeps t (usedSet f) (everyFrom t (startingSets t) allAutomata f)) (automata t) 14 ≡ demandEach (met t f) (automata t) 14
+    → demandEach (keeps t (usedSet f) (everyFrom t (startingSets t) allAutomata f)) (automata t) 14
+    ≡ demandEach (met t f) (automata t) 14
 unfolding keeps met _and_
 words-judged t l b gs f wf d =
     let few = wf .sized .counted .fewAutomata in
     demandEach-ext _ _ (automata t) 14
     (λ k own.
     let eight : Numbered mostAutomata k = record { first = own .first; last = omega arith } in
-    rw (automata-used t l b gs f d k (own .first), ← sets-after-none t, every-member t k own few [] allAutomata f, all-automata k eight))
+    let every = every-member t k own few [] allAutomata f in
+    rw (automata-used t l b gs f d k (own .first), ← sets-after-none t, every, all-automata k eight))

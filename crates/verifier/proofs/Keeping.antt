@@ -71,7 +71,8 @@ reads-on : (t : List ℕ) (levels : ℕ) (branch : List Goal) (g : Goal) (goals 
     ≡ onward t s (reader t levels branch goals) (tallyOn t levels branch (g ∷ []) s rec used nodes every)
 unfolding tallyOn reader readAll
 reads-on t zero branch g goals s rec used nodes every = entered-onward t s used nodes every _ _ (entry t false g rec)
-reads-on t (suc levels) branch g goals s rec used nodes every = entered-onward t s used nodes every _ _ (entry t (fresh branch g) g rec)
+reads-on t (suc levels) branch g goals s rec used nodes every =
+    entered-onward t s used nodes every _ _ (entry t (fresh branch g) g rec)
 
 -- no goal is left
 pub reads-none : (t : List ℕ) (levels : ℕ) (branch : List Goal) (s : StateSets) (rec : List ℕ) (used nodes every : ℕ)
@@ -148,15 +149,16 @@ one-goal : (t : List ℕ) (levels : ℕ) (branch : List Goal) (g : Goal) (rec : 
 unfolding reader readAll may
 one-goal t levels branch g rec at = refl
 
-pub node-stops : (t : List ℕ) (levels : ℕ) (branch : List Goal) (g : Goal) (s : StateSets) (rec : List ℕ) (used nodes every number : ℕ)
-    → entry t (may levels branch g) g rec ≡ halt number
+pub node-stops : (t : List ℕ) (levels : ℕ) (branch : List Goal) (g : Goal) (s : StateSets) (rec : List ℕ)
+    (used nodes every number : ℕ) → entry t (may levels branch g) g rec ≡ halt number
     → stopped number (suc nodes) ≡ tallyOn t levels branch (g ∷ []) s rec used nodes every
 unfolding tallyOn tally reader readAll entered may
 node-stops t zero branch g s rec used nodes every number h = rw h
 node-stops t (suc levels) branch g s rec used nodes every number h = rw h
 
 -- where no goal is asked, no node is read
-reads-end : (t : List ℕ) (levels : ℕ) (branch goals : List Goal) (rec : List ℕ) (at : ℕ) → goals ≡ [] → (rest : List ℕ) (f : Forest)
+reads-end : (t : List ℕ) (levels : ℕ) (branch goals : List Goal) (rec : List ℕ) (at : ℕ) → goals ≡ []
+    → (rest : List ℕ) (f : Forest)
     → reader t levels branch goals rec at ≡ read rest f → f ≡ end
 reads-end t levels branch goals rec at nothing rest f h =
     let e = rw nothing at h in
@@ -185,12 +187,14 @@ module _ (t : List ℕ) (wf : WellFormed t) (g : Goal) (s : StateSets) (used nod
       → tally t below (bitOr used (2 ^ (c - 1))) (suc nodes) (afterNode t every below (length goals)) after
       ≡ tally t s used nodes every (followed c m (suc (suc nodes)) (λ rest later. read rest end) after)
   unfolding tally followed joined usedFrom countFrom
-  reading-kept goals applies (read rest f) leaf = rw (children-kept goals applies rest f (λ none-asked. leaf none-asked rest f refl))
+  reading-kept goals applies (read rest f) leaf =
+      rw (children-kept goals applies rest f (λ none-asked. leaf none-asked rest f refl))
   reading-kept goals applies (stop number at) leaf = refl
 
   pub node-asks : (here levels : ℕ) (branch goals : List Goal) (rec rest : List ℕ) → here ≡ suc levels
       → premises t g c m ≡ some goals → entry t (may here branch g) g rec ≡ ask c m goals rest
-      → tallyOn t levels (g ∷ branch) goals below rest (bitOr used (2 ^ (c - 1))) (suc nodes) (afterNode t every below (length goals))
+      → tallyOn t levels (g ∷ branch) goals below rest (bitOr used (2 ^ (c - 1))) (suc nodes)
+      (afterNode t every below (length goals))
       ≡ tallyOn t here branch (g ∷ []) s rec used nodes every
   unfolding tallyOn entered
   node-asks here levels branch goals rec rest one-more applies h =

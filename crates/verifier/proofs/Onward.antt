@@ -57,8 +57,8 @@ stops-told : {t : List ℕ} {levels : ℕ} {branch : List Goal} {g : Goal} {s : 
 stops-told stops told = record { told = stopped-told _ _ _ _ _ stops ∙ told; room = λ e. absurd (stops e); whole = λ h. refl }
 
 -- the first i children have been read, none was refused, and the others are still to be read
-pub record Onward (t : List ℕ) (levels : ℕ) (branch goals : List Goal) (len : ℕ) (s : StateSets) (rest₀ : List ℕ) (used₀ nodes₀ every₀ : ℕ)
-    (rest : List ℕ) (used nodes every refusal i : ℕ) : Type 0 where
+pub record Onward (t : List ℕ) (levels : ℕ) (branch goals : List Goal) (len : ℕ) (s : StateSets) (rest₀ : List ℕ)
+    (used₀ nodes₀ every₀ : ℕ) (rest : List ℕ) (used nodes every refusal i : ℕ) : Type 0 where
   pub held : Room mostParts len goals
   pub few : i ≤ len
   pub no-refusal : refusal ≡ 0
@@ -92,7 +92,8 @@ module _ {t : List ℕ} {levels : ℕ} {branch goals : List Goal} {len : ℕ} {s
     whole-from : tallyOn t levels branch (getD goals i noGoal ∷ drop (i + 1) (take len goals)) s rest used nodes every ≡ all-kept
     whole-from = rw (← goals-from goals len i less onward-fits) (o .whole)
 
-    pub onward-goes : refusal′ ≡ 0 → Onward t levels branch goals len s rest₀ used₀ nodes₀ every₀ rest′ used′ nodes′ every′ refusal′ (i + 1)
+    pub onward-goes : refusal′ ≡ 0
+        → Onward t levels branch goals len s rest₀ used₀ nodes₀ every₀ rest′ used′ nodes′ every′ refusal′ (i + 1)
     onward-goes h =
         record {
           held = o .held;
@@ -120,7 +121,8 @@ pub record Down (t : List ℕ) (branch : Branch) (g : Goal) (s : StateSets) (ste
   pub uses : used₀ ≡ bitOr used (2 ^ (step .credential - 1))
   pub keeps : every₀ ≡ afterNode t every below (step .len)
 
-module _ {t : List ℕ} {levels : ℕ} {branch : Branch} {g : Goal} {rec : List ℕ} {step : Step} (n : Node t levels branch g rec step) where
+module _ {t : List ℕ} {levels : ℕ} {branch : Branch} {g : Goal} {rec : List ℕ} {step : Step}
+    (n : Node t levels branch g rec step) where
   node-entry : entry t (may levels (above branch) g) g rec
       ≡ ask (step .credential) (step .middle) (take (step .len) (step .goals)) (drop 2 rec)
   node-entry = sym (n .enters) ∙ step-asks step rec (n .goes)
@@ -169,7 +171,11 @@ module _ {t : List ℕ} {levels : ℕ} {branch : Branch} {g : Goal} {s : StateSe
     pub children-read : step .len ≤ i → ReadOn t levels (above branch) g s rec used nodes every rest used′ nodes′ every′ refusal
     children-read all =
         let passes = passed-told rest used′ nodes′ every′ refusal (o .no-refusal) in
-        record { told = passes ∙ onward-ends o all ∙ node-whole; room = λ e. left; whole = λ stops. absurd (stops (o .no-refusal)) }
+        record {
+          told = passes ∙ onward-ends o all ∙ node-whole;
+          room = λ e. left;
+          whole = λ stops. absurd (stops (o .no-refusal));
+        }
 
     pub child-stops : {rest″ : List ℕ} {used″ nodes″ every″ refusal″ : ℕ} → i < step .len
         → ReadOn t (levels - 1) (above deeper) (getD (step .goals) i noGoal) below rest used′ nodes′ every′

@@ -35,7 +35,8 @@ module _ (t : List ℕ) (branch : List Goal) (rec : List ℕ) (at : ℕ) where
   reader-end (suc levels) = refl
 
   reader-floor : (g : Goal) (later : List Goal)
-      → reader t zero branch (g ∷ later) rec at ≡ entered at (λ goals more k. stop 13 k) (reader t zero branch later) (entry t false g rec)
+      → reader t zero branch (g ∷ later) rec at
+      ≡ entered at (λ goals more k. stop 13 k) (reader t zero branch later) (entry t false g rec)
   unfolding reader readAll
   reader-floor g later = refl
 
@@ -47,7 +48,8 @@ module _ (t : List ℕ) (branch : List Goal) (rec : List ℕ) (at : ℕ) where
 
 -- how a reading ends: the goals derive and their record is read off, or it stops
 pub data Ends (t : List ℕ) (levels : ℕ) (branch goals : List Goal) (at : ℕ) : List ℕ → Reading → Type 0 where
-  reads : {rest : List ℕ} {f : Forest} → Derives t levels branch goals f → Ends t levels branch goals at (written f ++ rest) (read rest f)
+  reads : {rest : List ℕ} {f : Forest} → Derives t levels branch goals f
+      → Ends t levels branch goals at (written f ++ rest) (read rest f)
   stops : {rec : List ℕ} {number position : ℕ} → Stops t levels branch goals rec at number position
       → Ends t levels branch goals at rec (stop number position)
 
@@ -73,7 +75,8 @@ module _ (t : List ℕ) (levels : ℕ) (branch later : List Goal) (g : Goal) (at
         → Ends t (suc levels) branch later (countFrom (suc at) children) rec r
         → Ends t (suc levels) branch (g ∷ later) at (c ∷ m ∷ (written children ++ rec)) (joined c m children r)
     unfolding joined written
-    joined-ends {children} d (reads {rest} {f} s) = rw (← append-assoc (written children) (written f) rest) (reads (step fits new d s))
+    joined-ends {children} d (reads {rest} {f} s) =
+        rw (← append-assoc (written children) (written f) rest) (reads (step fits new d s))
     joined-ends d (stops s) = stops (behind fits new d s)
 
     followed-ends : {rec : List ℕ} {r : Reading} (next : List ℕ → ℕ → Reading)
@@ -94,7 +97,8 @@ module _ (t : List ℕ) (levels : ℕ) (branch later : List Goal) (g : Goal) (at
     node-admits c m rec (some goals) e false e′ = stops (again e e′)
     node-admits c m rec (some goals) e true e′ = followed-ends c m goals e e′ next after (inside goals rec)
 
-    node-ends : (rec : List ℕ) → Ends t (suc levels) branch (g ∷ later) at rec (entered at deeper next (entry t (fresh branch g) g rec))
+    node-ends : (rec : List ℕ)
+        → Ends t (suc levels) branch (g ∷ later) at rec (entered at deeper next (entry t (fresh branch g) g rec))
     unfolding entered entry
     node-ends [] = stops (short {rec = []} (omega arith))
     node-ends (c ∷ []) = stops (short {rec = c ∷ []} (omega arith))
@@ -182,4 +186,5 @@ reader-stops {t} (again {levels} {at} {c} {m} {branch} {goals} {later} {g} {rec}
 reader-stops {t} (below {levels} {at} {c} {m} {branch} {goals} {later} {g} {rec} fits new s) =
     rw (passes t levels c m branch goals later g rec at fits new, reader-stops s)
 reader-stops {t} (behind {levels} {at} {c} {m} {branch} {goals} {later} {g} {rec} {children} fits new d s) =
-    rw (passes t levels c m branch goals later g (written children ++ rec) at fits new, reader-complete d rec (suc at), reader-stops s)
+    let passed = passes t levels c m branch goals later g (written children ++ rec) at fits new in
+    rw (passed, reader-complete d rec (suc at), reader-stops s)

@@ -1,5 +1,6 @@
--- Demand 2 on the verifier: on an accepted table and a valid query it accepts a record, with a set, exactly when the record derives
--- the queried membership, complies, and uses that set; and where it refuses a record, it tells the first thing that applies.
+-- Demand 2 on the verifier: on an accepted table and a valid query it accepts a record, with a set, exactly when the record
+-- derives the queried membership, complies, and uses that set; and where it refuses a record, it tells the first thing that
+-- applies.
 use Prim.Native.Nat.{ℕ, suc, _<_}
 use mathlib.Core.Path.{_≡_}
 use mathlib.Core.List.{List, [], _∷_, _++_}

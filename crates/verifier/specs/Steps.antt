@@ -21,7 +21,8 @@ may (suc levels) branch g = fresh branch g
 
 -- what a node's entry says of the record `rec`
 unfoldable pub stepped : Step → List ℕ → Entry
-stepped s rec = pick (eqb (s .refusal) 0) (ask (s .credential) (s .middle) (take (s .len) (s .goals)) (drop 2 rec)) (halt (s .refusal))
+stepped s rec =
+    pick (eqb (s .refusal) 0) (ask (s .credential) (s .middle) (take (s .len) (s .goals)) (drop 2 rec)) (halt (s .refusal))
 
 -- an entry that stops with a number
 pub record Halted (s : Step) (number : ℕ) : Type 0 where

@@ -24,7 +24,9 @@ unfoldable pub everyFrom : List ℕ → StateSets → ℕ → Forest → ℕ
 everyFrom t s every end = every
 everyFrom t s every (node c m children siblings) =
     let below = movedSets t (credential t c .role) s in
-    everyFrom t s (pick (eqb (credential t c .kind) 1) (bitAnd every (acceptingSet t below)) (everyFrom t below every children)) siblings
+    everyFrom t s
+    (pick (eqb (credential t c .kind) 1) (bitAnd every (acceptingSet t below)) (everyFrom t below every children))
+    siblings
 
 -- all eight automata
 abbrev pub allAutomata : ℕ

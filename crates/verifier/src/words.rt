@@ -25,7 +25,8 @@ pub const ALL_AUTOMATA: AutomatonSet = 255;
 pub fn judge_words(table: &[Number], used: CredentialSet, every: AutomatonSet) -> Verdict
     requires { ⌜ WellFormed (now table) ⌝ }
     ensures { λ r. ⌜ verdictTold r
-        ≡ (demandEach (keeps (now (table .entry)) used every) (automata (now (table .entry))) 14 andThen Outcome.accepted used) ⌝ }
+        ≡ (demandEach (keeps (now (table .entry)) used every) (automata (now (table .entry))) 14
+        andThen Outcome.accepted used) ⌝ }
 {
     let imposed = derivation::automata_of(table, used);
     let a = layout::automata(table);

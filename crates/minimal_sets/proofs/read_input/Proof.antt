@@ -1,5 +1,5 @@
--- `minimal_sets::read_input` is safe and ends: no more than the buffer is filled, and each turn fills more of it. The measure is what
--- is left of it. Assumes nothing.
+-- `minimal_sets::read_input` is safe and ends: no more than the buffer is filled, and each turn fills more of it. The measure
+-- is what is left of it. Assumes nothing.
 use borrow.Author.Needs.{needs}
 use mathlib.Core.Path.{_≡_, refl, _∙_}
 use Prim.Native.Nat.{_≤_, _<_, _-_, _^_}

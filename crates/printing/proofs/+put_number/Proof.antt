@@ -28,7 +28,8 @@ put-number-below t =
 abbrev put-number-claims : ℕ → put-number-lts.Claims
 put-number-claims t = (put-digit-reads.Asked, put-digit-reads.Learnt, put-number-below t, put-number.Post)
 
-put-number-put-digit-requires : (t : ℕ) → put-number-lts.Need-put-digit-requires (put-number-claims t) (put-number-at t) put-number.Post
+put-number-put-digit-requires : (t : ℕ)
+    → put-number-lts.Need-put-digit-requires (put-number-claims t) (put-number-at t) put-number.Post
 put-number-put-digit-requires t c κs = omega (arith, c .before .before .before .pre, length-one _ (c .before .if1 .taken))
 
 put-number-same-length : (t : ℕ) → put-number-lts.Need-same-length (put-number-claims t) (put-number-at t) put-number.Post
@@ -37,10 +38,12 @@ put-number-same-length t c = c .before .before .put-digit .kept .0
 put-number-returns : (t : ℕ) → put-number-lts.Need-returns (put-number-claims t) (put-number-at t) put-number.Post
 put-number-returns t c = put-single _ (c .before .before .before .before .if1 .taken) (c .before .before .put-digit .ensures)
 
-put-number-put-number-requires : (t : ℕ) → put-number-lts.Need-put-number-requires (put-number-claims t) (put-number-at t) put-number.Post
+put-number-put-number-requires : (t : ℕ)
+    → put-number-lts.Need-put-number-requires (put-number-claims t) (put-number-at t) put-number.Post
 put-number-put-number-requires t c κs = omega (arith, c .before .before .before .pre, length-more _ (c .before .if1 .left))
 
-put-number-put-digit-requires-2 : (t : ℕ) → put-number-lts.Need-put-digit-requires-2 (put-number-claims t) (put-number-at t) put-number.Post
+put-number-put-digit-requires-2 : (t : ℕ)
+    → put-number-lts.Need-put-digit-requires-2 (put-number-claims t) (put-number-at t) put-number.Post
 put-number-put-digit-requires-2 t c κs =
     let number = c .before .before .before in
     let test = number .before .before in

@@ -25,15 +25,21 @@ has-16-requires : tie.Need-has-16-requires
 has-16-requires c κs = search needs
 
 returns : tie.Need-returns
-returns c = edge-elsewhere _ _ _ _ (c .before .before .before .before .wide .ensures .0) (c .before .before .wide2 .ensures .0) (failed (c .before .has-16 .ensures) (c .if1 .taken))
+returns c =
+    let automaton = c .before .before .before .before .wide .ensures .0 in
+    let from = c .before .before .wide2 .ensures .0 in
+    edge-elsewhere _ _ _ _ automaton from (failed (c .before .has-16 .ensures) (c .if1 .taken))
 
 edge-matches-requires : tie.Need-edge-matches-requires
 edge-matches-requires c κs = search needs
 
 returns-2 : tie.Need-returns-2
 returns-2 c =
+    let automaton = c .before .before .before .before .before .before .wide .ensures .0 in
+    let from = c .before .before .before .before .wide2 .ensures .0 in
+    let member = passed (c .before .before .before .has-16 .ensures) (c .before .before .if1 .left) in
     let off = failed (c .before .edge-matches .ensures) (c .if2 .taken) in
-    edge-unmatched _ _ _ _ (c .before .before .before .before .before .before .wide .ensures .0) (c .before .before .before .before .wide2 .ensures .0) (passed (c .before .before .before .has-16 .ensures) (c .before .before .if1 .left)) off
+    edge-unmatched _ _ _ _ automaton from member off
 
 mul-with-16 : tie.Need-mul-with-16
 mul-with-16 c = search needs
@@ -55,9 +61,12 @@ array-write-sets c = search needs
 
 returns-3 : tie.Need-returns-3
 returns-3 c =
-    let member = passed (c .before .before .before .before .before .before .has-16 .ensures) (c .before .before .before .before .before .if1 .left) in
+    let automaton = c .before .before .before .before .before .before .before .before .before .wide .ensures .0 in
+    let from = c .before .before .before .before .before .before .before .wide2 .ensures .0 in
+    let at = c .before .before .before .before .before in
+    let member = passed (at .before .has-16 .ensures) (at .if1 .left) in
     let on = passed (c .before .before .before .before .edge-matches .ensures) (c .before .before .before .if2 .left) in
-    edge-leads _ _ _ _ (c .before .before .before .before .before .before .before .before .before .wide .ensures .0) (c .before .before .before .before .before .before .before .wide2 .ensures .0) member on (c .before .wide3 .ensures .0) (c .with-16 .ensures)
+    edge-leads _ _ _ _ automaton from member on (c .before .wide3 .ensures .0) (c .with-16 .ensures)
 
 pub with-edge-spec : {M : Type 1} → statement M
 with-edge-spec =

@@ -9,7 +9,8 @@ use Rattle.table.specs.Outcome.Outcome.{accepted}
 use Rattle.table.specs.Checks.{chainOk, goodChain}
 use Rattle.table.proofs.Stages.{each-passes}
 use Rattle.table.proofs.Chains.{Walked, walk-goes-on, walk-starts}
-use Rattle.checks.proofs.Chains.{chain-of-kind-4, first-inside, no-cells, long-enough, next-inside, no-chain, too-long, too-short}
+use Rattle.checks.proofs.Chains.{chain-of-kind-4, first-inside, no-cells, long-enough}
+use Rattle.checks.proofs.Chains.{next-inside, no-chain, too-long, too-short}
 use Rattle.checks.proofs.Told.{bad-next, bad-none}
 use Rattle.checks.proofs.rows.first_bad_chain.Statement.{statement}
 use Rattle.checks.proofs.rows.first_bad_chain.Tie as tie

@@ -1,5 +1,5 @@
--- `derivation::attached::automata_of` meets its contract: the mask has the automata of those of the first i credentials that are in
--- the set. Assumes nothing.
+-- `derivation::attached::automata_of` meets its contract: the mask has the automata of those of the first i credentials that
+-- are in the set. Assumes nothing.
 use mathlib.Core.Path.{_∙_, _≡_, refl}
 use Prim.Native.Nat.{_-_, _≤_}
 use native.Mathlib.Omega.{arith}
@@ -34,7 +34,8 @@ has-requires : tie.Need-has-requires Inv-loop μ-loop
 has-requires c κs = search needs
 
 with-automaton-requires : tie.Need-with-automaton-requires Inv-loop μ-loop
-with-automaton-requires c κs = automaton-few _ (c .before .before .before .before .before .before .pre) _ (omega arith) _ (c .before .credential .ensures)
+with-automaton-requires c κs =
+    automaton-few _ (c .before .before .before .before .before .before .pre) _ (omega arith) _ (c .before .credential .ensures)
 
 add-i : tie.Need-add-i Inv-loop μ-loop
 add-i c = search needs
@@ -44,7 +45,8 @@ loop-less c = search needs
 
 loop-again : tie.Need-loop-again Inv-loop μ-loop
 loop-again c =
-    let next = automata-next _ _ _ (c .before .has .ensures) (c .before .before .credential .ensures) (c .before .before .before .before .loop .inv .1) in
+    let so-far = c .before .before .before .before .loop .inv .1 in
+    let next = automata-next _ _ _ (c .before .has .ensures) (c .before .before .credential .ensures) so-far in
     (omega arith, c .with-automaton .ensures ∙ next)
 
 returns : tie.Need-returns Inv-loop μ-loop

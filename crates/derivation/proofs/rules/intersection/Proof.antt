@@ -60,7 +60,8 @@ returns-2 c =
     let loop = c .before .loop in
     let start = c .before .before .before in
     let all = asked-all _ _ _ (loop .i) (start .args .t1 .len) (omega arith) (loop .inv .1) in
-    (record { fits = start .pre .0; size = loop .inv .1 .size }, ap some all ∙ when-on _ (eq-eqb _ 0 (c .before .before .if1 .left)))
+    let none = eq-eqb _ 0 (c .before .before .if1 .left) in
+    (record { fits = start .pre .0; size = loop .inv .1 .size }, ap some all ∙ when-on _ none)
 
 pub intersection-spec : {M : Type 1} → statement M
 intersection-spec =

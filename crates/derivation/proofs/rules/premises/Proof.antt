@@ -1,4 +1,5 @@
--- `derivation::rules::premises` meets its contract: the credential is found and its role compared, then it goes by kind. Assumes nothing.
+-- `derivation::rules::premises` meets its contract: the credential is found and its role compared, then it goes by kind.
+-- Assumes nothing.
 use mathlib.Core.List.{List}
 use mathlib.Core.Path.{_≡_, _∙_, ap}
 use native.Mathlib.Omega.{arith}
@@ -98,7 +99,8 @@ returns-6 c = answer-is (c .linking .ensures) (asks-3 _ _ _ _ (c .before .match 
 returns-7 : tie.Need-returns-7
 returns-7 c =
     let args = start (c .before .before .before .before .before) .args in
-    let parts = ap (λ (roles : List Role). intersectionAsks (args .goal) roles (args .middle)) (c .before .chain .ensures .roles) in
+    let chain = c .before .chain .ensures .roles in
+    let parts = ap (λ (roles : List Role). intersectionAsks (args .goal) roles (args .middle)) chain in
     let asked = asks-4 _ _ _ _ (c .before .before .match .keys4) in
     answer-is (c .intersection .ensures) (parts ∙ asked ∙ own (c .before .before .before))
 

@@ -1,10 +1,13 @@
--- Goal search, credential search and the search of what a credential asks meet their contracts, by the levels left: each loop knows
--- that what it has tried so far does not prove the goal, or, over the premises, that each of them is proved. Assumes nothing.
+-- Goal search, credential search and the search of what a credential asks meet their contracts, by the levels left: each loop
+-- knows that what it has tried so far does not prove the goal, or, over the premises, that each of them is proved.
+-- Assumes nothing.
 use Prim.Native.Nat.{ℕ, _*_, _+_, _-_, _<_, _≤_}
 use Rattle.automata.specs.Together.{acceptingSet}
 use Rattle.sets.specs.Sets.{part}
-use Rattle.search.proofs.Middles.{AtMiddle, middle-found, middle-next, middle-over, middle-starts, proved-given, proved-none}
-use Rattle.search.proofs.Trying.{Entered, every-asked, every-more, goal-again, goal-decided, level-none, proved-all, proved-not, proves-here, provesAt, unproved-next, unused-next, word-proved}
+use Rattle.search.proofs.Middles.{AtMiddle, middle-found, middle-next, middle-over}
+use Rattle.search.proofs.Middles.{middle-starts, proved-given, proved-none}
+use Rattle.search.proofs.Trying.{Entered, every-asked, every-more, goal-again, goal-decided, level-none, proved-all}
+use Rattle.search.proofs.Trying.{proved-not, proves-here, provesAt, unproved-next, unused-next, word-proved}
 use Rattle.derivation.specs.Held.{above}
 use Rattle.search.specs.Search.{everyGoal, proves}
 use Rattle.sets.proofs.Tests.{any-all, failed, passed}
@@ -139,7 +142,8 @@ abbrev credential-search-needs :
     → credential-search-lts.InvT-loop → credential-search-lts.MeasureT-loop → Type 0) → Type 0
 credential-search-needs need =
     (t : ℕ)
-    → need (credential-search-claims t) (credential-search-at t) credential-search.Post credential-search-Inv-loop credential-search-μ-loop
+    → need (credential-search-claims t) (credential-search-at t) credential-search.Post
+    credential-search-Inv-loop credential-search-μ-loop
 
 credential-search-next-middle-requires : credential-search-needs credential-search-lts.Need-next-middle-requires
 credential-search-next-middle-requires t c κs = search needs
@@ -308,7 +312,8 @@ abbrev premises-search-needs :
     (premises-search-lts.Claims → In 1 premises-search-kinds.ps → Out 1 premises-search-kinds.ps premises-search-kinds.r
     → premises-search-lts.InvT-loop → premises-search-lts.MeasureT-loop → Type 0) → Type 0
 premises-search-needs need =
-    (t : ℕ) → need (premises-search-claims t) (premises-search-at t) premises-search.Post premises-search-Inv-loop premises-search-μ-loop
+    (t : ℕ)
+    → need (premises-search-claims t) (premises-search-at t) premises-search.Post premises-search-Inv-loop premises-search-μ-loop
 
 premises-search-accepting-requires : premises-search-needs premises-search-lts.Need-accepting-requires
 premises-search-accepting-requires t c κs = search needs

@@ -1,4 +1,5 @@
--- `search::goals::may_use`: the credential is in the set, and its role is the goal's. Assumes an accepted table and a credential of it.
+-- `search::goals::may_use`: the credential is in the set, and its role is the goal's. Assumes an accepted table and a
+-- credential of it.
 use mathlib.Core.Path.{sym}
 use Rattle.search.specs.Search.{mayUse}
 use Rattle.sets.proofs.Tests.{and-is-off, failed, passed}

@@ -1,10 +1,11 @@
--- `search::goals::next_middle`: `least` is the nearest of the members that the first i credentials name. Assumes an accepted table and a
--- credential of it.
+-- `search::goals::next_middle`: `least` is the nearest of the members that the first i credentials name. Assumes an accepted
+-- table and a credential of it.
 use mathlib.Core.Path.{_∙_, sym}
 use mathlib.Core.Logic.{⊎-elim}
 use Prim.Native.Nat.{_-_, _≤_}
 use native.Mathlib.Omega.{arith}
-use Rattle.search.proofs.Middles.{Nearest, middle-first, middle-linking, middle-none, nearest-inside, nearest-none, nearest-outside}
+use Rattle.search.proofs.Middles.{Nearest, middle-first, middle-linking, middle-none}
+use Rattle.search.proofs.Middles.{nearest-inside, nearest-none, nearest-outside}
 use borrow.Author.Needs.{needs}
 use Rattle.search.proofs.goals.next_middle.Statement.{statement}
 use Rattle.search.proofs.goals.next_middle.Tie as tie

@@ -52,7 +52,8 @@ loop-again c =
     let told = sym (c .before .has .ensures) in (
       omega arith,
       three-ways
-          (λ w. w .5 ∙ w .4 .ensures ∙ definers-more _ _ _ _ _ so-far (told ∙ w .0 .taken) _ (w .1 .ensures) (w .2 .ensures) (w .3 .taken))
+          (λ w. w .5 ∙ w .4 .ensures
+          ∙ definers-more _ _ _ _ _ so-far (told ∙ w .0 .taken) _ (w .1 .ensures) (w .2 .ensures) (w .3 .taken))
           (λ w. w .4 ∙ definers-other _ _ _ _ _ so-far (told ∙ w .0 .taken) _ (w .1 .ensures) (w .2 .ensures) (w .3 .left))
           (λ w. w .1 ∙ definers-outside _ _ _ _ _ so-far (told ∙ w .0 .left)) (c .if1 .came),
     )

@@ -32,7 +32,8 @@ defining-requires c κs = search needs
 returns-3 : tie.Need-returns-3
 returns-3 c =
     let asked = c .before .before .before .before .roles-asked in
-    c .defining .ensures ∙ cell-role _ _ _ (asked .ensures) _ _ (c .before .before .before .if1 .left) (c .before .before .if2 .left)
+    c .defining .ensures
+    ∙ cell-role _ _ _ (asked .ensures) _ _ (c .before .before .before .if1 .left) (c .before .before .if2 .left)
 
 pub index-cell-spec : {M : Type 1} → statement M
 index-cell-spec =

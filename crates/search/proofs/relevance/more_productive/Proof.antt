@@ -6,7 +6,8 @@ use native.Mathlib.Omega.{arith}
 use denote.Ref.{now}
 use Rattle.table.specs.Layout.{credentials}
 use Rattle.search.specs.Relevance.{Round}
-use Rattle.search.proofs.Gathering.{ProductiveTo, productive-more, productive-not, productive-old, round-starts, three-ways}
+use Rattle.search.proofs.Gathering.{ProductiveTo, productive-more, productive-not}
+use Rattle.search.proofs.Gathering.{productive-old, round-starts, three-ways}
 use Rattle.search.proofs.Indexing.{all-met, place}
 use borrow.Author.Needs.{needs}
 use Rattle.search.proofs.relevance.more_productive.Statement.{statement}
@@ -45,10 +46,11 @@ loop-again : tie.Need-loop-again Inv-loop μ-loop
 loop-again c =
     let pre = c .before .before .before .before .before .before .before .pre in
     let round = c .before .before .before .loop .inv .1 in
-    let new = c .before .is-new .ensures in (
+    let new = c .before .is-new .ensures in
+    let met = all-met _ _ (pre .0) (pre .1) in (
       omega arith,
       three-ways (λ w. productive-more _ _ _ _ _ _ round new (w .0 .taken) (w .4 ∙ w .3 .ensures))
-          (λ w. productive-not _ _ _ _ _ _ round (w .1 .ensures ∙ all-met _ _ (pre .0) (pre .1) _ (omega arith) _) (w .2 .left) (w .3))
+          (λ w. productive-not _ _ _ _ _ _ round (w .1 .ensures ∙ met _ (omega arith) _) (w .2 .left) (w .3))
           (λ w. productive-old _ _ _ _ _ _ round new (w .0 .left) (w .1)) (c .if1 .came),
     )
 

@@ -1,4 +1,5 @@
--- `search::relevance::with_defining` meets its contract: the definers of the first k of the roles asked are taken in. Assumes nothing.
+-- `search::relevance::with_defining` meets its contract: the definers of the first k of the roles asked are taken in.
+-- Assumes nothing.
 use mathlib.Core.Path.{_≡_, refl}
 use Prim.Native.Nat.{_-_, _*_, _≤_}
 use native.Mathlib.Omega.{arith}

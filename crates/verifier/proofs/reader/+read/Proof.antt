@@ -34,7 +34,8 @@ read-Inv-loop table rec levels used₀ nodes₀ every₀ refusal₀ stopped belo
     Onward table (levels - 1) (above deeper) goals len below rest₀ used₀ nodes₀ every₀ rest used nodes every refusal i
 
 abbrev read-μ-loop : read-lts.MeasureT-loop
-read-μ-loop table rec levels used₀ nodes₀ every₀ refusal₀ stopped below len goals deeper rest₀ i₀ used nodes every refusal rest i = len - i
+read-μ-loop table rec levels used₀ nodes₀ every₀ refusal₀ stopped below len goals deeper rest₀ i₀ used nodes every refusal rest i =
+    len - i
 
 abbrev read-claims : ℕ → read-lts.Claims
 read-claims t = (
@@ -115,7 +116,8 @@ read-with-credential-requires : (t : ℕ)
     → read-lts.Need-with-credential-requires (read-claims t) (read-at t) read.Post read-Inv-loop read-μ-loop
 read-with-credential-requires t c κs = node-credential (node t (c .before .before .before))
 
-read-after-node-requires : (t : ℕ) → read-lts.Need-after-node-requires (read-claims t) (read-at t) read.Post read-Inv-loop read-μ-loop
+read-after-node-requires : (t : ℕ)
+    → read-lts.Need-after-node-requires (read-claims t) (read-at t) read.Post read-Inv-loop read-μ-loop
 read-after-node-requires t c κs = start t (c .before .before .before .before .before) .pre .1 .0
 
 read-with-requires : (t : ℕ) → read-lts.Need-with-requires (read-claims t) (read-at t) read.Post read-Inv-loop read-μ-loop
@@ -141,7 +143,8 @@ read-loop-holds t c =
 read-mul-read : (t : ℕ) → read-lts.Need-mul-read (read-claims t) (read-at t) read.Post read-Inv-loop read-μ-loop
 read-mul-read t c = omega (arith, c .before .loop .inv .held .fits)
 
-read-array-copy-out-read : (t : ℕ) → read-lts.Need-array-copy-out-read (read-claims t) (read-at t) read.Post read-Inv-loop read-μ-loop
+read-array-copy-out-read : (t : ℕ)
+    → read-lts.Need-array-copy-out-read (read-claims t) (read-at t) read.Post read-Inv-loop read-μ-loop
 read-array-copy-out-read t c = omega (arith, c .before .loop .inv .held .fits)
 
 read-sub-read : (t : ℕ) → read-lts.Need-sub-read (read-claims t) (read-at t) read.Post read-Inv-loop read-μ-loop

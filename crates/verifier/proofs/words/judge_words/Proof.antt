@@ -1,4 +1,5 @@
--- `verifier::words::judge_words` meets its contract: the first k automata are kept, and the first that is not is told. Assumes nothing.
+-- `verifier::words::judge_words` meets its contract: the first k automata are kept, and the first that is not is told.
+-- Assumes nothing.
 use mathlib.Core.Path.{_∙_, _≡_, refl, sym}
 use mathlib.Core.Bool.{Bool}
 use Prim.Native.Nat.{ℕ, _+_, _-_, _≤_}
