@@ -5,7 +5,7 @@ use mathlib.Core.List.{List}
 use mathlib.Core.Bool.{Bool}
 use Prim.Native.Nat.{ℕ, suc, _+_, _-_, _^_, _≤_, _<_}
 use native.Mathlib.Omega.{arith}
-use native.Mathlib.Numerals.{add-one}
+use native.Mathlib.Numerals.{add-one, sub-one}
 use native.Mathlib.Decide.{ℕ-discrete}
 use lib.ListN.{length, getD, set, replicate, length-set, getD-replicate}
 use lib.Seq.{getD-set-same, getD-set-other}
@@ -143,7 +143,7 @@ unfolding movedSets together moved
 moving-all t r from n next all m = ap (λ (x : List ℕ). record { sets = x }) (each-ext _ mostAutomata (next .sets) (m .size) at)
   where
     at : (j : ℕ) → j < mostAutomata → getD (next .sets) j 0 ≡ movedBy t (suc j) r (getD (from .sets) (suc j - 1) 0) (edges t)
-    at j h = let less : suc j - 1 ≡ j = omega arith in rw (less, ← all) (m .here j h)
+    at j h = rw (sub-one, ← all) (m .here j h)
 
 -- the automata among the first k that accept
 module _ (t : List ℕ) (s : StateSets) where

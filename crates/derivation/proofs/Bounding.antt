@@ -76,7 +76,7 @@ module _ (t : List ℕ) (wf : WellFormed t) (g : Goal) (c m : ℕ) (goals : List
   node-small = by-rule (rule-applied t g c m goals applies)
 
 -- counting on is counting and adding, and each node is two numbers of the record
-count-from : (n : ℕ) (f : Forest) → countFrom n f ≡ n + countFrom 0 f
+pub count-from : (n : ℕ) (f : Forest) → countFrom n f ≡ n + countFrom 0 f
 unfolding countFrom
 count-from n end = omega arith
 count-from n (node c m children siblings) =

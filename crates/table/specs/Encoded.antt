@@ -20,9 +20,6 @@ credentialNumbers c =
     c .role .owner .0 ∷ c .role .name .0 ∷ c .kind ∷ c .first ∷ c .second ∷ c .automaton ∷ []
 
 -- principal, name, next
-abbrev pub cellOf : (principal name next : ℕ) → Cell
-cellOf principal name next = record { role = role principal name; next = next }
-
 unfoldable pub cellNumbers : Cell → List ℕ
 cellNumbers c = c .role .owner .0 ∷ c .role .name .0 ∷ c .next ∷ []
 

@@ -27,13 +27,11 @@ use Rattle.verifier.specs.Tally.Told.{passed, stopped}
 use Rattle.table.specs.Holding.{WellFormed}
 use Rattle.verifier.proofs.Readings.{reader-end}
 use Rattle.derivation.proofs.Applying.{applies-role, asks-more}
+use Rattle.derivation.proofs.Bounding.{count-from}
 use Rattle.derivation.proofs.Ruling.{asks-nothing}
 
 pub count-next : (n : ℕ) (f : Forest) → countFrom (suc n) f ≡ suc (countFrom n f)
-unfolding countFrom
-count-next n end = refl
-count-next n (node c m children siblings) =
-    rw (count-next (suc n) children, count-next (countFrom (suc n) children) siblings)
+count-next n f = omega (arith, count-from (suc n) f, count-from n f)
 
 -- what follows a reading is read from what is kept by then
 onward : List ℕ → StateSets → (List ℕ → ℕ → Reading) → Told → Told

@@ -43,8 +43,8 @@ slice-aggregate-below : tie.Need-slice-aggregate-below
 slice-aggregate-below c = search needs
 
 -- what is told is what the refusal tells
-told-as : {A : Type 0} {x y z : Outcome} → x ≡ y → (y ≡ z) × A → (x ≡ z) × A
-told-as e h = (e ∙ h .0, h .1)
+told-instead : {A : Type 0} {x y z : Outcome} → x ≡ y → (y ≡ z) × A → (x ≡ z) × A
+told-instead e h = (e ∙ h .0, h .1)
 
 -- behind `relevant`
 starts : (c : tie.After-relevant)
@@ -88,7 +88,7 @@ returns : tie.Need-returns
 unfolding numberOf
 returns c =
     let at = c .before .before in
-    told-as (c .refused .ensures) (none-told _ _ _ (head at) _ _ _ (through at) (c .before .if2 .taken))
+    told-instead (c .refused .ensures) (none-told _ _ _ (head at) _ _ _ (through at) (c .before .if2 .taken))
 
 refused-requires-2 : tie.Need-refused-requires-2
 refused-requires-2 c κs = search needs
@@ -100,7 +100,7 @@ returns-2 : tie.Need-returns-2
 unfolding numberOf
 returns-2 c =
     let at = c .before .before .before in
-    told-as (c .refused2 .ensures) (longer-told _ _ _ (head at) _ _ _ (through at) (c .before .if3 .taken))
+    told-instead (c .refused2 .ensures) (longer-told _ _ _ (head at) _ _ _ (through at) (c .before .if3 .taken))
 
 same-length-3 : tie.Need-same-length-3
 same-length-3 c = upto-length _ _ _ _ _ _ (through (c .before .before))
