@@ -46,6 +46,7 @@ pub fn check_table(table: &[Number]) -> TableCheck
     if chain != 0 {
         return rows::refused(Reason::Chain, chain);
     }
+    // Many tables have no edges: row 7, the last, then asks nothing, and its loop is not called.
     if layout::edges(table) == 0 {
         return TableCheck::Accepted;
     }

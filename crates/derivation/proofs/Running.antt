@@ -63,6 +63,6 @@ module _ (t : List ℕ) (k : ℕ) (own : Numbered (automata t) k) (few : automat
   unfolding acceptingSet accepts setsAfter _and_
   accepting-member word =
       let next : suc (k - 1) ≡ k = omega arith in
-      let eight : Numbered mostAutomata k = record { first = own .first; last = omega arith } in
+      let eight : Numbered mostAutomata k = omega arith in
       setOf-members _ (automata t) (k - 1)
       ∙ rw (lt-ltb (k - 1) (automata t) (omega arith), together-at (λ i. run t i (starting t i) word) k eight, next)

@@ -1,7 +1,7 @@
 -- Numbers and lines that are put into a buffer.
-use mathlib.Core.Path.{_≡_, refl, sym}
+use mathlib.Core.Path.{_≡_, _∙_, refl, sym}
 use mathlib.Core.List.{List, [], _∷_, _++_, append-nil, append-assoc}
-use Prim.Native.Nat.{ℕ, _+_, _/_, _%_, _^_, _<_, _≤_}
+use Prim.Native.Nat.{ℕ, _+_, _*_, _/_, _%_, _^_, _<_, _≤_}
 use native.Mathlib.Numerals.{add-one}
 use native.Mathlib.Omega.{arith}
 use mir.Syntax.{w64}
@@ -47,17 +47,43 @@ unfolding lines
 lines-one x = append-nil (line x)
 
 -- one line after the other
-pub lines-none : (before s : List ℕ) → Put before 0 (lines (take 0 s)) before 0
+lines-none : (before s : List ℕ) → Put before 0 (lines (take 0 s)) before 0
 unfolding lines
 lines-none before s = put-none before 0 (omega arith)
 
-pub lines-next : {before between after : List ℕ} {at next : ℕ} (s : List ℕ) (i : ℕ) → Put before 0 (lines (take i s)) between at
+lines-next : {before between after : List ℕ} {at next : ℕ} (s : List ℕ) (i : ℕ) → Put before 0 (lines (take i s)) between at
     → i < length s → Put between at (line (getD s i 0)) after next → Put before 0 (lines (take (i + 1) s)) after next
 lines-next s i p h q =
     rw (add-one i, take-suc s i 0 h, lines-append, lines-one) (put-then p q)
 
-pub lines-all : {before after : List ℕ} {next : ℕ} (s : List ℕ) (i : ℕ) → Put before 0 (lines (take i s)) after next
+lines-all : {before after : List ℕ} {next : ℕ} (s : List ℕ) (i : ℕ) → Put before 0 (lines (take i s)) after next
     → i ≤ length s → length s ≤ i → Put before 0 (lines s) after next
 lines-all s i p h l =
     let e : i ≡ length s = omega arith in
     let p′ = rw e at p in rw take-length at p′
+
+-- the lines of the first i sets are put, none of more than ten digits
+pub record LinesPut (s before : List ℕ) (i : ℕ) (after : List ℕ) (next : ℕ) : Type 0 where
+  pub few : i ≤ length s
+  pub size : length after ≡ length before
+  pub short : next ≤ 11 * i
+  pub put : Put before 0 (lines (take i s)) after next
+
+pub lines-begin : (s before : List ℕ) → LinesPut s before 0 before 0
+lines-begin s before = record { few = omega arith; size = refl; short = omega arith; put = lines-none before s }
+
+pub lines-go-on : {s before between after : List ℕ} {i at next : ℕ} → LinesPut s before i between at → i < length s
+    → getD s i 0 < 2 ^ 32 → length after ≡ length between → Put between at (line (getD s i 0)) after next
+    → LinesPut s before (i + 1) after next
+lines-go-on {s} {i = i} so-far less narrow same p =
+    record {
+      few = omega arith;
+      size = same ∙ so-far .size;
+      short = omega (arith, so-far .short, p .ends, line-short (getD s i 0) narrow);
+      put = lines-next s i (so-far .put) less p;
+    }
+
+pub lines-end : {s before after : List ℕ} {i next : ℕ} → LinesPut s before i after next → length s ≤ i
+    → Put before 0 (lines s) after next × (next ≤ 11 * length s)
+lines-end {s} {i = i} all through =
+    (lines-all s i (all .put) (all .few) through, omega (arith, all .few, all .short))

@@ -58,8 +58,8 @@ unfolding demandEach
 demandEach-ext p q zero number same = refl
 demandEach-ext p q (suc n) number same =
     rw (
-      demandEach-ext p q n number (λ k h. same k (record { first = h .first; last = omega arith })),
-      same (suc n) (record { first = omega arith; last = omega arith }),
+      demandEach-ext p q n number (λ k h. same k (omega arith)),
+      same (suc n) (omega arith),
     )
 
 pub words-judged : (t : List ℕ) (l : ℕ) (b gs : List Goal) (f : Forest) → WellFormed t → Derives t l b gs f
@@ -70,6 +70,6 @@ words-judged t l b gs f wf d =
     let few = wf .sized .counted .fewAutomata in
     demandEach-ext _ _ (automata t) 14
     (λ k own.
-    let eight : Numbered mostAutomata k = record { first = own .first; last = omega arith } in
+    let eight : Numbered mostAutomata k = omega arith in
     let every = every-member t k own few [] allAutomata f in
     rw (automata-used t l b gs f d k (own .first), ← sets-after-none t, every, all-automata k eight))

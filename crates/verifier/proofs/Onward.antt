@@ -140,7 +140,7 @@ module _ {t : List ℕ} {levels : ℕ} {branch : Branch} {g : Goal} {rec : List 
   node-credential =
       let there = applies-numbered t g _ _ _ (node-facts .own) in
       let few = n .table .sized .counted .fewCredentials in
-      record { first = there .first; last = omega arith }
+      omega arith
 
 module _ {t : List ℕ} {levels : ℕ} {branch : Branch} {g : Goal} {s : StateSets} {rec : List ℕ} {step : Step} {used every : ℕ}
     {deeper : Branch} {below : StateSets} {used₀ every₀ : ℕ} (n : Node t levels branch g rec step)
