@@ -2,22 +2,35 @@
 
 use std::ffi::OsString;
 use std::path::PathBuf;
+use std::str::FromStr;
 use std::time::Duration;
+
+use crate::climb::Climb;
 
 /// How the program is called.
 pub const USAGE: &str = "\
 usage: bench
        bench peers [--limit SECONDS] [--plot FILE]
        bench page [--limit SECONDS] [--plot FILE]
+       bench climb [--steps NUMBER] [--seed NUMBER] [--limit SECONDS]
 
 Without a word the calls of the library and of the reference are timed, and the
 lines are in columns. With `peers` several ways of listing are timed on the same
 wallets, and the tables are Markdown. With `page` both are done, all tables are
-Markdown, and a table about the machine comes first.
+Markdown, and a table about the machine comes first. With `climb` tables on which
+the library's list takes long are looked for, and the slowest ones printed.
 
---limit SECONDS   how long a way may take for one wallet, 1 if not given
---plot FILE       where a plot of the ways is written, as SVG";
+--limit SECONDS   how long a list may take for one wallet, 1 if not given
+--plot FILE       where a plot of the ways is written, as SVG
+--steps NUMBER    how many steps a climb has, 1000 if not given
+--seed NUMBER     where the climbs begin, 2015 if not given";
 
+/// The steps of a climb and its seed if none are given.
+const STEPS: usize = 1_000;
+const SEED: u64 = 2015;
+
+/// The limit if none is given.
+const LIMIT: Duration = Duration::from_secs(1);
 /// The longest limit, in seconds.
 const LONGEST: f64 = 3_600.0;
 
@@ -32,6 +45,8 @@ pub enum Task {
     Peers(Options),
     /// Both, as tables for the page.
     Page(Options),
+    /// Look for tables on which a list takes long.
+    Climb(Climb),
 }
 
 /// How the ways of listing are timed.
@@ -52,6 +67,7 @@ pub fn task(arguments: impl IntoIterator<Item = OsString>) -> Result<Task, Strin
     match first.to_str() {
         Some("peers") => Ok(Task::Peers(options(arguments)?)),
         Some("page") => Ok(Task::Page(options(arguments)?)),
+        Some("climb") => Ok(Task::Climb(climb(arguments)?)),
         Some("--help") => Ok(Task::Help),
         _ => Err(unknown(&first)),
     }
@@ -68,13 +84,41 @@ fn options(mut arguments: impl Iterator<Item = OsString>) -> Result<Options, Str
             _ => return Err(unknown(&argument)),
         };
         if again {
-            return Err(format!("{} is given twice", argument.display()));
+            return Err(twice(&argument));
         }
     }
     Ok(Options {
-        limit: limit_given.unwrap_or(Duration::from_secs(1)),
+        limit: limit_given.unwrap_or(LIMIT),
         plot,
     })
+}
+
+/// The climb that the rest of the arguments ask for, each at most once.
+fn climb(mut arguments: impl Iterator<Item = OsString>) -> Result<Climb, String> {
+    let (mut steps, mut seed, mut limit_given) = (None, None, None);
+    while let Some(argument) = arguments.next() {
+        let mut value = || arguments.next().ok_or(missing(&argument));
+        let again = match argument.to_str() {
+            Some("--steps") => steps.replace(number(&value()?)?).is_some(),
+            Some("--seed") => seed.replace(number(&value()?)?).is_some(),
+            Some("--limit") => limit_given.replace(limit(&value()?)?).is_some(),
+            _ => return Err(unknown(&argument)),
+        };
+        if again {
+            return Err(twice(&argument));
+        }
+    }
+    Ok(Climb {
+        steps: steps.unwrap_or(STEPS),
+        seed: seed.unwrap_or(SEED),
+        limit: limit_given.unwrap_or(LIMIT),
+    })
+}
+
+/// The number that some text is.
+fn number<Number: FromStr>(text: &OsString) -> Result<Number, String> {
+    let number = text.to_str().and_then(|text| text.parse().ok());
+    number.ok_or(format!("{} is no number", text.display()))
 }
 
 /// The time that a number of seconds is, if it is more than 0 and not too much.
@@ -90,13 +134,17 @@ fn unknown(argument: &OsString) -> String {
     format!("unknown argument {}", argument.display())
 }
 
+fn twice(argument: &OsString) -> String {
+    format!("{} is given twice", argument.display())
+}
+
 fn missing(argument: &OsString) -> String {
     format!("something is missing after {}", argument.display())
 }
 
 #[cfg(test)]
 mod tests {
-    use super::{task, Options, Task};
+    use super::{task, Climb, Options, Task};
     use std::ffi::OsString;
     use std::time::Duration;
 
@@ -111,6 +159,14 @@ mod tests {
         }
     }
 
+    fn climb(steps: usize, seed: u64, milliseconds: u64) -> Task {
+        Task::Climb(Climb {
+            steps,
+            seed,
+            limit: Duration::from_millis(milliseconds),
+        })
+    }
+
     #[test]
     fn right_arguments_are_tasks() {
         let right = [
@@ -119,6 +175,9 @@ mod tests {
             ("peers", Task::Peers(options(1_000, None))),
             ("peers --limit 2", Task::Peers(options(2_000, None))),
             ("page --limit 0.25", Task::Page(options(250, None))),
+            ("climb", climb(1_000, 2015, 1_000)),
+            ("climb --steps 0 --seed 7", climb(0, 7, 1_000)),
+            ("climb --limit 2 --steps 50", climb(50, 2015, 2_000)),
             (
                 "peers --plot a.svg",
                 Task::Peers(options(1_000, Some("a.svg"))),
@@ -144,6 +203,10 @@ mod tests {
             ("peers --plot", "something is missing after --plot"),
             ("peers --limit 1 --limit 1", "--limit is given twice"),
             ("page --plot a --plot b", "--plot is given twice"),
+            ("climb --plot a", "unknown argument --plot"),
+            ("climb --steps", "something is missing after --steps"),
+            ("climb --seed -1", "-1 is no number"),
+            ("climb --seed 1 --seed 1", "--seed is given twice"),
         ];
         for (words, message) in wrong {
             assert_eq!(asked(words), Err(message.to_string()), "{words}");

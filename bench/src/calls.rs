@@ -9,6 +9,7 @@ use reference::random::Random;
 use reference::records::{Head, Records};
 use reference::shop;
 
+use crate::listing::library_query;
 use crate::sheet::{Form, Sheet, Unit};
 use crate::timing::medians;
 
@@ -90,12 +91,7 @@ fn report_verdicts(sheet: &Sheet, what: &str, claims: &[Claim]) {
 
 /// Whether the library accepts a claim.
 fn library_verdict(claim: &Claim) -> bool {
-    let query = bwlchareg::Query {
-        principal: claim.query.principal,
-        owner: claim.query.owner,
-        name: claim.query.name,
-        depth: claim.query.depth,
-    };
+    let query = library_query(claim.query);
     bwlchareg::verify(&claim.table, query, &claim.record).is_ok()
 }
 

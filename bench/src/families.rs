@@ -1,15 +1,19 @@
 //! The tables on which the listing call is timed.
 
 use reference::generate::constraints::{self, Constraint};
+use reference::generate::shapes::{self, Way};
 use reference::generate::wallets::{self, Place, Plan, Wallet};
 use reference::generate::wide;
-use reference::query::{Query, DEEPEST};
+use reference::query::DEEPEST;
 use reference::random::Random;
-use reference::records::{CellRecord, CredentialRecord, Head, Records};
+use reference::records::{Head, Records};
 use reference::shop;
 
-/// Who is asked about in the tables that are made here.
-const MEMBER: u16 = 64;
+/// So many of the ways to the goal get a constraint where some get one.
+const CONSTRAINED: usize = Head::LIMITS.automata as usize;
+
+/// A table with what it is.
+pub type Named = (String, Wallet);
 
 /// The shop's table T or U, with query Q.
 pub fn shop(table: &[u16]) -> Wallet {
@@ -48,121 +52,189 @@ pub fn sixteen_levels() -> Wallet {
     }
 }
 
-/// The goal above so many layers of four roles, 1 to 4. The goal and every role
-/// but those of the last layer are chains of the next layer's four roles; the
-/// credentials of the last layer are there twice if there is room.
-fn layers(layers: u16) -> Wallet {
-    let role = |layer: u16, part: u16| 4 * layer + part;
-    let first_cell = |layer: u16| 4 * layer + 1;
-    let mut credentials = vec![[1, 1, 4, first_cell(0), 0, 0]];
-    let mut cells = Vec::new();
-    for layer in 1..=layers {
-        for part in 1..=4 {
-            let next = if part == 4 {
-                0
-            } else {
-                first_cell(layer - 1) + part
-            };
-            cells.push([1, role(layer, part), next]);
-            credentials.push(match layer == layers {
-                true => [1, role(layer, part), 1, MEMBER, 0, 0],
-                false => [1, role(layer, part), 4, first_cell(layer), 0, 0],
-            });
-        }
-    }
-    let leaves = credentials[credentials.len() - 4..].to_vec();
-    credentials.extend(leaves);
-    credentials.truncate(usize::from(Head::LIMITS.credentials));
-    from_records(credentials, cells)
+/// Tables of one shape in several sizes.
+pub fn growing() -> Vec<Named> {
+    let sixteen = "sixteen levels, one role four times".to_string();
+    let families = [
+        vec![(sixteen, sixteen_levels())],
+        layers(),
+        choices(),
+        ladders(),
+        constrained_ladders(),
+        rungs(),
+        containments(),
+        ways(),
+        constrained_ways(),
+    ];
+    families.concat()
 }
 
-/// A ladder of two credentials of kind 3 for each of 2 to 5 principals, who own
-/// two roles each, which are the two sides. Whoever is in a role on one side is
-/// in the role on the other side of each principal from whom the way leads
-/// there, and ways lead to the next principal and to the one after.
-pub fn ladder(principals: u16) -> Wallet {
-    const LEFT: u16 = 1;
-    const RIGHT: u16 = 2;
-    const WAY: u16 = 3;
-    let mut credentials = Vec::new();
-    for principal in 1..=principals {
-        credentials.push([principal, LEFT, 3, WAY, RIGHT, 0]);
-        credentials.push([principal, RIGHT, 3, WAY, LEFT, 0]);
-    }
-    for principal in 1..=principals {
-        let next = principal % principals + 1;
-        credentials.push([principal, WAY, 1, next, 0, 0]);
-        if principal < principals {
-            credentials.push([principal, WAY, 1, next % principals + 1, 0, 0]);
-        }
-    }
-    credentials.push([principals - 1, RIGHT, 1, MEMBER, 0, 0]);
-    from_records(credentials, Vec::new())
-}
-
-/// A chain of four roles, each of which 1 to 4 credentials define: one set for
-/// each choice of four.
-pub fn choices(each: u16) -> Wallet {
-    let cells = (1..=4).map(|part| [1, part + 1, if part == 4 { 0 } else { part + 1 }]);
-    let mut credentials = vec![[1, 1, 4, 1, 0, 0]];
-    for part in 1..=4 {
-        credentials.extend((0..each).map(|_| [1, part + 1, 1, MEMBER, 0, 0]));
-    }
-    from_records(credentials, cells.collect())
-}
-
-/// The ladder with an automaton on the credential that every derivation uses.
-fn constrained_ladder(constraint: &Constraint) -> Wallet {
-    let mut wallet = ladder(5);
-    let mut random = Random::new(0);
-    let number = constraints::add(&mut random, &mut wallet.records, constraint);
-    let last = wallet.records.credentials.last_mut();
-    last.expect("a credential")[5] = number.expect("there is room for an automaton");
-    wallet
-}
-
-/// Tables of one shape in several sizes, with what they are.
-pub fn growing() -> Vec<(String, Wallet)> {
-    let mut growing = vec![(
-        "sixteen levels, one role four times".to_string(),
-        sixteen_levels(),
-    )];
-    growing.extend((1..=4).map(|count| {
+/// Chains of chains.
+fn layers() -> Vec<Named> {
+    let layers = |count| {
         let what = format!("four different roles, layers {count}");
-        (what, layers(count))
-    }));
-    growing.extend((1..=4).map(|each| {
+        (what, shapes::layers(count))
+    };
+    (1..=4).map(layers).collect()
+}
+
+/// A chain of roles of which each has several definers. The chain's credential
+/// comes first, unless the name says otherwise.
+fn choices() -> Vec<Named> {
+    use shapes::Place::{First, Last, Middle};
+    let equal = |each: u16| {
         let what = format!("four roles, each defined {each} times");
-        (what, choices(each))
-    }));
-    growing.extend((2..=5).map(|principals| {
+        (what, shapes::choices(&[each; 4], First))
+    };
+    let others = [
+        ("roles defined 6, 6, 6 times", &[6, 6, 6][..], First),
+        ("roles defined 1, 3, 6, 9 times", &[1, 3, 6, 9], First),
+        ("roles defined 4, 5, 5, 5 times", &[4, 5, 5, 5], First),
+        ("the same, chain in the middle", &[4, 5, 5, 5], Middle),
+        ("the same, chain last", &[4, 5, 5, 5], Last),
+    ];
+    let others = others.map(|(what, definers, place)| {
+        let wallet = shapes::choices(definers, place);
+        (what.to_string(), wallet)
+    });
+    (1..=4).map(equal).chain(others).collect()
+}
+
+/// Ladders with two sides, the longest last.
+fn ladders() -> Vec<Named> {
+    let ladder = |principals: u16| {
         let what = format!("ladder of {} of kind 3", 2 * principals);
-        (what, ladder(principals))
-    }));
+        (what, shapes::ladder(principals))
+    };
+    (2..=5).map(ladder).collect()
+}
+
+/// The longest of them, with an automaton on the credential that every
+/// derivation uses.
+fn constrained_ladders() -> Vec<Named> {
     let constraints = [
         ("at most 5 roles", Constraint::at_most(5)),
         ("role 2.2 nowhere", Constraint::nowhere((2, 2))),
     ];
-    growing.extend(constraints.map(|(words, constraint)| {
-        let what = format!("the same, words: {words}");
-        (what, constrained_ladder(&constraint))
-    }));
-    growing
+    let constrained = |(words, constraint)| {
+        let mut wallet = shapes::ladder(5);
+        let last = wallet.records.credentials.len() - 1;
+        constrain(&mut wallet, &constraint, [last]);
+        (format!("the same, words: {words}"), wallet)
+    };
+    constraints.map(constrained).to_vec()
 }
 
-/// The table with these records, and the query for the member in role 1.1.
-fn from_records(credentials: Vec<CredentialRecord>, cells: Vec<CellRecord>) -> Wallet {
-    let records = Records {
-        credentials,
-        cells,
-        automata: Vec::new(),
-        edges: Vec::new(),
+/// Ladders with people to be tried as middles on every rung.
+fn rungs() -> Vec<Named> {
+    let sizes = [(5, 5), (10, 5), (15, 5), (10, 10)];
+    let ladder = |(rungs, people)| {
+        let what = format!("ladder of {rungs} of kind 3, people {people}");
+        (what, shapes::rungs(rungs, people))
     };
-    let query = Query {
-        principal: MEMBER,
-        owner: 1,
-        name: 1,
-        depth: DEEPEST,
+    sizes.map(ladder).to_vec()
+}
+
+/// Ladders of containments.
+fn containments() -> Vec<Named> {
+    let ladder = |roles: u16| {
+        let what = format!("ladder of {} of kind 2", 2 * roles);
+        (what, shapes::containments(roles))
     };
-    Wallet { records, query }
+    [3, 5, 7, 9].map(ladder).to_vec()
+}
+
+/// How many credentials each way to the goal has, with what these ways are. To
+/// leave the goal unproved, one of each way must go: for that the last have the
+/// most choices that twenty credentials allow, 1,458.
+const WAYS: [(&str, &[u16]); 4] = [
+    ("10 ways of 2", &[2; 10]),
+    ("6 ways of 3", &[3; 6]),
+    ("5 ways of 4", &[4; 5]),
+    ("6 ways of 3, 1 of 2", &[3, 3, 3, 3, 3, 3, 2]),
+];
+
+/// Ways to the goal that have no credential in common.
+fn ways() -> Vec<Named> {
+    let ways = |(words, each): (&str, _)| (words.to_string(), shapes::ways(each, Way::Chain));
+    WAYS.map(ways).to_vec()
+}
+
+/// Such ways, some of them with constraints.
+fn constrained_ways() -> Vec<Named> {
+    let barred = |(words, each): (&str, &[u16])| {
+        let some = each.len() / 2;
+        (format!("{words}, nothing on {some}"), barred(each))
+    };
+    let constrained = |(words, each): (&str, &[u16])| {
+        let some = each.len().min(CONSTRAINED);
+        let what = format!("{words}, constraints on {some}");
+        (what, constrained(each))
+    };
+    [WAYS.map(barred), WAYS.map(constrained)].concat()
+}
+
+/// Such ways, of which every other has a credential that accepts no word.
+fn barred(each: &[u16]) -> Wallet {
+    let mut wallet = shapes::ways(each, Way::Chain);
+    let nothing = Constraint::nothing(&mut Random::new(0));
+    let others: Vec<usize> = lasts(each).skip(1).step_by(2).collect();
+    constrain(&mut wallet, &nothing, others);
+    wallet
+}
+
+/// Such ways, of which each, while there are automata, shuts out the next: on
+/// its last credential stands that a role of the next is nowhere.
+fn constrained(each: &[u16]) -> Wallet {
+    let mut wallet = shapes::ways(each, Way::Chain);
+    let nexts = lasts(each).cycle().skip(1);
+    for (last, next) in lasts(each).zip(nexts).take(CONSTRAINED) {
+        let [owner, name, ..] = wallet.records.credentials[next];
+        let shut_out = Constraint::nowhere((owner, name));
+        constrain(&mut wallet, &shut_out, [last]);
+    }
+    wallet
+}
+
+/// The indices of the last credential of each way.
+fn lasts(each: &[u16]) -> impl Iterator<Item = usize> + Clone + '_ {
+    let ends = each.iter().scan(0, |end, each| {
+        *end += usize::from(*each);
+        Some(*end)
+    });
+    ends.map(|end| end - 1)
+}
+
+/// Adds an automaton to a table and attaches it to the credentials at these
+/// indices.
+fn constrain(
+    wallet: &mut Wallet,
+    constraint: &Constraint,
+    credentials: impl IntoIterator<Item = usize>,
+) {
+    let mut random = Random::new(0);
+    let number = constraints::add(&mut random, &mut wallet.records, constraint);
+    let number = number.expect("there is room for an automaton");
+    for index in credentials {
+        wallet.records.credentials[index][5] = number;
+    }
+}
+
+#[cfg(test)]
+mod tests {
+    use super::growing;
+    use std::collections::BTreeSet;
+
+    #[test]
+    fn the_tables_are_valid_and_have_different_names() {
+        let growing = growing();
+        for (what, wallet) in &growing {
+            let table = wallet.records.numbers();
+            let valid = reference::check_query(&table, wallet.query);
+            assert_eq!(valid, Ok(()), "{what}");
+        }
+        let names: BTreeSet<&String> = growing.iter().map(|(what, _)| what).collect();
+        assert_eq!(names.len(), growing.len());
+        assert!(names.iter().all(|name| name.len() <= 38));
+    }
 }

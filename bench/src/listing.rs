@@ -42,13 +42,7 @@ impl Listing {
 
     /// The library's answer, with its list in the first cells.
     pub fn library(&self, cells: &mut [u32]) -> Result<usize, bwlchareg::Refusal> {
-        let query = bwlchareg::Query {
-            principal: self.query.principal,
-            owner: self.query.owner,
-            name: self.query.name,
-            depth: self.query.depth,
-        };
-        bwlchareg::list(&self.table, query, cells)
+        bwlchareg::list(&self.table, library_query(self.query), cells)
     }
 
     /// The library's list, empty if there is no minimal set.
@@ -66,6 +60,16 @@ impl Listing {
         let (table, asked) = self.read();
         let sets = minimal_sets_within(Patience::new(steps), &table, asked)?;
         Some(sets.iter().map(|minimal| minimal.set).collect())
+    }
+}
+
+/// The reference's query as one for the library.
+pub fn library_query(query: Query) -> bwlchareg::Query {
+    bwlchareg::Query {
+        principal: query.principal,
+        owner: query.owner,
+        name: query.name,
+        depth: query.depth,
     }
 }
 

@@ -13,13 +13,15 @@
 //! With `peers` it times the library's list, the reference's, an enumeration of
 //! proofs and an answer set solver on the same wallets, and compares what they
 //! list. With `page` it does all this, and its tables are those of
-//! docs/PERFORMANCE.md.
+//! docs/PERFORMANCE.md. With `climb` it looks for tables on which one list of the
+//! library takes long.
 
 #![forbid(unsafe_code)]
 #![warn(missing_docs)]
 
 mod arguments;
 mod calls;
+mod climb;
 mod families;
 mod listing;
 mod lists;
@@ -65,6 +67,7 @@ fn done(task: Task) -> ExitCode {
         Task::Calls => time_calls(Form::Columns),
         Task::Peers(options) => return time_peers(&options, false),
         Task::Page(options) => return time_peers(&options, true),
+        Task::Climb(climb) => climb::run(climb),
     }
     ExitCode::SUCCESS
 }

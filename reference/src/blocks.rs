@@ -5,7 +5,8 @@
 //! record's length; then the table, the record, and zeros. The answer is a line:
 //! 0 with the count or the used set, or else a refusal's number and position;
 //! then every cell afterwards. The program fills its cells beforehand with one
-//! pattern.
+//! pattern. It lists four times, as users do and then with little room for what
+//! the search would keep, so a list has four lines that are the same.
 
 use crate::stored::{Case, Given};
 use crate::{list, verify, Refusal};
@@ -14,6 +15,8 @@ use crate::{list, verify, Refusal};
 const BLOCK: usize = 512;
 /// Cells that the program has.
 const MOST_CELLS: usize = 64;
+/// So often it lists.
+const LISTS: usize = 4;
 /// What they hold beforehand. No set is so great.
 const UNTOUCHED: u32 = 2863311530;
 
@@ -25,7 +28,14 @@ pub fn input(cases: &[Case]) -> Vec<u8> {
 
 /// What the program prints.
 pub fn output(cases: &[Case]) -> String {
-    cases.iter().map(line).collect()
+    cases.iter().map(lines).collect()
+}
+
+fn lines(case: &Case) -> String {
+    match case.given {
+        Given::Cells(_) => line(case).repeat(LISTS),
+        Given::Record(_) => line(case),
+    }
 }
 
 fn block(case: &Case) -> Vec<u16> {

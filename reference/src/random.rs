@@ -43,6 +43,12 @@ impl Random {
         &values[self.below(values.len())]
     }
 
+    /// The same, to be changed.
+    pub fn pick_mut<'a, Value>(&mut self, values: &'a mut [Value]) -> &'a mut Value {
+        let index = self.below(values.len());
+        &mut values[index]
+    }
+
     /// Puts some values into a random order, by exchanging each with itself
     /// or with one that comes before it.
     pub fn shuffle<Value>(&mut self, values: &mut [Value]) {

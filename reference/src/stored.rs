@@ -3,7 +3,8 @@
 //! They are for what neither a theorem nor the comparison shows: that the
 //! programs which the kit's interpreter and its compiler make of the proved code
 //! give the right answers. So they are few and small: all rows of the shop
-//! example, then every refusal, kind, label and size of buffer.
+//! example, then every refusal, kind, label and size of buffer. Each list is
+//! made with little room for cuts too, which no call of the bindings does.
 //!
 //! To add a case, add a line to [`cases`], at the end of its part, and make the
 //! program's two files anew, which the module [`blocks`](crate::blocks) lays

@@ -4,8 +4,10 @@
 use std::collections::BTreeSet;
 
 use reference::derivation::NODE;
+use reference::generate::families::{self, Family};
 use reference::generate::listings::{self, Listing};
-use reference::generate::wallets::{self, Place, Plan};
+use reference::generate::shapes::{self, Way};
+use reference::generate::wallets::{self, Place, Plan, Wallet};
 use reference::listing::minimal_sets_within;
 use reference::pairs::is_part;
 use reference::patience::Patience;
@@ -13,7 +15,7 @@ use reference::query::DEEPEST;
 use reference::random::Random;
 use reference::sorts::{Goal, Role};
 use reference::table::Table;
-use reference::{check, list, verify, Query, Refusal};
+use reference::{check, check_query, list, verify, Query, Refusal};
 
 const SEED: u64 = 7;
 /// A table is left aside if it takes more steps to find all records.
@@ -128,7 +130,7 @@ fn lists_are_what_the_definition_says() {
 fn each_planned(mut use_it: impl FnMut(&mut Random, Plan)) {
     let mut random = Random::new(SEED);
     for bearing in 1..=20 {
-        for place in [Place::Low, Place::High, Place::Anywhere] {
+        for place in Place::ALL {
             let others = random.between(0, 20 - bearing);
             let plan = Plan {
                 bearing,
@@ -213,4 +215,94 @@ fn the_same_seed_gives_the_same_listings() {
             .collect::<Vec<_>>()
     };
     assert_eq!(drawn(), drawn());
+}
+
+/// The list of a wallet.
+fn list_of(wallet: &Wallet) -> Vec<u32> {
+    let list = listed(&wallet.records.numbers(), wallet.query);
+    list.expect("a list")
+}
+
+#[test]
+fn ladders_have_a_set_for_each_way_that_goes_up() {
+    let counts = [2, 3, 4].map(|principals| list_of(&shapes::ladder(principals)).len());
+    assert_eq!(counts, [1, 1, 3]);
+    let counts = [3, 4, 5, 9].map(|roles| list_of(&shapes::containments(roles)).len());
+    assert_eq!(counts, [2, 2, 4, 22]);
+}
+
+#[test]
+fn rungs_need_all_credentials_but_those_of_other_people() {
+    for (rungs, people) in [(1, 2), (4, 5), (10, 5), (15, 5)] {
+        let wallet = shapes::rungs(rungs, people);
+        let all = wallet.records.head().credentials;
+        assert_eq!(all, rungs + people);
+        let others = ((1 << (people - 2)) - 1) << (rungs + 1);
+        assert_eq!(list_of(&wallet), [((1 << all) - 1) & !others]);
+    }
+}
+
+#[test]
+fn choices_have_a_set_for_each_choice() {
+    for definers in [&[1, 1][..], &[5, 2], &[1, 2, 3], &[6, 6, 6], &[4, 5, 5, 5]] {
+        for place in shapes::Place::ALL {
+            let wallet = shapes::choices(definers, place);
+            let count: u16 = definers.iter().product();
+            assert_eq!(list_of(&wallet).len(), usize::from(count));
+            let chain = match place {
+                shapes::Place::First => 0,
+                shapes::Place::Middle => definers.iter().sum::<u16>() / 2,
+                shapes::Place::Last => definers.iter().sum(),
+            };
+            assert_eq!(wallet.records.credentials[usize::from(chain)][2], 4);
+        }
+    }
+}
+
+#[test]
+fn layers_have_the_sets_of_the_last_one() {
+    let counts = [1, 2, 3, 4].map(|layers| list_of(&shapes::layers(layers)).len());
+    assert_eq!(counts, [16, 16, 16, 8]);
+}
+
+#[test]
+fn ways_are_the_sets_and_have_nothing_in_common() {
+    let equal = [(1, 1), (20, 1), (10, 2), (6, 3), (5, 4), (4, 5), (2, 8)];
+    let mut ways = equal.map(|(ways, each)| vec![each; ways]).to_vec();
+    ways.extend([vec![3, 3, 3, 3, 3, 3, 2], vec![1, 5, 2, 7]]);
+    for (ways, way) in ways.iter().flat_map(|ways| Way::ALL.map(|way| (ways, way))) {
+        let mut first = 0;
+        let expected = ways.iter().map(|each| {
+            first += each;
+            ((1 << each) - 1) << (first - each)
+        });
+        let sets = list_of(&shapes::ways(ways, way));
+        assert_eq!(sets, expected.collect::<Vec<u32>>());
+    }
+}
+
+#[test]
+fn wallets_of_a_family_are_valid_and_no_larger_than_asked_for() {
+    let mut random = Random::new(SEED);
+    for family in Family::ALL {
+        for most in [8, 13, 20] {
+            for _ in 0..30 {
+                let wallet = families::made_up(&mut random, family, most);
+                let valid = check_query(&wallet.records.numbers(), wallet.query);
+                assert_eq!(valid, Ok(()), "{wallet:?}");
+                assert!(wallet.records.head().credentials <= most, "{wallet:?}");
+            }
+        }
+    }
+}
+
+#[test]
+fn families_with_constraints_have_some() {
+    let mut random = Random::new(SEED);
+    for family in Family::ALL {
+        let wallet = families::made_up(&mut random, family, 20);
+        let mut credentials = wallet.records.credentials.iter();
+        let some = matches!(family, Family::Barred | Family::Constrained);
+        assert_eq!(credentials.any(|credential| credential[5] != 0), some);
+    }
 }

@@ -3,6 +3,7 @@
 
 use std::time::Duration;
 
+use reference::generate::shapes;
 use reference::records::{CredentialRecord, Records};
 use reference::shop::{Q, T, U};
 use reference::Query;
@@ -10,7 +11,6 @@ use reference::Query;
 use super::samples;
 use super::solver::Solver;
 use super::Unfinished;
-use crate::families;
 use crate::listing::Listing;
 
 const LONG: Duration = Duration::from_secs(60);
@@ -120,7 +120,7 @@ fn generated_listings() {
 #[test]
 fn a_list_that_takes_too_long_is_given_up() {
     let Some(solver) = solver() else { return };
-    let listing = Listing::of(&families::ladder(5));
+    let listing = Listing::of(&shapes::ladder(5));
     let list = solver.minimal_sets(&listing, Duration::from_millis(1));
     assert_eq!(list, Err(Unfinished::OutOfTime));
 }

@@ -128,6 +128,8 @@ impl Group {
 pub struct Family {
     /// What it is.
     pub name: String,
+    /// How many minimal sets there are.
+    pub sets: usize,
     /// The times.
     pub times: Times,
 }
@@ -142,8 +144,9 @@ pub fn compare(limit: Duration) -> Comparison {
     let groups = wallets::sizes().map(|size| trial.group(size)).collect();
     let families = families::growing();
     let families = families.into_iter().map(|(name, wallet)| {
-        let times = trial.times(&name, &Listing::of(&wallet));
-        Family { name, times }
+        let (times, sets) = trial.times(&name, &Listing::of(&wallet));
+        eprintln!("{name}: done");
+        Family { name, sets, times }
     });
     Comparison {
         limit,
@@ -182,19 +185,18 @@ impl Trial {
         };
         for (index, listing) in wallets::of_size(size).iter().enumerate() {
             let name = format!("wallet {index} of {size} credentials");
-            group.times.push(self.times(&name, listing));
-            group
-                .sets
-                .push(listing.library_list().map_or(0, |list| list.len()));
+            let (times, sets) = self.times(&name, listing);
+            group.times.push(times);
+            group.sets.push(sets);
         }
         eprintln!("wallets of {size} credentials: done");
         group
     }
 
     /// Times every way on a listing, and says where its list differs from the
-    /// library's. The ways take turns, so that whatever slows the machine slows
-    /// them all.
-    fn times(&mut self, name: &str, listing: &Listing) -> Times {
+    /// library's; and tells how many sets there are. The ways take turns, so that
+    /// whatever slows the machine slows them all.
+    fn times(&mut self, name: &str, listing: &Listing) -> (Times, usize) {
         let expected = listing.library_list();
         let mut times = Vec::new();
         for way in &self.ways {
@@ -206,7 +208,7 @@ impl Trial {
             let time = timed.ok().map(|(_, time)| time);
             times.push(time.filter(|time| *time <= self.limit.as_nanos() as f64));
         }
-        times
+        (times, expected.map_or(0, |list| list.len()))
     }
 
     /// How long the solver's programs take with nothing to do.
@@ -273,14 +275,15 @@ mod tests {
             faults: 0,
         };
         let shop = Listing::of(&families::shop(&shop::T));
-        let times = trial.times("the shop", &shop);
+        let (times, sets) = trial.times("the shop", &shop);
         assert!(times.len() == 3 && times.iter().all(Option::is_some));
+        assert_eq!(sets, 2);
         let sixteen = Listing::of(&families::sixteen_levels());
-        let times = trial.times("sixteen levels", &sixteen);
+        let (times, sets) = trial.times("sixteen levels", &sixteen);
         assert!(times.len() == 3 && times[2].is_none());
-        assert_eq!(trial.faults, 0);
+        assert_eq!((trial.faults, sets), (0, 1));
         trial.limit = Duration::from_nanos(1);
-        let times = trial.times("the shop", &shop);
+        let (times, _) = trial.times("the shop", &shop);
         assert_eq!(times[..2], [None, None]);
     }
 }

@@ -210,6 +210,7 @@ mod tests {
     use crate::families;
     use crate::listing::Listing;
     use crate::peers::samples;
+    use reference::generate::shapes::{self, Place};
     use reference::shop;
     use std::time::Duration;
 
@@ -238,7 +239,8 @@ mod tests {
 
     #[test]
     fn every_choice_is_a_proof() {
-        let listing = Listing::of(&families::choices(2));
+        let wallet = shapes::choices(&[2; 4], Place::First);
+        let listing = Listing::of(&wallet);
         assert_eq!(records(&listing).len(), 16);
     }
 

@@ -6,9 +6,10 @@ use reference::random::Random;
 
 use crate::listing::Listing;
 
-/// No more credentials than these: with many more, some tables have too many
-/// derivations to go through.
+/// No more credentials and part cells than these: with many more, some tables
+/// have too many derivations to go through.
 const CREDENTIALS: usize = 10;
+const CELLS: usize = 8;
 
 /// So many made-up listings that both sides accept, the same in every run:
 /// grown wallets, tables with cycles, and queries of which nothing is known.
@@ -19,7 +20,8 @@ pub fn listings(count: usize) -> Vec<Listing> {
         let made_up = made_up(&mut random);
         let (table, query) = (made_up.table, made_up.query);
         let is_valid = reference::check_query(&table, query).is_ok();
-        if is_valid && layout::counts(&table)[0] <= CREDENTIALS {
+        let [credentials, cells, ..] = layout::counts(&table);
+        if is_valid && credentials <= CREDENTIALS && cells <= CELLS {
             listings.push(Listing { table, query });
         }
     }

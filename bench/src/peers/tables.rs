@@ -111,11 +111,11 @@ fn cell(times: &[Option<f64>], limit: Duration) -> String {
 
 /// A table with a line for each table of some shape.
 fn families(comparison: &Comparison) -> String {
-    let mut table = head(&[&["table"], &comparison.names[..]].concat());
+    let mut table = head(&[&["table", "sets"], &comparison.names[..]].concat());
     for family in &comparison.families {
+        let mut cells = vec![family.name.clone(), family.sets.to_string()];
         let times = family.times.iter();
-        let times = times.map(|time| within(*time, comparison.limit));
-        let cells: Vec<String> = [family.name.clone()].into_iter().chain(times).collect();
+        cells.extend(times.map(|time| within(*time, comparison.limit)));
         table += &line(&cells);
     }
     table
@@ -194,6 +194,7 @@ mod tests {
         };
         let family = Family {
             name: "a ladder".into(),
+            sets: 7,
             times: vec![Some(31e6), None],
         };
         Comparison {
@@ -227,9 +228,9 @@ Median and worst by the number of credentials:
 
 Tables of one shape, one of each:
 
-| table | library | other |
-|---|---|---|
-| a ladder | 31 ms | > 0.5 s |
+| table | sets | library | other |
+|---|---|---|---|
+| a ladder | 7 | 31 ms | > 0.5 s |
 ";
         assert_eq!(all(&comparison()), expected);
     }

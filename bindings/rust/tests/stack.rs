@@ -1,13 +1,16 @@
-//! The calls need little stack: a record and a list of sixteen levels, the
-//! list over twenty credentials, run in threads whose stacks are small.
+//! The calls need little stack: records and lists of sixteen levels, and lists
+//! over twenty credentials, run in threads whose stacks are small.
 
 use std::thread;
 
-use bwlchareg::{list, verify, Query};
+use bwlchareg::{list, verify, Query, Refusal};
 
-/// A stack that every call below must do with, in bytes; Rust gives a thread
+/// The stacks that the calls below must do with, in bytes; Rust gives a thread
 /// 2 MiB where nobody says otherwise.
-const STACK: usize = 32 * 1024;
+const VERIFYING: usize = 32 * 1024;
+const LISTING: usize = 64 * 1024;
+/// Cells for the longest list below.
+const CELLS: usize = 512;
 
 /// Principal 1 in role 1.1, within sixteen levels.
 const DEEP: Query = Query {
@@ -17,38 +20,159 @@ const DEEP: Query = Query {
     depth: 16,
 };
 
+/// The table with these credentials and cells, and without automata.
+fn table(credentials: &[[u16; 6]], cells: &[[u16; 3]]) -> Vec<u16> {
+    let counts = [credentials.len() as u16, cells.len() as u16, 0, 0];
+    [&counts, &credentials.concat()[..], &cells.concat()].concat()
+}
+
 /// Roles 1.1 to 1.16, each but the last containing the next, and five equal
 /// credentials that put principal 1 into the last: twenty in all.
 fn deepest() -> Vec<u16> {
-    let mut table = vec![20, 0, 0, 0];
-    table.extend((1..16).flat_map(|level| [1, level, 2, 1, level + 1, 0]));
-    table.extend([1, 16, 1, 1, 0, 0].repeat(5));
+    let mut credentials: Vec<[u16; 6]> = (1..16)
+        .map(|level| [1, level, 2, 1, level + 1, 0])
+        .collect();
+    credentials.extend([[1, 16, 1, 1, 0, 0]; 5]);
+    table(&credentials, &[])
+}
+
+/// The same with eight automata, on the first eight credentials, each of which
+/// accepts every word.
+fn constrained() -> Vec<u16> {
+    let mut table = deepest();
+    table[2..4].copy_from_slice(&[8, 8]);
+    for automaton in 1..=8 {
+        table[6 * usize::from(automaton) + 3] = automaton;
+    }
+    table.extend([1, 1].repeat(8));
+    table.extend((1..=8).flat_map(|automaton| [automaton, 0, 2, 0, 0, 0]));
     table
 }
 
-/// The answer of a call that is made in a thread with a small stack. A stack
-/// that does not suffice ends the whole test program.
-fn in_a_small_stack<Answer: Send + 'static>(
+/// Roles 1.1 to 1.16, each but the last a chain of four times the next, and
+/// five equal credentials that put principal 1 into the last.
+fn chained() -> Vec<u16> {
+    let mut credentials: Vec<[u16; 6]> = (1..16)
+        .map(|level| [1, level, 4, 4 * level - 3, 0, 0])
+        .collect();
+    credentials.extend([[1, 16, 1, 1, 0, 0]; 5]);
+    let chain = |level: u16| {
+        let first = 4 * level - 3;
+        [first + 1, first + 2, first + 3, 0].map(|next| [1, level + 1, next])
+    };
+    let cells: Vec<[u16; 3]> = (1..16).flat_map(chain).collect();
+    table(&credentials, &cells)
+}
+
+/// Roles 1.1 to 1.16, each but the last linked by the next to the next, and
+/// five equal credentials that put principal 1 into the last.
+fn linked() -> Vec<u16> {
+    let mut credentials: Vec<[u16; 6]> = (1..16)
+        .map(|level| [1, level, 3, level + 1, level + 1, 0])
+        .collect();
+    credentials.extend([[1, 16, 1, 1, 0, 0]; 5]);
+    table(&credentials, &[])
+}
+
+/// A ladder of kind 3: each of five principals owns two roles, each of which is
+/// linked to the other one's of the next two principals.
+fn ladder() -> Vec<u16> {
+    let mut credentials = Vec::new();
+    for principal in 1..=5 {
+        let next = principal % 5 + 1;
+        credentials.push([principal, 1, 3, 3, 2, 0]);
+        credentials.push([principal, 2, 3, 3, 1, 0]);
+        credentials.push([principal, 3, 1, next, 0, 0]);
+        credentials.push([principal, 3, 1, next % 5 + 1, 0, 0]);
+    }
+    // The last way makes room for the member.
+    credentials[19] = [4, 2, 1, 1, 0, 0];
+    table(&credentials, &[])
+}
+
+/// Four roles with 4, 5, 5 and 5 definers, and a chain of them for role 1.1.
+fn choices() -> Vec<u16> {
+    let mut credentials = Vec::new();
+    for (name, definers) in [(2, 4), (3, 5), (4, 5), (5, 5)] {
+        credentials.extend(vec![[1, name, 1, 1, 0, 0]; definers]);
+    }
+    credentials.push([1, 1, 4, 1, 0, 0]);
+    table(&credentials, &[[1, 2, 2], [1, 3, 3], [1, 4, 4], [1, 5, 0]])
+}
+
+/// So many ways to role 1.1, each a line of so many credentials that no other
+/// way has.
+fn ways(ways: u16, each: u16) -> Vec<u16> {
+    let mut credentials = Vec::new();
+    for way in 0..ways {
+        let mut role = 1;
+        for next in (way * (each - 1) + 2..).take(usize::from(each) - 1) {
+            credentials.push([1, role, 2, 1, next, 0]);
+            role = next;
+        }
+        credentials.push([1, role, 1, 1, 0, 0]);
+    }
+    table(&credentials, &[])
+}
+
+/// The answer of a call that is made in a thread with a stack of so many bytes.
+/// A stack that does not suffice ends the whole test program.
+fn in_a_stack_of<Answer: Send + 'static>(
+    bytes: usize,
     call: impl FnOnce() -> Answer + Send + 'static,
 ) -> Answer {
-    let thread = thread::Builder::new().stack_size(STACK).spawn(call);
+    let thread = thread::Builder::new().stack_size(bytes).spawn(call);
     thread.expect("a thread").join().expect("an answer")
+}
+
+/// What the listing call answers, and its cells.
+fn listed(table: &[u16]) -> (Result<usize, Refusal>, Vec<u32>) {
+    let mut cells = vec![0; CELLS];
+    (list(table, DEEP, &mut cells), cells)
+}
+
+/// Tests that a list is the same with a small stack, and has so many sets.
+#[track_caller]
+fn needs_little_stack(table: Vec<u16>, sets: usize) {
+    let expected = listed(&table);
+    assert_eq!(expected.0, Ok(sets));
+    assert_eq!(in_a_stack_of(LISTING, move || listed(&table)), expected);
 }
 
 #[test]
 fn a_record_of_sixteen_levels_needs_little_stack() {
     let record: Vec<u16> = (1..=16).flat_map(|credential| [credential, 0]).collect();
-    let used = in_a_small_stack(move || verify(&deepest(), DEEP, &record));
-    assert_eq!(used, Ok(0xffff));
+    let [free, constrained] = [deepest(), constrained()].map(|table| {
+        let record = record.clone();
+        in_a_stack_of(VERIFYING, move || verify(&table, DEEP, &record))
+    });
+    assert_eq!((free, constrained), (Ok(0xffff), Ok(0xffff)));
 }
 
 #[test]
 fn a_list_of_sixteen_levels_and_twenty_credentials_needs_little_stack() {
-    let (count, cells) = in_a_small_stack(|| {
-        let mut cells = [0; 5];
-        (list(&deepest(), DEEP, &mut cells), cells)
-    });
+    let (count, cells) = in_a_stack_of(LISTING, || listed(&deepest()));
     assert_eq!(count, Ok(5));
     let members = [1 << 15, 1 << 16, 1 << 17, 1 << 18, 1 << 19];
-    assert_eq!(cells, members.map(|member: u32| 0x7fff | member));
+    assert_eq!(cells[..5], members.map(|member: u32| 0x7fff | member));
+}
+
+#[test]
+fn lists_of_sixteen_levels_need_little_stack() {
+    for table in [deepest(), constrained(), chained(), linked()] {
+        needs_little_stack(table, 5);
+    }
+}
+
+#[test]
+fn lists_of_many_ways_need_little_stack() {
+    needs_little_stack(ladder(), 7);
+    needs_little_stack(choices(), 500);
+}
+
+#[test]
+fn lists_of_ways_that_have_nothing_in_common_need_little_stack() {
+    for (number, each) in [(20, 1), (10, 2), (6, 3), (5, 4)] {
+        needs_little_stack(ways(number, each), number.into());
+    }
 }

@@ -2,7 +2,7 @@
 -- edges.
 use mathlib.Core.Path.{_≡_, refl, sym, ap, _∙_}
 use mathlib.Core.List.{List}
-use mathlib.Core.Bool.{Bool}
+use mathlib.Core.Bool.{Bool, true, false}
 use Prim.Native.Nat.{ℕ, suc, _+_, _-_, _^_, _≤_, _<_}
 use native.Mathlib.Omega.{arith}
 use native.Mathlib.Numerals.{add-one, sub-one}
@@ -99,6 +99,15 @@ module _ (from : StateSets) (r : Role) (e : Edge) (next : StateSets) where
       edge-apart (λ s. getD (s .sets) j 0)
       ∙ pick-same (leadsOwn from r e) (getD-set-other (next .sets) _ j _ 0 (λ same. other (omega arith)))
 
+  edge-leads : {w d x : ℕ} → leadsOwn from r e ≡ true → w ≡ e .automaton → d ≡ e .to
+      → x ≡ bitOr (getD (next .sets) (w - 1) 0) (2 ^ d) → record { sets = set (next .sets) (w - 1) x } ≡ withEdge from r e next
+  unfolding withEdge pick
+  edge-leads on own to made = rw (made, own, to, on)
+
+  edge-stays : leadsOwn from r e ≡ false → next ≡ withEdge from r e next
+  unfolding withEdge pick
+  edge-stays off = rw off
+
 leads-alike : (r : Role) (e : Edge) {k l x y : ℕ} → k ≡ l → x ≡ y → leads k r x e ≡ leads l r y e
 leads-alike r e h i = cc
 
@@ -130,12 +139,27 @@ module _ (t : List ℕ) (r : Role) (from : StateSets) (n : ℕ) (next : StateSet
   next-here j h (no other) =
       edge-other from r (nextEdge t n) next j (there .first) other ∙ so-far .here j h ∙ sym (others-stay t r from n j other)
 
-  pub moving-more : Moving t r from (n + 1) (withEdge from r (nextEdge t n) next)
+  moving-more : Moving t r from (n + 1) (withEdge from r (nextEdge t n) next)
   moving-more =
       record {
         size = edge-sizes from r (nextEdge t n) next ∙ so-far .size;
         here = λ j h. next-here j h (ℕ-discrete (suc j) (nextEdge t n .automaton));
       }
+
+-- the code has read that edge as e, and tested whether it leads on
+module _ (t : List ℕ) (r : Role) (from : StateSets) (n : ℕ) (next : StateSets) (so-far : Moving t r from n next) {e : Edge}
+    (read : e ≡ nextEdge t n) (there : Numbered mostAutomata (e .automaton)) {on : Bool} (test : on ≡ leadsOwn from r e) where
+  moving-read : Moving t r from (n + 1) (withEdge from r e next)
+  moving-read = rw read (moving-more t r from n next so-far (rw read at there))
+
+  -- it does: w is its automaton's number, d its `to` state, and x the automaton's set with that state
+  pub moving-on : {w d x : ℕ} → on ≡ true → w ≡ e .automaton → d ≡ e .to → x ≡ bitOr (getD (next .sets) (w - 1) 0) (2 ^ d)
+      → Moving t r from (n + 1) (record { sets = set (next .sets) (w - 1) x })
+  moving-on taken own to made = rw (edge-leads from r e next (sym test ∙ taken) own to made) moving-read
+
+  -- it does not, and the sets stay as they are
+  pub moving-past : on ≡ false → Moving t r from (n + 1) next
+  moving-past left = rw (← edge-stays from r e next (sym test ∙ left)) at moving-read
 
 pub moving-all : (t : List ℕ) (r : Role) (from : StateSets) (n : ℕ) (next : StateSets) → n ≡ edges t → Moving t r from n next
     → next ≡ movedSets t r from

@@ -15,7 +15,7 @@ ghost use Rattle.table.specs.Limits.{lastState, mostAutomata};
 ghost use Rattle.table.specs.Layout.{Numbered};
 ghost use Rattle.table.specs.Holding.{WellFormed};
 ghost use Rattle.automata.specs.Automata;
-ghost use Rattle.automata.specs.Together.{acceptingSet, movedSets, startingSets, withEdge};
+ghost use Rattle.automata.specs.Together.{acceptingSet, movedSets, setFor, startingSets};
 
 // As many as a table can have automata.
 pub const AUTOMATA: usize = 8;
@@ -47,16 +47,18 @@ impl StateSets {
         requires { ⌜ WellFormed (now table) ⌝ }
         ensures { λ r. ⌜ r ≡ movedSets (now (table .entry)) role self ⌝ }
     {
-        let mut next = StateSets {
-            sets: [0; AUTOMATA],
-        };
+        let mut sets = [0; AUTOMATA];
         let e = layout::edges(table);
         let mut k = 0;
         while k < e {
             k += 1;
-            next = next.with_edge(self, layout::edge(table, k), role);
+            let edge = layout::edge(table, k);
+            if self.leads(edge, role) {
+                let at = layout::wide(edge.automaton) - 1;
+                sets[at] = sets::with_16(sets[at], layout::wide(edge.to));
+            }
         }
-        next
+        StateSets { sets: sets }
     }
 
     // The automata that accept where their sets are now, as a set: automaton k counts 2^(k-1).
@@ -77,22 +79,14 @@ impl StateSets {
         mask
     }
 
-    // These sets with the edge's `to` state, where the edge leads on from the sets `from` along the role.
-    fn with_edge(self, from: StateSets, edge: Edge, role: Role) -> StateSets
+    // Whether the edge leads its automaton on from these sets along the role.
+    fn leads(self, edge: Edge, role: Role) -> bool
         requires { ⌜ Numbered mostAutomata (edge .automaton) ⌝ }
-        requires { ⌜ (edge .from ≤ lastState) × (edge .to ≤ lastState) ⌝ }
-        ensures { λ r. ⌜ r ≡ withEdge from role edge self ⌝ }
+        requires { ⌜ edge .from ≤ lastState ⌝ }
+        ensures { λ r. ⌜ r ≡ Automata.leads (edge .automaton) role (setFor self (edge .automaton)) edge ⌝ }
     {
         let at = layout::wide(edge.automaton) - 1;
-        if !sets::has_16(from.sets[at], layout::wide(edge.from)) {
-            return self;
-        }
-        if !edge_matches(edge, role) {
-            return self;
-        }
-        let mut sets = self.sets;
-        sets[at] = sets::with_16(sets[at], layout::wide(edge.to));
-        StateSets { sets: sets }
+        sets::has_16(self.sets[at], layout::wide(edge.from)) && edge_matches(edge, role)
     }
 }
 

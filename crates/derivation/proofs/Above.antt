@@ -16,7 +16,7 @@ use Rattle.table.specs.Layout.{sameRole}
 use Rattle.table.specs.Checks.{Valid, queryOutcome, within}
 use Rattle.table.specs.declared.Query.{Query}
 use Rattle.table.specs.declared.Goal.{Goal}
-use Rattle.sets.proofs.Tests.{and-false, and-second}
+use Rattle.sets.proofs.Tests.{and-false, and-first, and-second}
 use Rattle.table.proofs.Stages.{demand-true, then-second}
 use Rattle.derivation.specs.Rules.{fresh}
 use Rattle.derivation.specs.Held.{Room, above, noGoal, upTo}
@@ -58,6 +58,14 @@ fresh-not goals g i (suc n) h same =
     (eq-or-lt-of-le h)
 
 -- a branch has room for as many levels as a valid query allows
+pub depth-some : (q : Query) → Valid q → 1 ≤ q .depth
+unfolding queryOutcome within
+depth-some q valid =
+    let e1 = then-second _ _ 0 valid in
+    let e2 = then-second _ _ 0 e1 in
+    let e3 = then-second _ _ 0 e2 in
+    leb-true _ _ (and-first _ _ (demand-true _ 8 4 0 e3))
+
 pub depth-fits : (q : Query) → Valid q → q .depth ≤ mostDepth
 unfolding queryOutcome within
 depth-fits q valid =

@@ -22,12 +22,13 @@ use Rattle.verifier.specs.DemandTwo.{Refuses}
 use Rattle.derivation.proofs.Bounding.{none-excluded}
 use Rattle.derivation.proofs.Above.{depth-fits}
 use Rattle.verifier.proofs.DemandTwo.{demand-two, every-refusal}
-use Rattle.listing.specs.Minimal.{afterwards, bufferAfter, counted, laid, listing, minimalSets}
+use Rattle.sorted.specs.Sorted.{laid}
+use Rattle.listing.specs.Minimal.{afterwards, bufferAfter, counted, listing, minimalSets}
 use Rattle.listing.specs.Demands.{Admitted, DemandOne, DemandThree, Demands, Listed, MinimalSets, OneOf, Used, UsedBySlice}
 use Rattle.listing.specs.Demands.OneOf.{first, second}
-use Rattle.listing.proofs.Ascending.{one-place}
+use Rattle.sorted.proofs.Ascending.{one-place}
 use Rattle.listing.proofs.Minimals.{admitted-includes, minimal-sets, one-minimal-list}
-use Rattle.listing.proofs.Lists.{laid-at, laid-beyond, laid-fills, laid-length, laid-none}
+use Rattle.sorted.proofs.Lists.{laid-at, laid-beyond, laid-fills, laid-length, laid-none}
 use Rattle.listing.proofs.Counting.{accepted-counted, more-counted, none-counted, otherwise-counted}
 use Rattle.listing.proofs.Whole.{buffer-accepted, buffer-refused}
 use Rattle.listing.proofs.Stopping.{passes-or-stops, request-stage, table-stage}

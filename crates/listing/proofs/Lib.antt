@@ -1,13 +1,9 @@
 -- Laws that belong to no one function; crates above cite those marked `pub mod`.
-pub mod Lists
-pub mod Ascending
-pub mod Blocks
-pub mod Minimality
-pub mod Finding
-pub mod Halving
-pub mod Whole
-pub mod Minimals
+pub mod Regions
+pub mod Growing
 pub mod Counting
 pub mod Stopping
+pub mod Whole
+pub mod Minimals
 pub mod Demanding
 pub mod Shop

@@ -12,44 +12,40 @@ use Rattle.table.specs.declared.Query.{Query}
 use Rattle.sets.specs.Sets.{part}
 use Rattle.sets.proofs.Members.{part-le, part-trans}
 use Rattle.verifier.proofs.DemandTwo.{demand-two}
-use Rattle.listing.specs.Minimal.{admits, isMinimal, minimalSets}
+use Rattle.cuts.proofs.Least.{least-least, least-passes, least-shown, least-within}
+use Rattle.sorted.proofs.Ascending.{one-list, those-numbers}
+use Rattle.search.specs.Admits.{admits}
+use Rattle.search.proofs.Admitting.{accepted-admits, accepted-fits, admits-accepted}
+use Rattle.listing.specs.Minimal.{isMinimal, minimalSets}
 use Rattle.listing.specs.Demands.{Admitted, Minimal, MinimalSets, Used}
-use Rattle.search.proofs.Admitting.{accepted-fits, accepted-provable, provable-accepted}
-use Rattle.listing.proofs.Minimality.{minimal-accepted, minimal-least, minimal-shown, minimal-within}
-use Rattle.listing.proofs.Ascending.{one-list, those-numbers}
 
 -- between the Boolean and the records that the verifier accepts
 module _ (t : List ℕ) (wf : WellFormed t) (q : Query) (valid : Valid q) where
-  -- a used set admits: its record complies with all of its constraints
   pub used-admits : (S : ℕ) → Used t q S → admits t q S ≡ true
-  unfolding admits
-  used-admits S (rec, e) = accepted-provable t wf q rec S (demand-two t q rec S (wf .accepted) valid .0 e)
+  used-admits S (rec, e) = accepted-admits t wf q rec S (demand-two t q rec S (wf .accepted) valid .0 e)
 
   pub admits-admitted : (S : ℕ) → admits t q S ≡ true → Admitted t q S
-  unfolding admits
   admits-admitted S there =
-      let (rec, T, a, within) = provable-accepted t wf q S there in
+      let (rec, T, a, within) = admits-accepted t wf q S there in
       (T, (rec, demand-two t q rec T (wf .accepted) valid .1 a), within)
 
   pub used-fits : (S : ℕ) → Used t q S → S < 2 ^ credentials t
   used-fits S (rec, e) = accepted-fits t q rec S (demand-two t q rec S (wf .accepted) valid .0 e)
 
-  pub minimal-used : (S : ℕ) → isMinimal t q S ≡ true → Used t q S
-  minimal-used S h =
-      let (rec, a) = minimal-accepted t wf q S h in
-      (rec, demand-two t q rec S (wf .accepted) valid .1 a)
-
+  -- the used set within a minimal set is the set itself
   pub is-minimal-set : (S : ℕ) → isMinimal t q S ≡ true → Minimal t q S
   is-minimal-set S h =
+      let (T, used, within) = admits-admitted S (least-passes (admits t q) S h) in
+      let same = least-least (admits t q) S h T within (used-admits T used) in
       record {
-        used = minimal-used S h;
-        least = λ T used within. minimal-least t q S h T within (used-admits T used);
+        used = rw same at used;
+        least = λ T used within. least-least (admits t q) S h T within (used-admits T used);
       }
 
   -- a lesser part that admits would include a used set, which is another part
   pub minimal-set-is : (S : ℕ) → Minimal t q S → isMinimal t q S ≡ true
   minimal-set-is S m =
-      minimal-shown t q S (used-admits S (m .used)) (λ T less within there.
+      least-shown (admits t q) S (used-admits S (m .used)) (λ T less within there.
       let (U, used, inside) = admits-admitted T there in
       let same = m .least U used (part-trans U T S inside within) in
       omega (arith, part-le U T inside))
@@ -57,7 +53,7 @@ module _ (t : List ℕ) (wf : WellFormed t) (q : Query) (valid : Valid q) where
   -- where a record using only credentials of S is accepted, S includes a minimal set
   pub admitted-includes : (S : ℕ) → Admitted t q S → (M : ℕ) × Minimal t q M × (part M S ≡ true)
   admitted-includes S (T, used, within) =
-      let (M, minimal, inside) = minimal-within t q T (used-admits T used) in
+      let (M, minimal, inside) = least-within (admits t q) T (used-admits T used) in
       (M, is-minimal-set M minimal, part-trans M T S inside within)
 
   pub minimal-sets : MinimalSets t q (minimalSets t q)

@@ -15,14 +15,19 @@ use Rattle.automata.specs.Together.{acceptingSet, each, movedSets, startingSets
 use Rattle.derivation.specs.Attached.{automataOf, automataUpTo}
 use Rattle.verifier.specs.Verdict.{verdict}
 use Rattle.verifier.proofs.Shop as records
-use Rattle.search.specs.Search.{everyGoal, isMember, mayUse, provable, provedPremises, proves, provesBy, tries}
-use Rattle.listing.specs.Minimal.{admits, afterwards, bufferAfter, counted, isMinimal, laid, listing, minimalSets, those}
+use Rattle.members.specs.Places.{defines, isNaming, isPerson, least, personAt, roleAt}
+use Rattle.members.specs.Trying.{everyGoal, mayUse, provedPremises, provesBy}
+use Rattle.search.specs.Search.{provable, proves, stepped}
+use Rattle.search.specs.Admits.{admits, admitsBy, without}
+use Rattle.cuts.specs.Cuts.{isLeast}
+use Rattle.sorted.specs.Sorted.{laid, those}
+use Rattle.listing.specs.Minimal.{afterwards, bufferAfter, counted, listing, minimalSets}
 
 -- what a list computes with
 unfoldable pub opened : Unit {0}
-unfolding records.opened part setOf acceptingSet each movedSets startingSets together automataOf automataUpTo everyGoal isMember
-    mayUse provable provedPremises proves provesBy tries admits afterwards bufferAfter counted isMinimal laid listing minimalSets
-    those
+unfolding records.opened part setOf acceptingSet each movedSets startingSets together automataOf automataUpTo defines isNaming
+    isPerson least personAt roleAt everyGoal mayUse provedPremises provesBy provable proves stepped admits admitsBy without isLeast
+    laid those afterwards bufferAfter counted listing minimalSets
 opened = tt
 
 pub data Row : Type 0 where

@@ -1,117 +1,112 @@
--- The whole search: the block of all sets of the table's credentials, with nothing chosen, and what it tells.
+-- The whole search: nothing is chosen, and all credentials that bear on the query are free. And what it tells.
 use mathlib.Core.Path.{_≡_, refl, sym, ap, _∙_}
 use mathlib.Core.List.{List}
 use mathlib.Core.Bool.{Bool, true, false}
-use Prim.Native.Nat.{ℕ, zero, suc, _+_, _-_, _*_, _%_, _^_, _<_, _≤_}
+use Prim.Native.Nat.{ℕ, _-_, _^_, _<_, _≤_}
 use native.Mathlib.Omega.{arith}
+use lib.Bits.{bitAnd, or-zero-l}
+use borrow.Author.Tests.{eq-eqb}
 use lib.ListN.{length}
-use lib.Pow.{pow-pos}
-use Rattle.sets.specs.Logic.{pick}
+use Rattle.sets.specs.Logic.{_and_, _or_}
+use Rattle.sets.specs.Sets.{part}
+use Rattle.sets.proofs.Tests.{and-false, and-first, and-is, false-true, refuted}
+use Rattle.sets.proofs.Members.{inSet-and, inSet-zero, part-le, part-shown, part-zero}
+use Rattle.cuts.specs.Cuts.{Ready, between, isLeast}
+use Rattle.cuts.proofs.Least.{least-least, least-passes, least-within}
+use Rattle.cuts.proofs.Meeting.{between-shown}
+use Rattle.sorted.specs.Sorted.{Holds, laid}
+use Rattle.sorted.proofs.Ascending.{those-numbers}
+use Rattle.sorted.proofs.Holding.{holds-none, holds-same}
 use Rattle.table.specs.Outcome.{Outcome}
 use Rattle.table.specs.Outcome.Outcome.{accepted, refused}
 use Rattle.table.specs.Layout.{credentials}
 use Rattle.table.specs.Holding.{WellFormed}
-use Rattle.table.specs.Checks.{Valid, requestOutcome}
+use Rattle.table.specs.Checks.{requestOutcome}
 use Rattle.table.specs.declared.Query.{Query}
-use Rattle.sets.proofs.Tests.{and-is, and-is-off}
-use Rattle.sets.specs.Sets.{part}
-use Rattle.sets.proofs.Members.{inSet-zero, one-bit, part-member, part-zero}
-use Rattle.search.specs.Relevance.{Relevant}
-use Rattle.search.specs.Search.{provable}
-use Rattle.derivation.specs.Attached.{automataOf, automataUpTo}
-use Rattle.listing.specs.Minimal.{afterwards, bufferAfter, counted, isMinimal, laid, minimalSets}
-use Rattle.listing.specs.Below.{Decided, FoundUpTo, promising}
-use Rattle.search.proofs.Admitting.{relevant-used}
-use Rattle.listing.proofs.Blocks.{all-below, part-all}
+use Rattle.search.specs.Admits.{admits}
+use Rattle.listing.specs.Minimal.{Tells, afterwards, bufferAfter, isMinimal, minimalSets}
+use Rattle.listing.specs.Below.{Bears, Ended, Held, andLeast}
 use Rattle.listing.proofs.Counting.{listed-counted, more-counted, none-counted}
-use Rattle.listing.proofs.Minimality.{bare-unpromising, minimal-accepted}
-use Rattle.listing.proofs.Finding.{found-ends, found-none, upto-bare}
-use Rattle.listing.proofs.Halving.{Asked, promising-shown}
+use Rattle.listing.proofs.Regions.{admits-monotone}
 
--- the code's `(1 << n) - 1`
-abbrev pub allOf : ℕ → ℕ
-allOf n = (1 * 2 ^ n) % 2 ^ 32 - 1
-
--- nothing chosen has no constraint
-unconstrained-upto : (t : List ℕ) (n : ℕ) → automataUpTo t 0 n ≡ 0
-unfolding automataUpTo pick
-unconstrained-upto t zero = refl
-unconstrained-upto t (suc n) = rw (and-is-off _ (inSet-zero n)) (unconstrained-upto t n)
-
-unconstrained : (t : List ℕ) → automataOf t 0 ≡ 0
-unfolding automataOf
-unconstrained t = unconstrained-upto t (credentials t)
-
-module _ (t : List ℕ) (wf : WellFormed t) (n : ℕ) (head : n ≡ credentials t) where
-  pub head-few : n < 32
-  head-few = omega (arith, wf .sized .counted .fewCredentials)
-
-  pub head-some : 1 ≤ (1 * 2 ^ n) % 2 ^ 32
-  head-some = rw (one-bit 32 n head-few) (omega (arith, pow-pos n))
-
-  all : allOf n ≡ 2 ^ n - 1
-  all = rw (one-bit 32 n head-few)
-
--- the search begins with all n credentials of the table undecided, of which those that bear on the query are usable
-pub record Starts (t : List ℕ) (q : Query) (n usable : ℕ) : Type 0 where
-  pub wf : WellFormed t
-  pub head : n ≡ credentials t
-  pub relevant : Relevant t q (allOf n) usable
-
-module _ {t : List ℕ} {q : Query} {n usable : ℕ} (s : Starts t q n usable) where
-  own : Relevant t q (2 ^ n - 1) usable
-  own = rw (all t (s .wf) n (s .head)) at (s .relevant)
-
-  start-every : (M : ℕ) → isMinimal t q M ≡ true → 0 ≤ M → M < 0 + 2 ^ n → part M usable ≡ true
-  start-every M m from upto =
-      let (rec, a) = minimal-accepted t (s .wf) q M m in
-      relevant-used t q rec M (2 ^ n - 1) usable own a (part-all M n (omega arith))
-
-  start-decided : Decided t q 0 usable n
-  start-decided =
+-- nothing is chosen, and all that bears on the test is free
+module _ (p : ℕ → Bool) (n usable : ℕ) (few : usable < 2 ^ n) where
+  pub start-ready : (cuts : List ℕ) → Ready p n 0 usable cuts 0
+  start-ready cuts =
       record {
-        undecided = λ i l. inSet-zero i;
-        decided = λ i h u. absurd (omega (arith, all-below n i (part-member usable (2 ^ n - 1) i (own .among) u)));
-        fits = omega (arith, ap (λ (n : ℕ). 2 ^ n) (s .head));
-        every = start-every;
+        apart = λ c own. absurd (false-true (sym (inSet-zero c) ∙ own));
+        fits = rw (or-zero-l usable) few;
+        known = record { room = omega arith; each = λ i l. absurd (omega arith) };
+        tight = λ room X c own. absurd (false-true (sym (inSet-zero c) ∙ own));
       }
 
-  module _ {flag : Bool} (told : flag ≡ provable t q usable 0) where
-    start-promising : {b : Bool} → flag ≡ b → promising t q 0 usable ≡ b
-    unfolding promising
-    start-promising h = and-is (part-zero usable) (ap (provable t q usable) (unconstrained t) ∙ sym told ∙ h)
+  module _ (bears : Bears p usable) where
+    -- a least set has nothing else
+    least-among : (Y : ℕ) → isLeast p Y ≡ true → part Y usable ≡ true
+    unfolding part
+    least-among Y least =
+        eq-eqb (bitAnd Y usable) Y
+        (least-least p Y least (bitAnd Y usable) (part-shown (bitAnd Y usable) Y (λ s h. and-first _ _ (sym (inSet-and Y usable s) ∙ h))) (bears Y ∙ least-passes p Y least))
 
-    pub start-asked : flag ≡ true → Valid q → (buffer : List ℕ) → Asked t q 0 usable n buffer 0
-    start-asked h valid buffer =
-        let promises = promising-shown t q 0 usable (start-promising h) (λ M l m. absurd (omega arith)) in
-        (s .wf, (valid, (start-decided, (promises, found-none t q buffer))))
+    -- where nothing was found before, what is found is the least sets
+    whole-least : (Y : ℕ) → Y < 2 ^ n → andLeast (λ x. false) p 0 usable Y ≡ isLeast p Y
+    unfolding andLeast _or_
+    whole-least Y l = go (isLeast p Y) refl
+      where
+        go : (b : Bool) → isLeast p Y ≡ b → (between 0 usable Y and isLeast p Y) ≡ isLeast p Y
+        go true e = and-is (between-shown 0 usable Y (part-zero Y) (rw (or-zero-l usable) (least-among Y e))) refl
+        go false e = rw e (and-false (between 0 usable Y))
 
-    pub start-none : flag ≡ false → (buffer : List ℕ) → FoundUpTo t q (0 + 2 ^ n) buffer buffer 0
-    start-none h buffer =
-        upto-bare t q 0 (0 + 2 ^ n) buffer buffer 0 (found-ends t q 0 buffer 0 (found-none t q buffer)) (omega arith)
-        (bare-unpromising t q 0 n (start-decided .undecided) (s .wf) usable start-every (start-promising h))
+unfoldable pub start-held : (n usable : ℕ) (sets : List ℕ) → Held n 0 usable sets 0
+start-held n usable sets =
+    record { test = λ x. false; before = sets; holds = holds-none (λ x. false) (2 ^ n) sets (λ x l. refl); apart = λ Y h. refl }
 
--- what is told, and what the buffer holds
-abbrev pub Tells : List ℕ → Query → List ℕ → List ℕ → Outcome → Type 0
-Tells t q before after o = (o ≡ counted (length before) (length (minimalSets t q))) × (after ≡ laid (minimalSets t q) before)
+module _ (t : List ℕ) (q : Query) (usable : ℕ) (few : usable < 2 ^ credentials t) (bears : Bears (admits t q) usable) where
+  -- the buffer holds the minimal sets
+  pub start-ended : {cuts : List ℕ} {cuts′ : List ℕ} {count′ : ℕ} {sets sets′ : List ℕ} {found′ : ℕ}
+      → Ended t q 0 usable cuts 0 cuts′ count′ sets 0 sets′ found′ → Holds (isMinimal t q) (2 ^ credentials t) sets sets′ found′
+  unfolding start-held
+  start-ended {sets = sets} e =
+      holds-same _ (isMinimal t q) (2 ^ credentials t) (whole-least (admits t q) (credentials t) usable few bears)
+      (e .adds (start-held (credentials t) usable sets))
 
-module _ (t : List ℕ) (q : Query) (n : ℕ) (head : n ≡ credentials t) (before after : List ℕ) (found : ℕ)
-    (upto : FoundUpTo t q (0 + 2 ^ n) before after found) where
-  whole : FoundUpTo t q (2 ^ credentials t) before after found
-  whole = let e : 0 + 2 ^ n ≡ 2 ^ credentials t = omega (arith, ap (λ (n : ℕ). 2 ^ n) head) in rw e at upto
+  -- where all that bears on the query is not admitted none is minimal
+  pub start-none : WellFormed t → admits t q usable ≡ false → (sets : List ℕ) → Holds (isMinimal t q) (2 ^ credentials t) sets sets 0
+  start-none wf fails sets =
+      holds-none (isMinimal t q) (2 ^ credentials t) sets (λ Y l.
+      refuted (isMinimal t q Y) (λ least.
+      let passes = least-passes (admits t q) Y least in
+      let among = least-among (admits t q) (credentials t) usable few bears Y least in
+      false-true (sym fails ∙ admits-monotone t wf q Y usable few among passes)))
 
+-- where it is admitted some set is found
+pub some-found : (t : List ℕ) (q : Query) (usable : ℕ) {before after : List ℕ} {found : ℕ}
+    → Holds (isMinimal t q) (2 ^ credentials t) before after found → usable < 2 ^ credentials t → admits t q usable ≡ true
+    → found ≡ 0 → ⊥
+some-found t q usable held few passes none =
+    let (M, least, within) = least-within (admits t q) usable passes in
+    let small : M < 2 ^ credentials t = omega (arith, part-le M usable within) in
+    let (i, l, e) = those-numbers (isMinimal t q) (2 ^ credentials t) .every M small least in
+    omega (arith, held .count, l)
+
+-- what is told is what a refusal tells
+pub told-instead : {A : Type 0} {x y z : Outcome} → x ≡ y → (y ≡ z) × A → (x ≡ z) × A
+told-instead e h = (e ∙ h .0, h .1)
+
+module _ (t : List ℕ) (q : Query) (before after : List ℕ) (found : ℕ)
+    (held : Holds (isMinimal t q) (2 ^ credentials t) before after found) where
   pub none-told : found ≡ 0 → Tells t q before after (refused 9 0)
   unfolding minimalSets
-  none-told none = (sym (none-counted _ _ .1 (sym (whole .count (omega arith)) ∙ none)), whole .held)
+  none-told none = (sym (none-counted _ _ .1 (sym (held .count) ∙ none)), held .held)
 
   pub longer-told : length before < found → Tells t q before after (refused 10 0)
   unfolding minimalSets
-  longer-told long = (sym (more-counted _ _ .1 (whole .longer long)), whole .held)
+  longer-told long = (sym (more-counted _ _ .1 (omega (arith, held .count))), held .held)
 
   pub listed-told : (found ≡ 0 → ⊥) → found ≤ length before → Tells t q before after (accepted found)
   unfolding minimalSets
   listed-told some fits =
-      (rw (← whole .count fits) (sym (listed-counted (length before) found (omega arith) fits)), whole .held)
+      (rw (← held .count) (sym (listed-counted (length before) found (omega arith) fits)), held .held)
 
 -- the buffer changes only where rows 1 to 8 find nothing
 module _ (t : List ℕ) (q : Query) (buffer : List ℕ) where

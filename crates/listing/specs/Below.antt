@@ -1,44 +1,69 @@
--- What the search for minimal sets knows on its way. It decides credentials from the highest number to the lowest: the sets that
--- agree with `chosen` on all credentials above `next` are the numbers from `chosen` up to, but not including, `chosen` + 2^next.
-use Prim.Native.Nat.{ℕ, _+_, _^_, _<_, _≤_}
+-- What the search for minimal sets asks and gives, region by region: the sets that include `chosen` and have nothing outside of
+-- chosen and free. crates/cuts/specs/Cuts.antt says what the cuts tell; the buffer holds what has been found (crate sorted).
+use Prim.Native.Nat.{ℕ, _^_, _<_}
 use mathlib.Core.Path.{_≡_}
 use mathlib.Core.List.{List}
 use mathlib.Core.Bool.{Bool, true, false}
-use lib.ListN.{length}
-use Rattle.sets.specs.Logic.{_and_}
+use lib.ListN.{getD, length}
+use lib.Bits.{bitAnd}
+use lib.Dec.{ltb}
+use Rattle.sets.specs.Logic.{_and_, _or_, anyBelow}
+use Rattle.sets.specs.Sets.{inSet, part}
+use Rattle.cuts.specs.Cuts.{Barren, Monotone, More, Ready, Searched, between, isLeast, isSole}
+use Rattle.sorted.specs.Sorted.{Holds, Inserted}
 use Rattle.table.specs.Layout.{credentials}
 use Rattle.table.specs.declared.Query.{Query}
-use Rattle.sets.specs.Sets.{inSet, part}
-use Rattle.search.specs.Search.{provable}
-use Rattle.derivation.specs.Attached.{automataOf}
-use Rattle.listing.specs.Minimal.{isMinimal, laid, those}
+use Rattle.search.specs.Admits.{admits}
 
--- every credential above `next` is decided: it is chosen, or it is not in `usable`, which has all that minimal sets here may use
-pub record Decided (t : List ℕ) (q : Query) (chosen usable : ℕ) (next : ℕ) : Type 0 where
-  pub undecided : (i : ℕ) → i < next → inSet chosen i ≡ false
-  pub decided : (i : ℕ) → next ≤ i → inSet usable i ≡ true → inSet chosen i ≡ true
-  pub fits : chosen + 2 ^ next ≤ 2 ^ credentials t
-  pub every : (M : ℕ) → isMinimal t q M ≡ true → chosen ≤ M → M < chosen + 2 ^ next → part M usable ≡ true
+-- whether a set passes depends on its members in `usable` alone
+abbrev pub Bears : (ℕ → Bool) → ℕ → Type 0
+Bears p usable = (Y : ℕ) → p (bitAnd Y usable) ≡ p Y
 
--- a minimal set may be here: what is chosen can be used, the constraints of what is chosen can be met, and no minimal set is
--- a part of what is chosen already
-pub record Promising (t : List ℕ) (q : Query) (chosen usable : ℕ) : Type 0 where
-  pub among : part chosen usable ≡ true
-  pub met : provable t q usable (automataOf t chosen) ≡ true
-  pub apart : (M : ℕ) → M < chosen → isMinimal t q M ≡ true → part M chosen ≡ false
+-- what a test let pass, and the least sets of the region
+unfoldable pub andLeast : (ℕ → Bool) → (ℕ → Bool) → ℕ → ℕ → ℕ → Bool
+andLeast found p chosen free Y = found Y or (between chosen free Y and isLeast p Y)
 
--- the first two of these, as they are tested
-unfoldable pub promising : List ℕ → Query → ℕ → ℕ → Bool
-promising t q chosen usable = part chosen usable and provable t q usable (automataOf t chosen)
+-- the buffer holds the sets below 2^n of some test, none of which is of the region, as found before it
+pub record Held (n chosen free : ℕ) (sets : List ℕ) (found : ℕ) : Type 0 where
+  pub test : ℕ → Bool
+  pub before : List ℕ
+  pub holds : Holds test (2 ^ n) before sets found
+  pub apart : (Y : ℕ) → between chosen free Y ≡ true → test Y ≡ false
 
--- the minimal sets below x are found, and the buffer's first cells hold them
-pub record Found (t : List ℕ) (q : Query) (x : ℕ) (buffer : List ℕ) (found : ℕ) : Type 0 where
-  pub count : found ≡ length (those (isMinimal t q) x)
-  pub fits : found ≤ length buffer
-  pub held : laid (those (isMinimal t q) x) buffer ≡ buffer
+-- what the search leaves: more cuts, by which the region is searched, and its least sets beside those that the buffer held
+pub record Ended (t : List ℕ) (q : Query) (chosen free : ℕ) (cuts : List ℕ) (count : ℕ) (cuts′ : List ℕ) (count′ : ℕ)
+    (sets : List ℕ) (found : ℕ) (sets′ : List ℕ) (found′ : ℕ) : Type 0 where
+  pub more : More (admits t q) (credentials t) cuts count cuts′ count′
+  pub searched : Searched (admits t q) chosen free cuts′ count′
+  pub adds : (h : Held (credentials t) chosen free sets found)
+      → Holds (andLeast (h .test) (admits t q) chosen free) (2 ^ credentials t) (h .before) sets′ found′
 
--- the same afterwards, where the buffer may have turned out too short
-pub record FoundUpTo (t : List ℕ) (q : Query) (x : ℕ) (before after : List ℕ) (found : ℕ) : Type 0 where
-  pub held : after ≡ laid (those (isMinimal t q) x) before
-  pub count : found ≤ length before → found ≡ length (those (isMinimal t q) x)
-  pub longer : length before < found → length before < length (those (isMinimal t q) x)
+-- what is left to branch on is free; where nothing is left the search is over, and otherwise nothing is found yet
+pub record Decided (t : List ℕ) (q : Query) (chosen free : ℕ) (cuts : List ℕ) (count : ℕ) (cuts′ : List ℕ) (count′ : ℕ)
+    (sets : List ℕ) (found : ℕ) (sets′ : List ℕ) (found′ : ℕ) (left : ℕ) : Type 0 where
+  pub among : part left free ≡ true
+  pub over : left ≡ 0 → Ended t q chosen free cuts count cuts′ count′ sets found sets′ found′
+  pub more : More (admits t q) (credentials t) cuts count cuts′ count′
+  pub same : (left ≡ 0 → ⊥) → (sets′ ≡ sets) × (found′ ≡ found)
+
+-- a set that passes is put into the buffer where it is least
+pub record Kept (p : ℕ → Bool) (set : ℕ) (sets : List ℕ) (found : ℕ) (sets′ : List ℕ) (found′ : ℕ) : Type 0 where
+  pub least : isLeast p set ≡ true → Inserted sets found set sets′ found′
+  pub other : isLeast p set ≡ false → (sets′ ≡ sets) × (found′ ≡ found)
+
+-- a set that does not pass, and includes `chosen`
+pub record Grown (p : ℕ → Bool) (n chosen grown : ℕ) : Type 0 where
+  pub from : part chosen grown ≡ true
+  pub fits : grown < 2 ^ n
+  pub fails : p grown ≡ false
+
+-- one of the first `found` sets, as far as the buffer has cells for them, is a part of the set
+unfoldable pub hasListed : List ℕ → ℕ → ℕ → Bool
+hasListed sets found set = anyBelow (λ i. ltb i (length sets) and part (getD sets i 0) set) found
+
+-- what the cuts alone tell of a region, for any monotone test: none of it is least, or each that is chosen is in some cut the
+-- only one chosen, where that is known
+pub record Judged (cuts : List ℕ) (count chosen free : ℕ) (barren : Bool) : Type 0 where
+  pub none : barren ≡ true → (p : ℕ → Bool) (n : ℕ) → Monotone p n → Ready p n chosen free cuts count
+      → Barren p chosen free cuts count
+  pub sole : barren ≡ false → count < length cuts → (c : ℕ) → inSet chosen c ≡ true → isSole cuts count chosen c ≡ true

@@ -25,7 +25,9 @@ use Rattle.derivation.specs.Words.{acceptsAll, met, usesAutomaton, words}
 use Rattle.verifier.specs.Reading.{Reading, reader}
 use Rattle.verifier.specs.Reading.Reading.{read, stop}
 use Rattle.verifier.specs.Verdict.{verdict}
-use Rattle.listing.specs.Minimal.{admits, minimalSets, those}
+use Rattle.sorted.specs.Sorted.{those}
+use Rattle.search.specs.Admits.{admits}
+use Rattle.listing.specs.Minimal.{minimalSets}
 use Rattle.listing.specs.Demands.{Minimal, Used}
 
 -- the verifier, with another notion of when a derivation meets an automaton of the table than our `met`

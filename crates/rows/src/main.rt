@@ -1,4 +1,4 @@
-// A test: runs stored cases and prints one line for each, which the gate compares with stored answers. A case is a block of 512
+// A test: runs stored cases and prints a line for each call, which the gate compares with stored answers. A case is a block of 512
 // numbers of 16 bits, low byte first: kind (1 list, 2 verify), the query's four, cells of the buffer, length of the table, length
 // of the record; then the table, the record, and zeros. Each cell holds a pattern beforehand, so that an untouched one shows.
 use libc::STDIN_FILENO;
@@ -22,6 +22,8 @@ const BLOCK: usize = 512;
 const HEAD: usize = 8;
 
 const MOST_CELLS: usize = 64;
+
+const ROOMS: usize = 3;
 
 const UNTOUCHED: u32 = 2863311530;
 
@@ -76,15 +78,35 @@ fn run(case: &[Number])
     }
 }
 
+// As users list, and then with room for 0, 1 and 2 cuts, which is soon full: the same line each time.
 fn run_list(table: &[Number], query: Query, cells: usize)
     requires { ⌜ cells ≤ 64 ⌝ }
 {
     let mut sets = [UNTOUCHED; MOST_CELLS];
     run_list_into(table, query, &mut sets[..cells]);
+    let mut room = 0;
+    while room < ROOMS {
+        run_list_with(table, query, room, cells);
+        room += 1;
+    }
 }
 
 fn run_list_into(table: &[Number], query: Query, sets: &mut [u32]) {
     match listing::list(table, query, sets) {
+        Listing::Listed(count) => print_row(0, count, sets),
+        Listing::Refused(why) => print_refused(why, sets),
+    }
+}
+
+fn run_list_with(table: &[Number], query: Query, room: usize, cells: usize)
+    requires { ⌜ cells ≤ 64 ⌝ }
+{
+    let mut sets = [UNTOUCHED; MOST_CELLS];
+    run_list_with_into(table, query, room, &mut sets[..cells]);
+}
+
+fn run_list_with_into(table: &[Number], query: Query, room: usize, sets: &mut [u32]) {
+    match listing::list_with(table, query, room, sets) {
         Listing::Listed(count) => print_row(0, count, sets),
         Listing::Refused(why) => print_refused(why, sets),
     }

@@ -1,28 +1,40 @@
--- Imposing all constraints of the allowed set is exact: where a record is accepted its used set can prove the membership under
--- all its automata, and where a set can, some accepted record's used set is a part of it, since its automata are fewer.
-use mathlib.Core.Path.{_≡_, refl, sym, _∙_}
-use mathlib.Core.List.{List, []}
-use mathlib.Core.Bool.{true}
-use Prim.Native.Nat.{ℕ, suc, _-_, _^_, _<_}
+-- Deciding automaton by automaton is exact: a derivation that complies either names no credential that bears the automaton, and
+-- then it does without, or the automaton accepts its words. So the used set of an accepted record admits, and a set that does has
+-- such a used set as a part.
+use mathlib.Core.Path.{_≡_, refl, sym, ap, _∙_}
+use mathlib.Core.List.{List, [], _∷_}
+use mathlib.Core.Bool.{Bool, true, false, not}
+use mathlib.Core.Logic.{_↔_}
+use Prim.Native.Nat.{ℕ, zero, suc, _-_, _^_, _<_, _≤_}
 use native.Mathlib.Omega.{arith}
 use native.Mathlib.Numerals.{sub-one}
-use Rattle.table.specs.Layout.{credential, credentials}
+use native.Mathlib.Decide.{ℕ-discrete}
+use lib.Bits.{bitAnd, bitOr}
+use borrow.Author.Tests.{eqb-false, eqb-true, lt-ltb, ne-eqb, not-true}
+use Rattle.table.specs.Layout.{automata, credential, credentials}
 use Rattle.table.specs.Holding.{WellFormed}
 use Rattle.table.specs.declared.Goal.{Goal}
 use Rattle.table.specs.declared.Query.{Query}
+use Rattle.table.proofs.WellFormed.{wf-credential}
+use Rattle.sets.specs.Logic.{_and_, _or_, pick}
 use Rattle.sets.specs.Sets.{inSet, part}
-use Rattle.sets.proofs.Members.{members-below, part-member, part-refl, part-shown}
+use Rattle.sets.proofs.Tests.{and-both, and-first, and-second, false-true, or-either, or-first, or-second, same-test}
+use Rattle.sets.proofs.Members.{inSet-and, inSet-or, inSet-pow, inSet-zero, members-below, own-bit, part-member}
+use Rattle.sets.proofs.Members.{part-or-left, part-or-right, part-refl, part-shown, setOf-members}
 use Rattle.derivation.specs.Forest.{Derives, Forest, names, usedSet, written}
-use Rattle.derivation.specs.Words.{Complies, words}
+use Rattle.derivation.specs.Rules.{goalOf}
+use Rattle.derivation.specs.Words.{Complies, usesAutomaton, words}
 use Rattle.derivation.specs.Attached.{automataOf}
 use Rattle.derivation.specs.Accepted.{Accepted}
 use Rattle.search.specs.Search.{UsesOnly, provable}
+use Rattle.search.specs.Admits.{Admits, admits, admitsBy, without}
 use Rattle.search.specs.Relevance.{Relevant}
-use Rattle.derivation.proofs.Using.{automaton-imposed, automaton-reached, automaton-shows, named-numbered, used-at, used-named}
+use Rattle.derivation.proofs.Using.{automaton-imposed, automaton-reached, automaton-shows, named-numbered, placed}
+use Rattle.derivation.proofs.Using.{used-at, used-named, uses-reached, uses-shows}
 use Rattle.search.proofs.Searching.{AllAccept, provable-by, provable-exact}
 
 -- more credentials have no fewer automata
-pub automata-mono : (t : List ℕ) (S S′ : ℕ) → part S S′ ≡ true → part (automataOf t S) (automataOf t S′) ≡ true
+automata-mono : (t : List ℕ) (S S′ : ℕ) → part S S′ ≡ true → part (automataOf t S) (automataOf t S′) ≡ true
 automata-mono t S S′ more =
     part-shown (automataOf t S) (automataOf t S′)
     (λ k h.
@@ -41,49 +53,200 @@ module _ (t : List ℕ) {l : ℕ} {b gs : List Goal} {f : Forest} (d : Derives t
   part-used : (S : ℕ) → part (usedSet f) S ≡ true → UsesOnly f S
   part-used S among c named = part-member (usedSet f) S (c - 1) among (used-named t l b gs f d c named)
 
-  -- a forest that complies meets every automaton of its used set, and one that meets every automaton of a set complies
-  complies-accepts : Complies t f → AllAccept t (automataOf t (usedSet f)) (words t [] f)
-  complies-accepts complies k h =
-      let by = automaton-shows t (usedSet f) k h in
-      rw (by .3) at (complies (suc (by .0)) (used-shows (by .0) (by .2)) (λ z. omega (arith, z, by .3)))
-
+  -- a forest within a set that meets every automaton of the set complies
   accepts-complies : (S : ℕ) → UsesOnly f S → AllAccept t (automataOf t S) (words t [] f) → Complies t f
   accepts-complies S only all c named constrained =
       let k = credential t c .automaton in
       let next : suc (k - 1) ≡ k = omega arith in
       rw next at (all (k - 1) (automaton-imposed t S c (named-numbered d c named) (only c named) (sym next)))
 
--- the used set of an accepted record proves under all its automata, and a set that does has such a record's used set as a part
-pub accepted-provable : (t : List ℕ) → WellFormed t → (q : Query) (rec : List ℕ) (S : ℕ) → Accepted t q rec S
-    → provable t q S (automataOf t S) ≡ true
-accepted-provable t wf q rec S a =
-    let used = usedSet (a .forest) in
-    let d = a .derives in
-    rw (← a .uses)
-    (provable-by t wf q used (automataOf t used) d (part-used t d used (part-refl used)) (complies-accepts t d (a .complies)))
+-- what is left out: those of S that bear automaton k, and no others
+module _ (t : List ℕ) (S k : ℕ) where
+  without-shows : (i : ℕ) → inSet (without t S k) i ≡ true → (inSet S i ≡ true) × (credential t (suc i) .automaton ≡ k → ⊥)
+  unfolding without
+  without-shows i h =
+      let kept = and-second _ _ (sym (setOf-members _ (credentials t) i) ∙ h) in
+      (and-first _ _ kept, eqb-false _ k (not-true _ (and-second _ _ kept)))
 
-pub provable-accepted : (t : List ℕ) → WellFormed t → (q : Query) (S : ℕ) → provable t q S (automataOf t S) ≡ true
-    → (rec : List ℕ) × (T : ℕ) × Accepted t q rec T × (part T S ≡ true)
-provable-accepted t wf q S h =
-    let p = provable-exact t wf q S (automataOf t S) .0 h in
-    let complies = accepts-complies t (p .derives) S (p .usesOnly) (p .accepted) in (
-      written (p .forest),
-      usedSet (p .forest),
-      record { forest = p .forest; derives = p .derives; whole = refl; complies = complies; uses = refl },
-      used-part t (p .derives) S (p .usesOnly),
-    )
+  without-reached : (i : ℕ) → i < credentials t → inSet S i ≡ true → (credential t (suc i) .automaton ≡ k → ⊥)
+      → inSet (without t S k) i ≡ true
+  unfolding without
+  without-reached i there member other =
+      setOf-members _ (credentials t) i ∙ and-both (lt-ltb i _ there) (and-both member (ap not (ne-eqb _ k other)))
 
--- a used set has credentials of the table alone, and of a set only those that bear on the query
+  without-part : part (without t S k) S ≡ true
+  without-part = part-shown (without t S k) S (λ i h. without-shows i h .0)
+
+-- each automaton from k on that a credential of S bears is imposed
+abbrev Settled : List ℕ → ℕ → ℕ → ℕ → Type 0
+Settled t S A k = (j : ℕ) → k ≤ j → inSet (automataOf t S) j ≡ true → inSet A j ≡ true
+
+-- at first there is nothing from k on, and one automaton more is settled where fewer credentials bear it or more is imposed
+settled-first : (t : List ℕ) → WellFormed t → (S A : ℕ) → Settled t S A (automata t)
+settled-first t wf S A j beyond h =
+    let by = automaton-shows t S j h in
+    let there = wf-credential t wf (suc (by .0)) (record { first = omega arith; last = by .1 }) .automaton in
+    absurd (omega (arith, by .3))
+
+module _ (t : List ℕ) (S A k : ℕ) (before : Settled t S A (suc k)) where
+  settled-next : (S′ A′ : ℕ) → part S′ S ≡ true → part A A′ ≡ true → (inSet (automataOf t S′) k ≡ true → inSet A′ k ≡ true)
+      → Settled t S′ A′ k
+  settled-next S′ A′ fewer more here j from h = go (ℕ-discrete j k)
+    where
+      go : Dec (j ≡ k) → inSet A′ j ≡ true
+      go (yes e) = rw e (here (rw e at h))
+      go (no other) =
+          part-member A A′ j more (before j (omega arith) (part-member _ _ j (automata-mono t S′ S fewer) h))
+
+  settled-unborne : inSet (automataOf t S) k ≡ false → Settled t S A k
+  settled-unborne none =
+      settled-next S A (part-refl S) (part-refl A) (λ borne. absurd (false-true (sym none ∙ borne)))
+
+  settled-without : Settled t (without t S (suc k)) A k
+  settled-without =
+      settled-next (without t S (suc k)) A (without-part t S (suc k)) (part-refl A)
+      (λ borne.
+      let by = automaton-shows t (without t S (suc k)) k borne in
+      absurd (without-shows t S (suc k) (by .0) (by .2) .1 (by .3)))
+
+  settled-imposed : Settled t S (bitOr A (2 ^ k)) k
+  settled-imposed =
+      settled-next S (bitOr A (2 ^ k)) (part-refl S) (part-or-left A (2 ^ k))
+      (λ borne. part-member (2 ^ k) (bitOr A (2 ^ k)) k (part-or-right A (2 ^ k)) (own-bit k))
+
+-- a choice that holds, by the test that made it; and one between two that hold
+pick-either : {A : Type 0} (b : Bool) {x y : Bool} → (x ≡ true → A) → (b ≡ false → y ≡ true → A) → pick b x y ≡ true → A
+unfolding pick
+pick-either true f g h = f h
+pick-either false f g h = g refl h
+
+pick-both : (b : Bool) {x y : Bool} → x ≡ true → y ≡ true → pick b x y ≡ true
+unfolding pick
+pick-both true h l = h
+pick-both false h l = l
+
+module _ (t : List ℕ) (wf : WellFormed t) (q : Query) where
+  -- more credentials admit no less
+  admits-more : (S S′ : ℕ) → part S S′ ≡ true → Admits t q S → Admits t q S′
+  admits-more S S′ more a =
+      record {
+        forest = a .forest;
+        derives = a .derives;
+        usesOnly = λ c named. part-member S S′ (c - 1) more (a .usesOnly c named);
+        complies = a .complies;
+      }
+
+  -- where every automaton from k on is settled, what is decided of the others is a derivation that complies
+  decided-shown : (k S A : ℕ) → provable t q S A ≡ true → Settled t S A k → admitsBy t q S A k ≡ true → Admits t q S
+  unfolding admitsBy
+  decided-shown zero S A proved settled h =
+      let p = provable-exact t wf q S A .0 proved in
+      record {
+        forest = p .forest;
+        derives = p .derives;
+        usesOnly = p .usesOnly;
+        complies =
+            accepts-complies t (p .derives) S (p .usesOnly) (λ j borne. p .accepted j (settled j (omega arith) borne));
+      }
+  decided-shown (suc k) S A proved settled h =
+      let fewer = without t S (suc k) in
+      let more = bitOr A (2 ^ k) in
+      pick-either (inSet (automataOf t S) k)
+      (or-either
+      (λ out. admits-more fewer S (without-part t S (suc k))
+      (decided-shown k fewer A (and-first _ _ out) (settled-without t S A k settled) (and-second _ _ out)))
+      (λ in′. decided-shown k S more (and-first _ _ in′) (settled-imposed t S A k settled) (and-second _ _ in′)))
+      (λ none. decided-shown k S A proved (settled-unborne t S A k settled none)) h
+
+  module _ {f : Forest} (d : Derives t (q .depth) [] (goalOf q ∷ []) f) (complies : Complies t f) where
+    -- a derivation that does not use automaton k does without its credentials, and one that does meets it
+    only-without : (k S : ℕ) → UsesOnly f S → usesAutomaton t f k ≡ false → UsesOnly f (without t S k)
+    only-without k S only unused c named =
+        let at = placed (named-numbered d c named) in
+        without-reached t S k (c - 1) (at .0) (only c named)
+        (λ own. false-true (sym unused ∙ uses-reached t k f c named (rw (at .1) at own)))
+
+    accepts-used : (k A : ℕ) → AllAccept t A (words t [] f) → usesAutomaton t f (suc k) ≡ true
+        → AllAccept t (bitOr A (2 ^ k)) (words t [] f)
+    accepts-used k A all used j h =
+        or-either (all j)
+        (λ here.
+        let by = uses-shows t (suc k) f used in
+        let same = eqb-true k j (sym (inSet-pow k j) ∙ here) in
+        rw (← same, ← by .2) (complies (by .0) (by .1) (λ z. omega (arith, by .2))))
+        (sym (inSet-or A (2 ^ k) j) ∙ h)
+
+    -- a derivation that complies is found, whichever automata are left
+    found-decided : (k S A : ℕ) → UsesOnly f S → AllAccept t A (words t [] f) → admitsBy t q S A k ≡ true
+    unfolding admitsBy
+    found-decided zero S A only all = refl
+    found-decided (suc k) S A only all =
+        pick-both _ (go (usesAutomaton t f (suc k)) refl (found-decided k)) (found-decided k S A only all)
+      where
+        fewer : ℕ
+        fewer = without t S (suc k)
+
+        more : ℕ
+        more = bitOr A (2 ^ k)
+
+        go : (b : Bool) → usesAutomaton t f (suc k) ≡ b
+            → ((S A : ℕ) → UsesOnly f S → AllAccept t A (words t [] f) → admitsBy t q S A k ≡ true)
+            → ((provable t q fewer A and admitsBy t q fewer A k) or (provable t q S more and admitsBy t q S more k)) ≡ true
+        go true used decided =
+            let met = accepts-used k A all used in
+            or-second _ (and-both (provable-by t wf q S more d only met) (decided S more only met))
+        go false unused decided =
+            let kept = only-without (suc k) S only unused in
+            or-first _ (and-both (provable-by t wf q fewer A d kept all) (decided fewer A kept all))
+
+  pub admits-exact : (S : ℕ) → (admits t q S ≡ true) ↔ Admits t q S
+  unfolding admits
+  admits-exact S = (
+    (λ h. decided-shown (automata t) S 0 (and-first _ _ h) (settled-first t wf S 0) (and-second _ _ h)),
+    (λ a.
+        let none : AllAccept t 0 (words t [] (a .forest)) = λ k h. absurd (false-true (sym (inSet-zero k) ∙ h)) in
+        and-both (provable-by t wf q S 0 (a .derives) (a .usesOnly) none)
+        (found-decided (a .derives) (a .complies) (automata t) S 0 (a .usesOnly) none)),
+  )
+
+  pub admits-mono : (S S′ : ℕ) → part S S′ ≡ true → admits t q S ≡ true → admits t q S′ ≡ true
+  admits-mono S S′ more h = admits-exact S′ .1 (admits-more S S′ more (admits-exact S .0 h))
+
+  -- what bears on the query decides
+  pub relevant-admits : (R : ℕ) → Relevant t q R → (Y : ℕ) → admits t q (bitAnd Y R) ≡ admits t q Y
+  relevant-admits R relevant Y =
+      same-test _ _ (admits-mono (bitAnd Y R) Y (part-shown _ Y (λ s h. and-first _ _ (sym (inSet-and Y R s) ∙ h))))
+      (λ h.
+      let a = admits-exact Y .0 h in
+      let only = relevant .every (a .forest) (a .derives) in
+      admits-exact (bitAnd Y R) .1
+      record {
+        forest = a .forest;
+        derives = a .derives;
+        usesOnly = λ c named. inSet-and Y R (c - 1) ∙ and-both (a .usesOnly c named) (only c named);
+        complies = a .complies;
+      })
+
+  -- the used set of an accepted record admits, and a set that does has such a record's used set as a part
+  pub accepted-admits : (rec : List ℕ) (S : ℕ) → Accepted t q rec S → admits t q S ≡ true
+  accepted-admits rec S a =
+      let d = a .derives in
+      let only = part-used t d S (rw (a .uses) (part-refl S)) in
+      admits-exact S .1 (record { forest = a .forest; derives = d; usesOnly = only; complies = a .complies })
+
+  pub admits-accepted : (S : ℕ) → admits t q S ≡ true → (rec : List ℕ) × (T : ℕ) × Accepted t q rec T × (part T S ≡ true)
+  admits-accepted S h =
+      let a = admits-exact S .0 h in (
+        written (a .forest),
+        usedSet (a .forest),
+        record { forest = a .forest; derives = a .derives; whole = refl; complies = a .complies; uses = refl },
+        used-part t (a .derives) S (a .usesOnly),
+      )
+
+-- a used set has credentials of the table alone
 pub accepted-fits : (t : List ℕ) (q : Query) (rec : List ℕ) (S : ℕ) → Accepted t q rec S → S < 2 ^ credentials t
 accepted-fits t q rec S a =
     members-below S (credentials t)
     (λ i h.
     let d = a .derives in
     named-numbered d (suc i) (used-shows t d i (rw (a .uses) h)) .last)
-
-pub relevant-used : (t : List ℕ) (q : Query) (rec : List ℕ) (M S R : ℕ) → Relevant t q S R → Accepted t q rec M
-    → part M S ≡ true → part M R ≡ true
-relevant-used t q rec M S R relevant a among =
-    let d = a .derives in
-    let only = part-used t d S (rw (a .uses) among) in
-    rw (a .uses) at (used-part t d R (relevant .every (a .forest) d only))

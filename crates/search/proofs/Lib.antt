@@ -1,10 +1,12 @@
 -- Laws that belong to no one function; crates above cite those marked `pub mod`.
 pub mod Within
 pub mod Naming
+pub mod Placing
 pub mod Trying
-pub mod Middles
+pub mod Testing
+pub mod Starting
 pub mod Searching
 pub mod Admitting
+pub mod Deciding
 pub mod Bearing
-pub mod Gathering
-pub mod Indexing
+pub mod Reaching

@@ -1,43 +1,47 @@
 -- The search decides `Provable`: it finds a derivation exactly where there is one that uses only credentials of the set and whose
--- words every demanded automaton accepts. That it tries only members that the set names as middles loses nothing (Naming.antt).
+-- words every demanded automaton accepts. That it tries only principals whom a simple membership names as middles loses nothing
+-- (Naming.antt), nor that it keeps the roles of a branch as a set of places.
 use mathlib.Core.Path.{_≡_, refl, sym, _∙_}
 use mathlib.Core.List.{List, [], _∷_, _++_}
-use mathlib.Core.Bool.{Bool, true, false}
+use mathlib.Core.Bool.{Bool, true, false, not}
 use mathlib.Core.Option.{Option, none, some}
 use mathlib.Core.Logic.{_↔_}
-use Prim.Native.Nat.{ℕ, zero, suc, _-_, _≤_, _<_}
+use Prim.Native.Nat.{ℕ, zero, suc, _-_, _^_, _≤_, _<_}
 use native.Mathlib.Omega.{arith}
 use native.Mathlib.Numerals.{sub-one}
 use native.Mathlib.Decide.{decLt}
 use lib.ListN.{length}
+use lib.Bits.{bitOr}
 use lib.Dec.{eqb}
-use borrow.Author.Tests.{ne-eqb, lt-leb, le-leb, le-ltb}
-use Rattle.sets.specs.Logic.{_and_, pick}
-use Rattle.table.specs.Limits.{mostPrincipals}
-use Rattle.table.specs.Layout.{automata, credential, credentials}
+use borrow.Author.Tests.{eq-eqb, eqb-true, ne-eqb, lt-leb, le-leb, le-ltb}
+use Rattle.sets.specs.Logic.{_and_, _or_, anyBelow, pick}
+use Rattle.table.specs.Layout.{automata, credential, credentials, sameRole}
 use Rattle.table.specs.Holding.{WellFormed}
 use Rattle.table.specs.Checks.{within}
 use Rattle.table.specs.declared.Role.{Role}
 use Rattle.table.specs.declared.Goal.{Goal}
 use Rattle.table.specs.declared.Query.{Query}
-use Rattle.sets.proofs.Tests.{and-both, and-first, and-second, and-true, any-reached, any-shows, false-true}
+use Rattle.sets.proofs.Tests.{and-both, and-first, and-second, and-true, any-reached, any-shows, false-true, same-test}
 use Rattle.sets.specs.Sets.{inSet, meets, part}
 use Rattle.automata.specs.Automata.{accepts, acceptsFrom, starting}
-use Rattle.automata.specs.Together.{acceptingSet, movedSets}
+use Rattle.automata.specs.Together.{acceptingSet, startingSets}
 use Rattle.automata.specs.declared.StateSets.{StateSets}
-use Rattle.sets.proofs.Members.{part-member, part-shown, setOf-members}
+use Rattle.sets.proofs.Members.{inSet-or, inSet-pow, inSet-zero, part-member, part-shown, setOf-members}
 use Rattle.automata.proofs.Moves.{run-empty}
 use Rattle.derivation.specs.Rules.{fresh, goalOf, premises}
 use Rattle.derivation.specs.Forest.{Derives, Forest, names}
 use Rattle.derivation.specs.Forest.Forest.{end, node}
 use Rattle.derivation.specs.Forest.Derives.{done, step}
 use Rattle.derivation.specs.Words.{acceptsAll, words}
-use Rattle.search.specs.Search.{Provable, UsesOnly, everyGoal, mayUse, provable, provedPremises, proves, provesBy, tries}
+use Rattle.members.specs.Places.{isPerson, roleAt}
+use Rattle.members.specs.Trying.{everyGoal, mayUse, provedPremises, provesBy}
+use Rattle.members.proofs.Places.{place-same, role-defined, same-place}
+use Rattle.search.specs.Search.{Provable, UsesOnly, provable, proves, stepped}
 use Rattle.derivation.proofs.Applying.{applies-numbered, applies-role, asks-more, picked}
 use Rattle.derivation.proofs.Ruling.{asks-nothing}
 use Rattle.derivation.proofs.Using.{placed}
 use Rattle.derivation.proofs.Running.{accepting-member, accepts-all-append, sets-after-next, sets-after-none, setsAfter}
-use Rattle.search.proofs.Naming.{middle-tried}
+use Rattle.search.proofs.Naming.{Tried, middle-tried, tried-proves}
 use Rattle.search.proofs.Within.{only-below, only-here, only-later, only-node}
 
 -- an automaton that the table does not have starts in no state, so it accepts no word
@@ -63,14 +67,72 @@ accepting-exact t wf word k = go (decLt k (automata t))
 abbrev pub AllAccept : List ℕ → ℕ → List (List Role) → Type 0
 AllAccept t A ws = (k : ℕ) → inSet A k ≡ true → acceptsAll t (suc k) ws ≡ true
 
-module _ (t : List ℕ) (wf : WellFormed t) (A : ℕ) (word : List Role) where
-  one-word : part A (acceptingSet t (setsAfter t word)) ≡ true → AllAccept t A (word ∷ [])
-  unfolding acceptsAll
-  one-word all k h = and-true _ ∙ sym (accepting-exact t wf word k) ∙ part-member A _ k all h
+-- where automata are imposed, they have come to the state sets s along the word
+abbrev Led : List ℕ → ℕ → StateSets → List Role → Type 0
+Led t A s word = (A ≡ 0 → ⊥) → s ≡ setsAfter t word
 
-  one-word-demanded : AllAccept t A (word ∷ []) → part A (acceptingSet t (setsAfter t word)) ≡ true
+led-on : (t : List ℕ) (A : ℕ) (s : StateSets) (w : List Role) (r : Role) → Led t A s w
+    → Led t A (stepped t A r s) (w ++ (r ∷ []))
+unfolding stepped pick
+led-on t A s w r led asked = rw (ne-eqb A 0 asked, led asked) (sets-after-next t w r)
+
+-- an imposed automaton is one of some
+imposed : (A k : ℕ) → inSet A k ≡ true → A ≡ 0 → ⊥
+imposed A k h empty = false-true (sym (inSet-zero k) ∙ rw empty at h)
+
+module _ (t : List ℕ) (wf : WellFormed t) (A : ℕ) (s : StateSets) (word : List Role) (led : Led t A s word) where
+  led-accepts : (k : ℕ) → inSet A k ≡ true → inSet (acceptingSet t s) k ≡ acceptsAll t (suc k) (word ∷ [])
   unfolding acceptsAll
-  one-word-demanded all = part-shown A _ (λ k h. accepting-exact t wf word k ∙ sym (and-true _) ∙ all k h)
+  led-accepts k h = rw (led (imposed A k h)) (accepting-exact t wf word k ∙ sym (and-true _))
+
+  one-word : part A (acceptingSet t s) ≡ true → AllAccept t A (word ∷ [])
+  one-word all k h = sym (led-accepts k h) ∙ part-member A _ k all h
+
+  one-word-demanded : AllAccept t A (word ∷ []) → part A (acceptingSet t s) ≡ true
+  one-word-demanded all = part-shown A _ (λ k h. led-accepts k h ∙ all k h)
+
+-- a set of places has just the roles that stand on the branch
+abbrev pub OnBranch : List ℕ → List Goal → ℕ → Type 0
+OnBranch t branch above =
+    (g : Goal) → roleAt t (g .role) < credentials t → fresh branch g ≡ not (inSet above (roleAt t (g .role)))
+
+on-none : (t : List ℕ) → OnBranch t [] 0
+unfolding fresh
+on-none t g there = rw (inSet-zero (roleAt t (g .role)))
+
+-- two roles, the second of which is defined, are the same exactly where they stand at one place
+same-eqb : (t : List ℕ) (r s : Role) → roleAt t s < credentials t → sameRole r s ≡ eqb (roleAt t r) (roleAt t s)
+unfolding sameRole
+same-eqb t r s there =
+    same-test _ _ (λ same. eq-eqb _ _ (same-place t r s same))
+    (λ e.
+    let at = eqb-true (roleAt t r) (roleAt t s) e in
+    let same = place-same t r s at (rw at there) in
+    rw same (and-both (eq-eqb (s .owner .0) (s .owner .0) refl) (eq-eqb (s .name .0) (s .name .0) refl)))
+
+on-next : (t : List ℕ) (branch : List Goal) (above : ℕ) (g : Goal) → OnBranch t branch above
+    → OnBranch t (g ∷ branch) (bitOr above (2 ^ roleAt t (g .role)))
+unfolding fresh _and_ _or_
+on-next t branch above g on h there =
+    rw (
+      inSet-or above (2 ^ roleAt t (g .role)) (roleAt t (h .role)),
+      inSet-pow (roleAt t (g .role)) (roleAt t (h .role)),
+      same-eqb t (g .role) (h .role) there,
+      on h there,
+    )
+    (apart (inSet above (roleAt t (h .role))) (eqb (roleAt t (g .role)) (roleAt t (h .role))))
+  where
+    apart : (a b : Bool) → (not b and not a) ≡ not (a or b)
+    apart true true = refl
+    apart true false = refl
+    apart false true = refl
+    apart false false = refl
+
+-- the role of a goal that a credential of the table may prove is defined
+used-defined : (t : List ℕ) (S : ℕ) (g : Goal) (c : ℕ) → c < credentials t → mayUse t S g (suc c) ≡ true
+    → roleAt t (g .role) < credentials t
+unfolding mayUse
+used-defined t S g c there h = role-defined t (g .role) c there (and-second _ _ h)
 
 module _ (t : List ℕ) (A : ℕ) (ws more : List (List Role)) where
   accept-both : AllAccept t A ws → AllAccept t A more → AllAccept t A (ws ++ more)
@@ -173,101 +235,122 @@ module _ (t : List ℕ) (wf : WellFormed t) (S A : ℕ) where
           shown-node levels branch w g c m (asked ∷ goals) [] applies new own
           (below .forest) (below .derives) (below .usesOnly) (rw nonzero (below .accepted)) (shown-none (suc levels) branch w)
 
-      through-shown : provesBy t S one word g c ≡ true → Shown t S A (suc levels) branch w (g ∷ [])
-      unfolding provesBy
-      through-shown h =
-          let by = any-shows _ (suc mostPrincipals) h in
-          premises-shown (by .0) (premises t g c (by .0)) refl (and-second _ _ (by .2))
+      through-shown : provesBy t one word g c ≡ true → Shown t S A (suc levels) branch w (g ∷ [])
+      unfolding provesBy pick
+      through-shown h = go (eqb (credential t c .kind) 3) h
+        where
+          tries : ℕ → Bool
+          tries j = isPerson t j and provedPremises one word (premises t g c (credential t (suc j) .first))
 
-  -- what the search finds is shown; the automata have come to the state sets s along the word w
-  proves-shown : (levels : ℕ) (branch : List Goal) (w : List Role) (s : StateSets) → s ≡ setsAfter t w
-      → (g : Goal) → proves t S A levels branch s g ≡ true → Shown t S A levels branch w (g ∷ [])
+          go : (linking : Bool) → pick linking (anyBelow tries (credentials t)) (provedPremises one word (premises t g c 0)) ≡ true
+              → Shown t S A (suc levels) branch w (g ∷ [])
+          go true found =
+              let by = any-shows tries (credentials t) found in
+              premises-shown _ _ refl (and-second _ _ (by .2))
+          go false found = premises-shown 0 (premises t g c 0) refl found
+
+  -- what the search finds is shown; roles stand on the branch at the places `above`, and the automata have come to the state sets s
+  -- along the word w
+  proves-shown : (levels : ℕ) (branch : List Goal) (above : ℕ) → OnBranch t branch above
+      → (w : List Role) (s : StateSets) → Led t A s w
+      → (g : Goal) → proves t S A levels above s g ≡ true → Shown t S A levels branch w (g ∷ [])
   unfolding proves mayUse
-  proves-shown zero branch w s led g h = absurd (false-true h)
-  proves-shown (suc levels) branch w s led g h =
+  proves-shown zero branch above on w s led g h = absurd (false-true h)
+  proves-shown (suc levels) branch above on w s led g h =
       let by = any-shows _ (credentials t) (and-second _ _ h) in
       let word = w ++ (g .role ∷ []) in
-      let below = movedSets t (g .role) s in
-      let led-on : below ≡ setsAfter t word = rw led (sets-after-next t w (g .role)) in
-      through-shown levels branch w g (suc (by .0)) (and-first _ _ h) (and-first _ _ (and-first _ _ (by .2)))
-      (proves t S A levels (g ∷ branch) below) (proves-shown levels (g ∷ branch) word below led-on)
-      (part A (acceptingSet t below)) (λ all. one-word t wf A word (rw led-on at all))
+      let below = stepped t A (g .role) s in
+      let after = led-on t A s w (g .role) led in
+      let deeper = bitOr above (2 ^ roleAt t (g .role)) in
+      let defined = used-defined t S g (by .0) (by .1) (and-first _ _ (by .2)) in
+      through-shown levels branch w g (suc (by .0)) (on g defined ∙ and-first _ _ h) (and-first _ _ (and-first _ _ (by .2)))
+      (proves t S A levels deeper below)
+      (proves-shown levels (g ∷ branch) deeper (on-next t branch above g on) word below after)
+      (part A (acceptingSet t below)) (one-word t wf A below word after)
       (and-second _ _ (by .2))
 
   -- a goal is proved through a credential of the set that applies to it, once its premises are
-  proves-through : (levels : ℕ) (branch : List Goal) (s : StateSets) (g : Goal) (c m : ℕ) (goals : List Goal)
-      → premises t g c m ≡ some goals → fresh branch g ≡ true → inSet S (c - 1) ≡ true
-      → (tries t S c m ≡ true) × (m ≤ mostPrincipals)
-      → let below = movedSets t (g .role) s in
-      let each = everyGoal (proves t S A levels (g ∷ branch) below) goals in
+  proves-through : (levels : ℕ) (above : ℕ) (s : StateSets) (g : Goal) (c m : ℕ) (goals : List Goal)
+      → premises t g c m ≡ some goals → not (inSet above (roleAt t (g .role))) ≡ true → inSet S (c - 1) ≡ true → Tried t c m
+      → let below = stepped t A (g .role) s in
+      let each = everyGoal (proves t S A levels (bitOr above (2 ^ roleAt t (g .role))) below) goals in
       pick (eqb (length goals) 0) (part A (acceptingSet t below)) each ≡ true
-      → proves t S A (suc levels) branch s g ≡ true
-  unfolding proves provesBy mayUse provedPremises premises
-  proves-through levels branch s g c m goals applies new own (tried, few) below =
+      → proves t S A (suc levels) above s g ≡ true
+  unfolding proves mayUse provedPremises premises
+  proves-through levels above s g c m goals applies new own tried below =
       let there = applies-numbered t g c m goals applies in
       let at = placed there in
       let defines = and-second _ _ (picked _ _ goals applies .0) in
       and-both new
       (any-reached _ (credentials t) (c - 1) (at .0)
-      (rw (at .1)
-      (and-both (and-both own defines) (any-reached _ (suc mostPrincipals) m (omega arith) (and-both tried (rw applies below))))))
+      (rw (at .1) (and-both (and-both own defines) (tried-proves t _ _ g c m tried (rw applies below)))))
 
   -- where every automaton of A accepts a node's words, the search accepts what the node asks
-  node-accepted : (goals : List Goal) (one : Goal → Bool) (s : StateSets) (word : List Role) (f : Forest) → s ≡ setsAfter t word
+  node-accepted : (goals : List Goal) (one : Goal → Bool) (s : StateSets) (word : List Role) (f : Forest) → Led t A s word
       → AllAccept t A (nodeWords t goals word f) → (AllAccept t A (words t word f) → everyGoal one goals ≡ true)
       → pick (eqb (length goals) 0) (part A (acceptingSet t s)) (everyGoal one goals) ≡ true
   unfolding nodeWords pick
-  node-accepted [] one s word f led all below = rw led (one-word-demanded t wf A word all)
+  node-accepted [] one s word f led all below = one-word-demanded t wf A s word led all
   node-accepted (h ∷ goals) one s word f led all below =
       let nonzero = ne-eqb (suc (length goals)) 0 (λ e. omega arith) in
       rw nonzero (below (rw nonzero at all))
 
+  -- the role of a goal to which a credential applies is defined
+  applies-defined : (g : Goal) (c m : ℕ) (goals : List Goal) → premises t g c m ≡ some goals → roleAt t (g .role) < credentials t
+  unfolding premises
+  applies-defined g c m goals applies =
+      let at = placed (applies-numbered t g c m goals applies) in
+      role-defined t (g .role) (c - 1) (at .0) (rw (at .1) (and-second _ _ (picked _ _ goals applies .0)))
+
+  -- what a forest derives is found, below any branch, set of places, word and state sets that belong together
+  abbrev Found : ℕ → List Goal → List Goal → Forest → Type 0
+  Found levels branch goals f =
+      (above : ℕ) → OnBranch t branch above → (w : List Role) (s : StateSets) → Led t A s w → AllAccept t A (words t w f)
+      → everyGoal (proves t S A levels above s) goals ≡ true
+
   -- a node is found, once what it asks is
-  node-proves : {levels : ℕ} {branch goals : List Goal} {f : Forest} (w : List Role) (s : StateSets) (g : Goal) (c m : ℕ)
+  node-proves : {levels : ℕ} {branch goals : List Goal} {f : Forest} (above : ℕ) → OnBranch t branch above
+      → (w : List Role) (s : StateSets) (g : Goal) (c m : ℕ)
       → premises t g c m ≡ some goals → fresh branch g ≡ true → inSet S (c - 1) ≡ true → Derives t levels (g ∷ branch) goals f
-      → UsesOnly f S → s ≡ setsAfter t w → AllAccept t A (nodeWords t goals (w ++ (g .role ∷ [])) f)
-      → ((word : List Role) (below : StateSets) → below ≡ setsAfter t word → AllAccept t A (words t word f)
-      → everyGoal (proves t S A levels (g ∷ branch) below) goals ≡ true)
-      → proves t S A (suc levels) branch s g ≡ true
-  node-proves {levels} {branch} {goals} {f} w s g c m applies new own d only led all each =
+      → Led t A s w → AllAccept t A (nodeWords t goals (w ++ (g .role ∷ [])) f)
+      → Found levels (g ∷ branch) goals f
+      → proves t S A (suc levels) above s g ≡ true
+  node-proves {levels} {branch} {goals} {f} above on w s g c m applies new own d led all each =
       let word = w ++ (g .role ∷ []) in
-      let below = movedSets t (g .role) s in
-      let led-on : below ≡ setsAfter t word = rw led (sets-after-next t w (g .role)) in
-      proves-through levels branch s g c m goals applies new own (middle-tried wf S g c m goals applies d only)
-      (node-accepted goals _ below word f led-on all (each word below led-on))
+      let below = stepped t A (g .role) s in
+      let after = led-on t A s w (g .role) led in
+      let deeper = bitOr above (2 ^ roleAt t (g .role)) in
+      proves-through levels above s g c m goals applies (sym (on g (applies-defined g c m goals applies)) ∙ new) own
+      (middle-tried wf g c m goals applies d)
+      (node-accepted goals _ below word f after all (each deeper (on-next t branch above g on) word below after))
 
   -- what is derived is found
   derived-proves : {levels : ℕ} {branch goals : List Goal} {f : Forest} → Derives t levels branch goals f → UsesOnly f S
-      → (w : List Role) (s : StateSets) → s ≡ setsAfter t w → AllAccept t A (words t w f)
-      → everyGoal (proves t S A levels branch s) goals ≡ true
+      → Found levels branch goals f
   unfolding everyGoal
-  derived-proves done only w s led all = refl
-  derived-proves (step {c = c} {m = m} {goals = goals} {g = g} {children = ch} {siblings = si} applies new d later) only w s led all =
-      let below = only-below S c m ch si only in
+  derived-proves done only above on w s led all = refl
+  derived-proves (step {c = c} {m = m} {goals = goals} {g = g} {children = ch} {siblings = si} applies new d later)
+      only above on w s led all =
       let each = words-split t wf A g c m goals applies w ch si all in
+      let below = derived-proves d (only-below S c m ch si only) in
       and-both
-      (node-proves w s g c m applies new (only-here S c m ch si only) d below led (each .0) (derived-proves d below))
-      (derived-proves later (only-later S c m ch si only) w s led (each .1))
-
-  -- the search, at any level, below any branch and after any word
-  pub proves-exact : (levels : ℕ) (branch : List Goal) (w : List Role) (g : Goal)
-      → (proves t S A levels branch (setsAfter t w) g ≡ true) ↔ Shown t S A levels branch w (g ∷ [])
-  unfolding everyGoal
-  proves-exact levels branch w g = (
-    proves-shown levels branch w (setsAfter t w) refl g,
-    (λ h. and-first _ _ (derived-proves (h .derives) (h .usesOnly) w (setsAfter t w) refl (h .accepted))),
-  )
+      (node-proves above on w s g c m applies new (only-here S c m ch si only) d led (each .0) below)
+      (derived-proves later (only-later S c m ch si only) above on w s led (each .1))
 
 module _ (t : List ℕ) (wf : WellFormed t) (q : Query) where
   pub provable-exact : (S A : ℕ) → (provable t q S A ≡ true) ↔ Provable t q S A
-  unfolding provable
-  provable-exact S A =
-      let exact = rw (sets-after-none t) at (proves-exact t wf S A (q .depth) [] [] (goalOf q)) in (
-        (λ h.
-            let found = exact .0 h in
-            record { forest = found .forest; derives = found .derives; usesOnly = found .usesOnly; accepted = found .accepted }),
-        (λ h. exact .1 (record { forest = h .forest; derives = h .derives; usesOnly = h .usesOnly; accepted = h .accepted })),
-      )
+  unfolding provable everyGoal
+  provable-exact S A = (
+    (λ h.
+        let found = proves-shown t wf S A (q .depth) [] 0 (on-none t) [] (startingSets t) starts (goalOf q) h in
+        record { forest = found .forest; derives = found .derives; usesOnly = found .usesOnly; accepted = found .accepted }),
+    (λ h.
+        let all = derived-proves t wf S A (h .derives) (h .usesOnly) 0 (on-none t) [] (startingSets t) starts (h .accepted) in
+        and-first _ _ all),
+  )
+    where
+      starts : Led t A (startingSets t) []
+      starts asked = sym (sets-after-none t)
 
   pub provable-by : (S A : ℕ) {f : Forest} → Derives t (q .depth) [] (goalOf q ∷ []) f → UsesOnly f S
       → AllAccept t A (words t [] f)

@@ -1,172 +1,294 @@
--- Laws of the search: over the goals that a credential asks, and over the credentials.
+-- The steps of the search's loops, over plain variables: from credential to credential, from part to part, from middle to middle.
 use mathlib.Core.Path.{_≡_, refl, sym, ap, ap₂, _∙_}
-use mathlib.Core.List.{List, [], _∷_}
-use mathlib.Core.Bool.{Bool, true, false}
-use mathlib.Core.Option.{some}
-use Prim.Native.Nat.{ℕ, zero, suc, _+_, _-_, _<_, _≤_}
+use mathlib.Core.List.{List}
+use mathlib.Core.Bool.{Bool, true, false, not}
+use mathlib.Core.Logic.{_⊎_}
+use Prim.Native.Nat.{ℕ, zero, suc, _+_, _-_, _^_, _<_}
 use native.Mathlib.Omega.{arith}
-use native.Mathlib.Numerals.{add-one, sub-one}
-use lib.ListN.{getD, length, take}
-use lib.Seq.{length-take-le}
-use lib.Bits.{bitAnd}
+use native.Mathlib.Numerals.{sub-one}
+use lib.ListN.{getD}
+use lib.Bits.{bitAnd, bitOr}
 use lib.Dec.{eqb}
-use borrow.Author.Tests.{eqb-true, ne-eqb}
-use Rattle.sets.specs.Logic.{_and_, anyBelow, pick}
-use Rattle.table.specs.Layout.{credential, credentials, principal, sameRole}
-use Rattle.table.specs.declared.Credential.{Credential}
-use Rattle.table.specs.declared.Goal.{Goal}
-use Rattle.table.specs.declared.Query.{Query}
-use Rattle.sets.proofs.Tests.{and-both, and-first, and-is, and-is-off, and-none, and-on, and-second}
-use Rattle.sets.proofs.Tests.{any-all, any-next, any-reached, any-shows, false-true, refuted}
+use borrow.Author.Tests.{eq-eqb, eqb-true, lt-ltb, ne-eqb}
+use Rattle.sets.specs.Logic.{_and_, anyBelow}
 use Rattle.sets.specs.Sets.{inSet, part}
-use Rattle.automata.specs.Together.{acceptingSet, movedSets, startingSets}
+use Rattle.sets.proofs.Tests.{and-both, and-is, and-is-off, and-none, and-second, any-all, any-next, any-not, any-reached}
+use Rattle.sets.proofs.Tests.{any-shows, failed, passed, same-test}
+use Rattle.sets.proofs.Members.{inSet-and}
+use Rattle.table.specs.Layout.{credential, credentials, principal, role, sameRole}
+use Rattle.table.specs.declared.Role.{Role}
+use Rattle.table.specs.declared.Goal.{Goal}
+use Rattle.automata.specs.Together.{acceptingSet}
 use Rattle.automata.specs.declared.StateSets.{StateSets}
-use Rattle.derivation.specs.Rules.{fresh, goal, goalOf}
-use Rattle.derivation.specs.Held.{noGoal}
-use Rattle.derivation.proofs.Applying.{same-role}
-use Rattle.search.specs.Search.{askedBefore, everyGoal, mayUse, provable, provedPremises, proves, provesBy, sameGoal}
+use Rattle.derivation.specs.Rules.{goal}
+use Rattle.members.specs.Places.{isPerson, roleAt}
+use Rattle.members.specs.Trying.{mayUse, provesBy}
+use Rattle.members.specs.Members.{askedCell, lesser, linkCell, roleCell, rowCell}
+use Rattle.members.specs.Levels.{askedMask, askedMembers}
+use Rattle.members.proofs.Places.{place-same, same-place}
+use Rattle.search.proofs.Placing.{cell-middles, cell-parts, first-cell, linkedRole, middle-unlisted, middleTried}
+use Rattle.search.proofs.Placing.{part-cell, part-unlisted, partMissed, partRole, provesOwn, second-cell, stands-at}
+use Rattle.search.specs.Search.{Searched, Stands, Tried, askedBefore, goalAt, proves, provesAt, stepped, usable}
 
--- the goals that a credential asks
+-- credential c + 1 may be used for the goal and proves it
+abbrev pub provesWith : List ℕ → ℕ → (Goal → Bool) → Bool → Goal → ℕ → Bool
+provesWith t S one word g = λ c. mayUse t S g (suc c) and provesBy t one word g (suc c)
 
-pub same-goal : (g h : Goal) → sameGoal g h ≡ true → g ≡ h
-unfolding sameGoal
-same-goal g h e =
-    let principals = eqb-true (g .principal .0) (h .principal .0) (and-first _ _ e) in
-    ap₂ goal (ap principal principals) (same-role (g .role) (h .role) (and-second _ _ e))
-
--- the search among the goals before goal i
-abbrev pub isNamed : List Goal → ℕ → ℕ → Bool
-isNamed goals i = λ j. sameGoal (getD goals j noGoal) (getD goals i noGoal)
-
-pub asked-here : (goals : List Goal) (i j : ℕ) → j < i → isNamed goals i j ≡ true → true ≡ askedBefore goals i
-unfolding askedBefore
-asked-here goals i j l h = sym (any-reached (isNamed goals i) i j l h)
-
-pub asked-nowhere : (goals : List Goal) (i j : ℕ) → j ≡ i → anyBelow (isNamed goals i) j ≡ false → false ≡ askedBefore goals i
-unfolding askedBefore
-asked-nowhere goals i j e h = sym (any-all (isNamed goals i) j i e h)
-
--- the first goals are proved, each of them
-every-at : (one : Goal → Bool) (goals : List Goal) (n j : ℕ) → everyGoal one (take n goals) ≡ true → j < n → n ≤ length goals
-    → one (getD goals j noGoal) ≡ true
-unfolding everyGoal
-every-at one [] n j h l fits = absurd (omega arith)
-every-at one (g ∷ goals) zero j h l fits = absurd (omega arith)
-every-at one (g ∷ goals) (suc n) zero h l fits = and-first (one g) _ h
-every-at one (g ∷ goals) (suc n) (suc j) h l fits = every-at one goals n j (and-second (one g) _ h) (omega arith) (omega arith)
-
-every-next : (one : Goal → Bool) (goals : List Goal) (i : ℕ) → i < length goals → everyGoal one (take i goals) ≡ true
-    → one (getD goals i noGoal) ≡ true → everyGoal one (take (suc i) goals) ≡ true
-unfolding everyGoal
-every-next one [] i l h e = absurd (omega arith)
-every-next one (g ∷ goals) zero l h e = and-both e refl
-every-next one (g ∷ goals) (suc i) l h e =
-    and-both (and-first (one g) _ h) (every-next one goals i (omega arith) (and-second (one g) _ h) e)
-
-module _ (one : Goal → Bool) (goals : List Goal) (i : ℕ) (there : i < length goals)
-    (before : everyGoal one (take i goals) ≡ true) where
-  pub every-more : one (getD goals i noGoal) ≡ true → everyGoal one (take (i + 1) goals) ≡ true
-  every-more here = rw (add-one i) (every-next one goals i there before here)
-
-  -- a goal that was asked before is proved with it
-  pub every-asked : askedBefore goals i ≡ true → everyGoal one (take (i + 1) goals) ≡ true
-  unfolding askedBefore
-  every-asked asked =
-      let found = any-shows (isNamed goals i) i asked in
-      let same = same-goal (getD goals (found .0) noGoal) (getD goals i noGoal) (found .2) in
-      every-more (sym (ap one same) ∙ every-at one goals i (found .0) before (found .1) (omega arith))
-
--- what a credential asks is proved, or not, by the first `len` of the goals that the code holds
-module _ (one : Goal → Bool) (word : Bool) (goals : List Goal) (len : ℕ) where
-  proved-word : len ≡ 0 → word ≡ provedPremises one word (some (take len goals))
-  unfolding provedPremises pick
-  proved-word none = rw none
-
-  module _ (more : len ≡ 0 → ⊥) (fits : len ≤ length goals) where
-    proved-goals : {b : Bool} → everyGoal one (take len goals) ≡ b → b ≡ provedPremises one word (some (take len goals))
-    unfolding provedPremises pick
-    proved-goals e =
-        let size = length-take-le len goals fits in
-        rw (ne-eqb (length (take len goals)) 0 (λ z. more (sym size ∙ z))) (sym e)
-
-    pub proved-all : (i : ℕ) → i ≡ len → everyGoal one (take i goals) ≡ true
-        → true ≡ provedPremises one word (some (take len goals))
-    proved-all i e each = proved-goals (rw e at each)
-
-    pub proved-not : (i : ℕ) → i < len → one (getD goals i noGoal) ≡ false
-        → false ≡ provedPremises one word (some (take len goals))
-    proved-not i l unproved =
-        proved-goals (refuted _ (λ each. false-true (sym unproved ∙ every-at one goals len i each l fits)))
-
--- a word ends where nothing is asked, and each of the automata A accepts it
-pub word-proved : (t : List ℕ) (A accepting : ℕ) (s : StateSets) (one : Goal → Bool) (goals : List Goal) (len : ℕ)
-    → accepting ≡ acceptingSet t s → len ≡ 0
-    → eqb (bitAnd A accepting) A ≡ provedPremises one (part A (acceptingSet t s)) (some (take len goals))
-unfolding part
-word-proved t A accepting s one goals len e none =
-    ap (λ x. eqb (bitAnd A x) A) e ∙ proved-word one (part A (acceptingSet t s)) goals len none
-
--- the credentials
-
--- a credential that is in the set, and whether it defines the goal's role; the code has read it as x
-pub uses-role : (t : List ℕ) (S : ℕ) (g : Goal) (c : ℕ) (x : Credential) {same : Bool} → same ≡ sameRole (x .role) (g .role)
-    → x ≡ credential t c → inSet S (c - 1) ≡ true → same ≡ mayUse t S g c
-unfolding mayUse
-uses-role t S g c x e read member = e ∙ ap (λ (y : Credential). sameRole (y .role) (g .role)) read ∙ and-on member
-
-abbrev pub provesAt : List ℕ → ℕ → (Goal → Bool) → Bool → Goal → ℕ → Bool
-provesAt t S one word g = λ c. mayUse t S g (suc c) and provesBy t S one word g (suc c)
-
--- the next credential, number i + 1, proves the goal, or it may not be used, or it does not
-module _ (t : List ℕ) (S : ℕ) (one : Goal → Bool) (word : Bool) (g : Goal) (i : ℕ) {may : Bool}
-    (told : may ≡ mayUse t S g (i + 1)) where
-  pub proves-here : (n : ℕ) {by : Bool} → i < n → may ≡ true → by ≡ provesBy t S one word g (i + 1) → by ≡ true
-      → anyBelow (provesAt t S one word g) n ≡ true
-  proves-here n l on e proved =
-      any-reached (provesAt t S one word g) n i l
-      (and-both (rw (add-one i) at (sym told ∙ on)) (rw (add-one i) at (sym e ∙ proved)))
-
-  module _ (before : anyBelow (provesAt t S one word g) i ≡ false) where
-    pub unused-next : may ≡ false → anyBelow (provesAt t S one word g) (i + 1) ≡ false
-    unused-next off = any-next (provesAt t S one word g) i before (and-is-off _ (rw (add-one i) at (sym told ∙ off)))
-
-    pub unproved-next : {by : Bool} → by ≡ provesBy t S one word g (i + 1) → by ≡ false
-        → anyBelow (provesAt t S one word g) (i + 1) ≡ false
-    unproved-next e not-by = any-next (provesAt t S one word g) i before (and-none _ (rw (add-one i) at (sym e ∙ not-by)))
-
--- a goal has been entered: a level is left, it is new on the branch, and the branch and the state sets are one step on
-pub record Entered (t : List ℕ) (levels : ℕ) (branch branch′ : List Goal) (s s′ : StateSets) (g : Goal) : Type 0 where
-  pub left : levels ≡ 0 → ⊥
-  pub new : fresh branch g ≡ true
-  pub deeper : branch′ ≡ g ∷ branch
-  pub moved : s′ ≡ movedSets t (g .role) s
-
-step-down : (t : List ℕ) (S A levels : ℕ) (branch : List Goal) (s : StateSets) (g : Goal) → (levels ≡ 0 → ⊥)
-    → let below = movedSets t (g .role) s in
-    let one = proves t S A (levels - 1) (g ∷ branch) below in
-    (fresh branch g and anyBelow (provesAt t S one (part A (acceptingSet t below)) g) (credentials t))
-    ≡ proves t S A levels branch s g
+-- levels are left: the goal is decided one level further down
+step-down : (t : List ℕ) (S A levels above : ℕ) (s : StateSets) (g : Goal) → (levels ≡ 0 → ⊥)
+    → let below = stepped t A (g .role) s in
+    let one = proves t S A (levels - 1) (bitOr above (2 ^ roleAt t (g .role))) below in
+    (not (inSet above (roleAt t (g .role))) and anyBelow (provesWith t S one (part A (acceptingSet t below)) g) (credentials t))
+    ≡ proves t S A levels above s g
 unfolding proves
-step-down t S A zero branch s g some-left = absurd (some-left refl)
-step-down t S A (suc l) branch s g some-left = rw (sub-one (suc l))
+step-down t S A zero above s g left = absurd (left refl)
+step-down t S A (suc l) above s g left = rw (sub-one (suc l))
 
-module _ (t : List ℕ) (S A levels : ℕ) (branch : List Goal) (s : StateSets) (g : Goal) where
-  pub level-none : levels ≡ 0 → false ≡ proves t S A levels branch s g
-  unfolding proves
-  level-none none = rw none refl
+module _ (t : List ℕ) (S A levels above : ℕ) (s : StateSets) (person place : ℕ) (stands : Stands t person place)
+    (there : place < credentials t) (left : levels ≡ 0 → ⊥) where
+  place-step : (not (inSet above place) and anyBelow (provesWith t S
+      (proves t S A (levels - 1) (bitOr above (2 ^ place)) (stepped t A (credential t (suc place) .role) s))
+      (part A (acceptingSet t (stepped t A (credential t (suc place) .role) s))) (goalAt t person place)) (credentials t))
+      ≡ provesAt t S A levels above s person place
+  unfolding provesAt _and_ proves
+  place-step =
+      rw (lt-ltb place (credentials t) there)
+      (rw (stands .first there) at (step-down t S A levels above s (goalAt t person place) left))
 
-  pub goal-again : (levels ≡ 0 → ⊥) → fresh branch g ≡ false → false ≡ proves t S A levels branch s g
-  goal-again some-left again = sym (and-is-off _ again) ∙ step-down t S A levels branch s g some-left
+  pub place-again : inSet above place ≡ true → false ≡ provesAt t S A levels above s person place
+  place-again again = sym (and-is-off _ (ap not again)) ∙ place-step
 
-  pub goal-decided : (branch′ : List Goal) (s′ : StateSets) {b : Bool} → Entered t levels branch branch′ s s′ g
-      → anyBelow (provesAt t S (proves t S A (levels - 1) branch′ s′) (part A (acceptingSet t s′)) g) (credentials t) ≡ b
-      → b ≡ proves t S A levels branch s g
-  goal-decided branch′ s′ entered e =
-      let decided = rw (entered .moved, entered .deeper) at e in
-      sym (and-is (entered .new) decided) ∙ step-down t S A levels branch s g (entered .left)
+-- a goal is entered: a level is left, its role stands at a place that is not on the branch above, and branch and state sets are
+-- one role on
+pub record Entered (t index rows : List ℕ) (S levels last A above deeper : ℕ) (s below : StateSets) (r : Role)
+    (person place n : ℕ) : Type 0 where
+  pub searched : Searched t index rows S levels last
+  pub stands : Stands t person place
+  pub there : place < credentials t
+  pub left : levels ≡ 0 → ⊥
+  pub new : inSet above place ≡ false
+  pub read : r ≡ credential t (suc place) .role
+  pub moved : below ≡ stepped t A r s
+  pub deeper-is : deeper ≡ bitOr above (2 ^ place)
+  pub all : n ≡ credentials t
 
--- the whole search begins at the goal, with all levels left and every automaton at its start
-pub search-starts : (t : List ℕ) (q : Query) (S A levels : ℕ) (branch : List Goal) (s : StateSets) (g : Goal) → levels ≡ q .depth
-    → branch ≡ [] → s ≡ startingSets t → g ≡ goalOf q → proves t S A levels branch s g ≡ provable t q S A
-unfolding provable
-search-starts t q S A levels branch s g all-levels nothing starts asked = rw (all-levels, nothing, starts, asked)
+module _ {t index rows : List ℕ} {S levels last A above deeper : ℕ} {s below : StateSets} {r : Role}
+    {person place n : ℕ} (entered : Entered t index rows S levels last A above deeper s below r person place n) where
+  -- credential c + 1 may be used for it and proves it
+  abbrev tries : ℕ → Bool
+  tries =
+      provesWith t S (proves t S A (levels - 1) deeper below) (part A (acceptingSet t below)) (goalAt t person place)
+
+  decided : {b : Bool} → anyBelow tries n ≡ b → b ≡ provesAt t S A levels above s person place
+  decided e =
+      sym (and-is (ap not (entered .new)) (rw (entered .moved, entered .read, entered .deeper-is, entered .all) at e))
+      ∙ place-step t S A levels above s person place (entered .stands) (entered .there) (entered .left)
+
+  -- each credential has been tried
+  pub none-proves : (i : ℕ) → i ≡ n → anyBelow tries i ≡ false → false ≡ provesAt t S A levels above s person place
+  none-proves i e none = decided (any-all _ i n e none)
+
+  -- credential i + 1 may be used if it is allowed and defines the role
+  module _ (i : ℕ) (l : i < n) {may : Bool} (told : may ≡ usable index S place i) where
+    cell : getD index (roleCell i) 0 ≡ roleAt t (credential t (suc i) .role)
+    cell = entered .searched .indexed .defined i (omega (arith, entered .all))
+
+    at : roleAt t (credential t (suc place) .role) ≡ place
+    at = entered .stands .first (entered .there)
+
+    same-role : eqb (getD index (roleCell i) 0) place ≡ true → credential t (suc i) .role ≡ credential t (suc place) .role
+    same-role e =
+        let places = sym cell ∙ eqb-true _ _ e ∙ sym at in
+        place-same t _ _ places (rw (places, at) (entered .there))
+
+    same-at : sameRole (credential t (suc i) .role) (credential t (suc place) .role) ≡ eqb (getD index (roleCell i) 0) place
+    unfolding sameRole
+    same-at =
+        same-test _ _ (λ same. eq-eqb _ _ (cell ∙ same-place t _ _ same ∙ at)) (λ e.
+        let r = credential t (suc place) .role in
+        rw (same-role e) (and-both (eq-eqb (r .owner .0) _ refl) (eq-eqb (r .name .0) _ refl)))
+
+    may-is : may ≡ mayUse t S (goalAt t person place) (suc i)
+    unfolding usable mayUse
+    may-is = rw (sub-one (suc i), same-at) told
+
+    abbrev proved-by : Role → Bool
+    proved-by r =
+        provesBy t (proves t S A (levels - 1) deeper below) (part A (acceptingSet t below))
+        (goal (principal (credential t (suc person) .first)) r) (suc i)
+
+    pub unused-next : anyBelow tries i ≡ false → may ≡ false → anyBelow tries (i + 1) ≡ false
+    unused-next before off = any-next tries i before (and-is-off _ (sym may-is ∙ off))
+
+    module _ (on : may ≡ true) {by : Bool} (e : by ≡ proved-by (credential t (suc i) .role)) where
+      by-is : by ≡ proved-by (credential t (suc place) .role)
+      unfolding usable
+      by-is = e ∙ ap proved-by (same-role (and-second _ _ (sym told ∙ on)))
+
+      pub proves-here : by ≡ true → true ≡ provesAt t S A levels above s person place
+      proves-here proved = decided (any-reached tries n i l (and-both (sym may-is ∙ on) (sym by-is ∙ proved)))
+
+      pub unproved-next : anyBelow tries i ≡ false → by ≡ false → anyBelow tries (i + 1) ≡ false
+      unproved-next before off = any-next tries i before (and-none _ (sym by-is ∙ off))
+
+-- the search among the roles before role k
+pub asked-here : (index : List ℕ) (i k j : ℕ) → j < k → getD index (askedCell i j) 0 ≡ getD index (askedCell i k) 0
+    → true ≡ askedBefore index i k
+unfolding askedBefore
+asked-here index i k j l same = sym (any-reached _ k j l (eq-eqb _ _ same))
+
+pub asked-nowhere : (index : List ℕ) (i k j : ℕ) → j ≡ k
+    → anyBelow (λ j. eqb (getD index (askedCell i j) 0) (getD index (askedCell i k) 0)) j ≡ false → false ≡ askedBefore index i k
+unfolding askedBefore
+asked-nowhere index i k j e none = sym (any-all _ j k e none)
+
+pub asked-next : (index : List ℕ) (i k j : ℕ) {one other : ℕ}
+    → anyBelow (λ j. eqb (getD index (askedCell i j) 0) (getD index (askedCell i k) 0)) j ≡ false
+    → one ≡ getD index (askedCell i j) 0 → other ≡ getD index (askedCell i k) 0 → (one ≡ other → ⊥)
+    → anyBelow (λ j. eqb (getD index (askedCell i j) 0) (getD index (askedCell i k) 0)) (j + 1) ≡ false
+asked-next index i k j before here there differ =
+    any-next _ j before (ne-eqb _ _ (λ same. differ (here ∙ same ∙ sym there)))
+
+-- one of four tests fails
+missed : (p : ℕ → Bool) → ((p 0 and p 1) and (p 2 and p 3)) ≡ false → (k : ℕ) × (k < 4) × (p k ≡ false)
+missed p off = go (p 0) (p 1) (p 2) refl refl refl
+  where
+    go : (a b c : Bool) → p 0 ≡ a → p 1 ≡ b → p 2 ≡ c → (k : ℕ) × (k < 4) × (p k ≡ false)
+    go false b c e f g = (0, omega arith, e)
+    go true false c e f g = (1, omega arith, f)
+    go true true false e f g = (2, omega arith, g)
+    go true true true e f g = (3, omega arith, sym (and-is (and-both e f) (and-is g refl)) ∙ off)
+
+-- whoever is not in all four masks is missing in one of them
+mask-missed : (index rows : List ℕ) (level i person : ℕ) → inSet (askedMembers index rows level i) person ≡ false
+    → (k : ℕ) × (k < 4) × (inSet (askedMask index rows level i k) person ≡ false)
+unfolding askedMembers
+mask-missed index rows level i person off =
+    let a = askedMask index rows level i 0 in
+    let b = askedMask index rows level i 1 in
+    let c = askedMask index rows level i 2 in
+    let d = askedMask index rows level i 3 in
+    let each = inSet-and (bitAnd a b) (bitAnd c d) person ∙ ap₂ _and_ (inSet-and a b person) (inSet-and c d person) in
+    missed (λ k. inSet (askedMask index rows level i k) person) (sym each ∙ off)
+
+-- what is read of the index stands for it
+at-cell : (t : List ℕ) (S A levels above : ℕ) (s : StateSets) (person place cell : ℕ) {b : Bool} → place ≡ cell
+    → b ≡ provesAt t S A levels above s person place → b ≡ provesAt t S A levels above s person cell
+at-cell t S A levels above s person place cell read e = e ∙ ap (provesAt t S A levels above s person) read
+
+-- from part to part: the roles that a credential of kind 2 or 4 asks have places, and what is found of them decides what it
+-- proves
+module _ {t index rows : List ℕ} {S levels last : ℕ} (searched : Searched t index rows S levels last) {person i : ℕ}
+    (tried : Tried t person i) (kind : (credential t (suc i) .kind ≡ 2) ⊎ (credential t (suc i) .kind ≡ 4)) where
+  pub stands-part : (k : ℕ) → k < 4 → (place : ℕ) → place ≡ getD index (askedCell i k) 0 → Stands t person place
+  stands-part k l place e =
+      rw (e, part-cell searched tried kind k l) (stands-at t person (partRole t i k) (tried .who) (tried .named))
+
+  module _ (A above : ℕ) (s : StateSets) where
+    abbrev misses : ℕ → Bool
+    misses = partMissed index (provesAt t S A levels above s) person i
+
+    part-failed : (word : Bool) (k : ℕ) → k < 4 → provesAt t S A levels above s person (getD index (askedCell i k) 0) ≡ false
+        → false ≡ provesOwn t S A levels above s word person i
+    part-failed word k l off =
+        sym (cell-parts searched tried A above s word kind ∙ ap not (any-reached _ 4 k l (ap not off)))
+
+    pub parts-unlisted : (word : Bool) (row set : ℕ) {held : Bool} → row ≡ lesser levels last
+        → set ≡ askedMembers index rows row i → held ≡ inSet set person → not held ≡ true
+        → false ≡ provesOwn t S A levels above s word person i
+    parts-unlisted word row set the-row the-set e off =
+        let (k, l, missing) = mask-missed index rows (lesser levels last) i person (rw (the-set, the-row) at (failed e off)) in
+        part-failed word k l (part-unlisted searched tried A above s kind k l missing)
+
+    pub all-proved : (word : Bool) (k : ℕ) → k ≡ 4 → anyBelow misses k ≡ false
+        → true ≡ provesOwn t S A levels above s word person i
+    all-proved word k e none = sym (cell-parts searched tried A above s word kind ∙ ap not (any-all _ k 4 e none))
+
+    module _ (k place : ℕ) {one : Bool} (read : place ≡ getD index (askedCell i k) 0)
+        (told : one ≡ provesAt t S A levels above s person place) where
+      pub part-unproved : (word : Bool) → k < 4 → not one ≡ true → false ≡ provesOwn t S A levels above s word person i
+      part-unproved word l off =
+          part-failed word k l (failed (at-cell t S A levels above s person place _ read told) off)
+
+      pub part-proved : anyBelow misses k ≡ false → not one ≡ false → anyBelow misses (k + 1) ≡ false
+      part-proved before on =
+          any-next misses k before (ap not (passed (at-cell t S A levels above s person place _ read told) on))
+
+    -- a role that was asked before is proved with it
+    pub part-repeated : (k : ℕ) → anyBelow misses k ≡ false → askedBefore index i k ≡ true → anyBelow misses (k + 1) ≡ false
+    unfolding askedBefore
+    part-repeated k before asked =
+        let (j, l, same) = any-shows _ k asked in
+        let cells = eqb-true (getD index (askedCell i j) 0) (getD index (askedCell i k) 0) same in
+        any-next misses k before
+        (sym (ap (λ place. not (provesAt t S A levels above s person place)) cells) ∙ any-not misses k j before l)
+
+-- credential i + 1, of kind 3, is tried with the principal at j as the middle: the row told whether both are in their roles
+pub record Middle (t index rows : List ℕ) (S levels last person i row j first second : ℕ) (told : Bool) : Type 0 where
+  pub searched : Searched t index rows S levels last
+  pub tried : Tried t person i
+  pub kind : credential t (suc i) .kind ≡ 3
+  pub there : j < credentials t
+  pub row-is : row ≡ lesser levels last
+  pub first-is : first ≡ getD index (askedCell i 0) 0
+  pub second-is : second ≡ getD index (linkCell i j) 0
+  pub told-is : told
+      ≡ (inSet (getD rows (rowCell row first) 0) j and inSet (getD rows (rowCell row second) 0) person and isPerson t j)
+
+-- no middle is left
+pub linked-none : {t index rows : List ℕ} {S levels last : ℕ} → Searched t index rows S levels last → {person i : ℕ}
+    → Tried t person i → credential t (suc i) .kind ≡ 3 → (A above : ℕ) (s : StateSets) (word : Bool) (j : ℕ) → j ≡ credentials t
+    → anyBelow (middleTried t index (provesAt t S A levels above s) person i) j ≡ false
+    → false ≡ provesOwn t S A levels above s word person i
+linked-none searched tried kind A above s word j e none =
+    sym (cell-middles searched tried A above s word kind ∙ any-all _ j _ e none)
+
+-- from middle to middle
+module _ {t index rows : List ℕ} {S levels last person i row j first second : ℕ} {told : Bool}
+    (middle : Middle t index rows S levels last person i row j first second told) where
+  module _ (on : told ≡ true) where
+    named : isPerson t j ≡ true
+    named = and-second _ _ (and-second _ _ (sym (middle .told-is) ∙ on))
+
+    pub stands-first : Stands t j first
+    stands-first =
+        rw (middle .first-is, first-cell (middle .searched) (middle .tried) (middle .kind))
+        (stands-at t j (partRole t i 0) (middle .there) named)
+
+    pub stands-second : Stands t person second
+    stands-second =
+        rw (middle .second-is, second-cell (middle .searched) (middle .tried) (middle .kind) j (middle .there) named)
+        (stands-at t person (linkedRole t i j) (middle .tried .who) (middle .tried .named))
+
+  module _ (A above : ℕ) (s : StateSets) where
+    abbrev found : ℕ → ℕ → Bool
+    found = provesAt t S A levels above s
+
+    abbrev tries-middle : ℕ → Bool
+    tries-middle = middleTried t index found person i
+
+    pub linked-found : (word : Bool) {one two : Bool} → told ≡ true → one ≡ found j first → one ≡ true → two ≡ found person second
+        → two ≡ true → true ≡ provesOwn t S A levels above s word person i
+    linked-found word on e proved e′ proved′ =
+        let in-first = sym (at-cell t S A levels above s j first _ (middle .first-is) e) ∙ proved in
+        let in-second = sym (at-cell t S A levels above s person second _ (middle .second-is) e′) ∙ proved′ in
+        sym (cell-middles (middle .searched) (middle .tried) A above s word (middle .kind)
+        ∙ any-reached tries-middle _ j (middle .there) (and-both (named on) (and-both in-first in-second)))
+
+    module _ (before : anyBelow tries-middle j ≡ false) where
+      pub linked-skipped : told ≡ false → anyBelow tries-middle (j + 1) ≡ false
+      linked-skipped off =
+          let none = rw (middle .row-is, middle .first-is, middle .second-is) at (sym (middle .told-is) ∙ off) in
+          any-next tries-middle j before
+          (middle-unlisted (middle .searched) (middle .tried) A above s (middle .kind) j (middle .there) none)
+
+      pub linked-first : {one : Bool} → one ≡ found j first → one ≡ false → anyBelow tries-middle (j + 1) ≡ false
+      linked-first e off =
+          let missing = sym (at-cell t S A levels above s j first _ (middle .first-is) e) ∙ off in
+          any-next tries-middle j before (and-none (isPerson t j) (and-is-off _ missing))
+
+      pub linked-second : {two : Bool} → two ≡ found person second → two ≡ false → anyBelow tries-middle (j + 1) ≡ false
+      linked-second e off =
+          let missing = sym (at-cell t S A levels above s person second _ (middle .second-is) e) ∙ off in
+          any-next tries-middle j before
+          (and-none (isPerson t j) (and-none (found j (getD index (askedCell i 0) 0)) missing))

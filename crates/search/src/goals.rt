@@ -1,57 +1,81 @@
 // Whether the allowed credentials prove a goal when every word must be accepted by each of some automata. A goal is proved
 // through a credential, and a credential through the goals of its premises, so each rests on the other one level further down.
-// All constraints are imposed from the start, used or not, so that the premises of a credential do not depend on each other.
+// Goals are asked by the places of principal and role (crate members), and only those that the table of members has.
 use crate::Terms;
 use automata::StateSets;
-use derivation::Branch;
-use derivation::Premises;
-use derivation::rules;
+use members::ROW;
+use sets::AutomatonSet;
 use sets::CredentialSet;
-use table::Credential;
-use table::Goal;
+use table::INTERSECTION_CONTAINMENT;
 use table::LINKING_CONTAINMENT;
 use table::Number;
+use table::Role;
+use table::SIMPLE_CONTAINMENT;
 use table::SIMPLE_MEMBERSHIP;
 use table::layout;
 ghost use mathlib.Core.Path.{_≡_};
-ghost use mathlib.Core.Option.{some};
-ghost use Prim.Native.Nat.{_+_, _-_, _<_, _≤_};
-ghost use lib.ListN.{take};
-ghost use Rattle.table.specs.Limits.{mostDepth, mostParts, mostPrincipals};
-ghost use Rattle.table.specs.Layout.{Numbered, credentials};
+ghost use mathlib.Core.Logic.{_⊎_};
+ghost use Prim.Native.Nat.{suc, _<_, _≤_};
+ghost use lib.ListN.{getD, length};
+ghost use lib.Dec.{eqb};
+ghost use Rattle.sets.specs.Logic.{_and_};
+ghost use Rattle.table.specs.Layout.{credential, credentials};
 ghost use Rattle.table.specs.Holding.{WellFormed};
-ghost use Rattle.sets.specs.Sets.{part};
+ghost use Rattle.sets.specs.Sets.{inSet, part};
 ghost use Rattle.automata.specs.Together.{acceptingSet};
-ghost use Rattle.derivation.specs.Held.{Room, above};
+ghost use Rattle.members.specs.Places.{isPerson};
+ghost use Rattle.members.specs.Trying.{provesBy};
+ghost use Rattle.members.specs.Members.{Indexed, Placed, askedCell, lesser, rowCell, tableCells};
 ghost use Rattle.search.specs.Search;
-ghost use Rattle.search.specs.Search.{NextMiddle, askedBefore, mayUse, provedPremises, proves, provesBy, sameGoal};
+ghost use Rattle.search.specs.Search.{Searched, Stands, Tried, askedBefore, goalAt, proves, provesAt, usable};
 
-// Some allowed credential proves the goal, with so many levels left.
+// The principal at `person` is proved to be in the role at `place`, with so many levels left, by some allowed credential. The roles
+// on the branch above stand at the places `above`.
 pub fn goal_search(
     table: &[Number],
+    index: &[u8],
+    rows: &[CredentialSet],
     terms: Terms,
-    goal: Goal,
+    person: usize,
+    place: usize,
     levels: usize,
     states: StateSets,
-    branch: Branch,
+    above: CredentialSet,
 ) -> bool
-    requires { ⌜ WellFormed (now table) ⌝ }
-    requires { ⌜ Room mostDepth (branch .len) (branch .goals) × (branch .len + levels ≤ mostDepth) ⌝ }
-    ensures { λ r. ⌜ r ≡ proves (now (table .entry)) (terms .allowed) (terms .constraints) levels (above branch) states goal ⌝ }
+    requires { ⌜ Searched (now table) (now index) (now rows) (terms .allowed) levels (terms .last) ⌝ }
+    requires { ⌜ Stands (now table) person place ⌝ }
+    ensures { λ r. ⌜ r ≡ provesAt (now (table .entry)) (terms .allowed) (terms .constraints) levels above states person place ⌝ }
 {
     if levels == 0 {
         return false;
     }
-    if !branch.is_fresh(goal) {
+    let n = layout::credentials(table);
+    if n <= place {
         return false;
     }
-    let below = states.moved(table, goal.role);
-    let deeper = branch.with(goal);
-    let n = layout::credentials(table);
+    if !is_listed(rows, row_of(levels, terms.last), person, place) {
+        return false;
+    }
+    if sets::has(above, place) {
+        return false;
+    }
+    let role = role_of(table, place);
+    let below = stepped(table, terms.constraints, role, states);
+    let deeper = sets::with(above, place);
     let mut i = 0;
     while i < n {
-        if may_use(table, terms.allowed, goal, i + 1) {
-            if credential_search(table, terms, goal, i + 1, levels - 1, below, deeper) {
+        if may_use(index, terms.allowed, place, i) {
+            if credential_search(
+                table,
+                index,
+                rows,
+                terms,
+                person,
+                i,
+                levels - 1,
+                below,
+                deeper,
+            ) {
                 return true;
             }
         }
@@ -60,148 +84,273 @@ pub fn goal_search(
     false
 }
 
-// Credential c proves the goal, with some middle; so many levels are left for what it asks.
+// Credential i + 1 proves the goal, with some middle; so many levels are left for what it asks.
 fn credential_search(
     table: &[Number],
+    index: &[u8],
+    rows: &[CredentialSet],
     terms: Terms,
-    goal: Goal,
-    c: usize,
+    person: usize,
+    i: usize,
     levels: usize,
     states: StateSets,
-    branch: Branch,
+    above: CredentialSet,
 ) -> bool
-    requires { ⌜ WellFormed (now table) ⌝ }
-    requires { ⌜ Room mostDepth (branch .len) (branch .goals) × (branch .len + levels ≤ mostDepth) ⌝ }
-    requires { ⌜ Numbered (credentials (now table)) c ⌝ }
-    ensures { λ r. ⌜ r ≡ provesBy (now (table .entry)) (terms .allowed)
-        (proves (now (table .entry)) (terms .allowed) (terms .constraints) levels (above branch) states)
-        (part (terms .constraints) (acceptingSet (now (table .entry)) states)) goal c ⌝ }
+    requires { ⌜ Searched (now table) (now index) (now rows) (terms .allowed) levels (terms .last) ⌝ }
+    requires { ⌜ Tried (now table) person i ⌝ }
+    ensures { λ r. ⌜ r ≡ provesBy (now (table .entry))
+        (proves (now (table .entry)) (terms .allowed) (terms .constraints) levels above states)
+        (part (terms .constraints) (acceptingSet (now (table .entry)) states)) (goalAt (now (table .entry)) person i) (suc i) ⌝ }
 {
-    let mut middle = next_middle(table, terms.allowed, c, 0);
-    while middle <= layout::MOST_PRINCIPALS {
-        let premises = rules::premises(table, goal, c as Number, middle);
-        if premises.applies {
-            if premises_search(table, terms, premises, levels, states, branch) {
-                return true;
-            }
-        }
-        middle = next_middle(table, terms.allowed, c, middle + 1);
+    let credential = layout::credential(table, i + 1);
+    let kind = credential.kind;
+    match kind {
+        SIMPLE_MEMBERSHIP => ends_word(table, index, terms.constraints, person, i, states),
+        SIMPLE_CONTAINMENT => parts_search(
+            table,
+            index,
+            rows,
+            terms,
+            person,
+            i,
+            levels,
+            states,
+            above,
+        ),
+        LINKING_CONTAINMENT => linked_search(
+            table,
+            index,
+            rows,
+            terms,
+            person,
+            i,
+            levels,
+            states,
+            above,
+        ),
+        INTERSECTION_CONTAINMENT => parts_search(
+            table,
+            index,
+            rows,
+            terms,
+            person,
+            i,
+            levels,
+            states,
+            above,
+        ),
+        _ => false,
     }
-    false
 }
 
-// Every goal that is asked is proved; where nothing is asked a word ends, and each of the automata accepts it.
-fn premises_search(
+// Credential i + 1, of kind 2 or 4, proves the goal: the principal is in each of the roles that it asks.
+fn parts_search(
     table: &[Number],
+    index: &[u8],
+    rows: &[CredentialSet],
     terms: Terms,
-    premises: Premises,
+    person: usize,
+    i: usize,
     levels: usize,
     states: StateSets,
-    branch: Branch,
+    above: CredentialSet,
 ) -> bool
-    requires { ⌜ WellFormed (now table) ⌝ }
-    requires { ⌜ Room mostDepth (branch .len) (branch .goals) × (branch .len + levels ≤ mostDepth) ⌝ }
-    requires { ⌜ Room mostParts (premises .len) (premises .goals) ⌝ }
-    ensures { λ r. ⌜ r ≡ provedPremises
-        (proves (now (table .entry)) (terms .allowed) (terms .constraints) levels (above branch) states)
-        (part (terms .constraints) (acceptingSet (now (table .entry)) states))
-        (some (take (premises .len) (premises .goals))) ⌝ }
+    requires { ⌜ Searched (now table) (now index) (now rows) (terms .allowed) levels (terms .last) ⌝ }
+    requires { ⌜ Tried (now table) person i ⌝ }
+    requires { ⌜ (credential (now table) (suc i) .kind ≡ 2) ⊎ (credential (now table) (suc i) .kind ≡ 4) ⌝ }
+    ensures { λ r. ⌜ r ≡ provesBy (now (table .entry))
+        (proves (now (table .entry)) (terms .allowed) (terms .constraints) levels above states)
+        (part (terms .constraints) (acceptingSet (now (table .entry)) states)) (goalAt (now (table .entry)) person i) (suc i) ⌝ }
 {
-    let len = premises.len;
-    if len == 0 {
-        let constraints = terms.constraints;
-        return constraints & states.accepting(table) == constraints;
+    if !sets::has(
+        members::asked_members(index, rows, row_of(levels, terms.last), i),
+        person,
+    ) {
+        return false;
     }
-    let mut i = 0;
-    while i < len {
-        if !is_asked_before(premises, i) {
-            if !goal_search(table, terms, premises.goals[i], levels, states, branch) {
+    let mut k = 0;
+    while k < 4 {
+        if !is_asked_before(index, i, k) {
+            if !goal_search(
+                table,
+                index,
+                rows,
+                terms,
+                person,
+                members::asked_cell(index, i, k),
+                levels,
+                states,
+                above,
+            ) {
                 return false;
             }
         }
-        i += 1;
+        k += 1;
     }
     true
 }
 
-// A chain that names a role more than once proves it once: every word is judged alike, whichever of them it goes through.
-fn is_asked_before(premises: Premises, i: usize) -> bool
-    requires { ⌜ Room mostParts (premises .len) (premises .goals) ⌝ }
-    requires { ⌜ i < premises .len ⌝ }
-    ensures { λ r. ⌜ r ≡ askedBefore (premises .goals) i ⌝ }
+// Credential i + 1, of kind 3, proves the goal: some middle is in its first role, and the principal in the middle's second.
+fn linked_search(
+    table: &[Number],
+    index: &[u8],
+    rows: &[CredentialSet],
+    terms: Terms,
+    person: usize,
+    i: usize,
+    levels: usize,
+    states: StateSets,
+    above: CredentialSet,
+) -> bool
+    requires { ⌜ Searched (now table) (now index) (now rows) (terms .allowed) levels (terms .last) ⌝ }
+    requires { ⌜ Tried (now table) person i ⌝ }
+    requires { ⌜ credential (now table) (suc i) .kind ≡ 3 ⌝ }
+    ensures { λ r. ⌜ r ≡ provesBy (now (table .entry))
+        (proves (now (table .entry)) (terms .allowed) (terms .constraints) levels above states)
+        (part (terms .constraints) (acceptingSet (now (table .entry)) states)) (goalAt (now (table .entry)) person i) (suc i) ⌝ }
 {
-    let goal = premises.goals[i];
+    let n = layout::credentials(table);
+    let row = row_of(levels, terms.last);
+    let first = members::asked_cell(index, i, 0);
     let mut j = 0;
-    while j < i {
-        if same_goal(premises.goals[j], goal) {
-            return true;
+    while j < n {
+        let second = members::link_cell(index, i, j);
+        if is_middle(table, index, rows, row, person, j, first, second) {
+            if goal_search(table, index, rows, terms, j, first, levels, states, above) {
+                if goal_search(
+                    table,
+                    index,
+                    rows,
+                    terms,
+                    person,
+                    second,
+                    levels,
+                    states,
+                    above,
+                ) {
+                    return true;
+                }
+            }
         }
         j += 1;
     }
     false
 }
 
-fn same_goal(one: Goal, other: Goal) -> bool
-    ensures { λ r. ⌜ r ≡ sameGoal one other ⌝ }
+// Credential i + 1, of kind 1, proves the goal: it names the principal, and each of the automata accepts the word that ends here.
+fn ends_word(
+    table: &[Number],
+    index: &[u8],
+    constraints: AutomatonSet,
+    person: usize,
+    i: usize,
+    states: StateSets,
+) -> bool
+    requires { ⌜ WellFormed (now table) ⌝ }
+    requires { ⌜ Placed (now index) ⌝ }
+    requires { ⌜ i < 20 ⌝ }
+    ensures { λ r. ⌜ r ≡ (eqb (getD (now (index .entry)) (askedCell i 0) 0) person
+        and part constraints (acceptingSet (now (table .entry)) states)) ⌝ }
 {
-    if one.principal.0 != other.principal.0 {
+    if members::asked_cell(index, i, 0) != person {
         return false;
     }
-    one.role.same(other.role)
+    constraints & states.accepting(table) == constraints
 }
 
-// Credential c is allowed and defines the goal's role.
-fn may_use(table: &[Number], allowed: CredentialSet, goal: Goal, c: usize) -> bool
+// A principal stands at j who is in the first role, and the one at `person` is in the second, by the row.
+fn is_middle(
+    table: &[Number],
+    index: &[u8],
+    rows: &[CredentialSet],
+    row: usize,
+    person: usize,
+    j: usize,
+    first: usize,
+    second: usize,
+) -> bool
     requires { ⌜ WellFormed (now table) ⌝ }
-    requires { ⌜ Numbered (credentials (now table)) c ⌝ }
-    ensures { λ r. ⌜ r ≡ mayUse (now (table .entry)) allowed goal c ⌝ }
+    requires { ⌜ Indexed (now table) (now index) ⌝ }
+    requires { ⌜ (length (now rows) ≡ tableCells) × (row ≤ 16) ⌝ }
+    requires { ⌜ (person < credentials (now table)) × (j < credentials (now table)) ⌝ }
+    requires { ⌜ (first ≤ 20) × (second ≤ 20) ⌝ }
+    ensures { λ r. ⌜ r ≡ (inSet (getD (now (rows .entry)) (rowCell row first) 0) j
+        and inSet (getD (now (rows .entry)) (rowCell row second) 0) person and isPerson (now (table .entry)) j) ⌝ }
 {
-    if !sets::has(allowed, c - 1) {
+    if !is_listed(rows, row, j, first) {
         return false;
     }
-    let credential = layout::credential(table, c);
-    credential.role.same(goal.role)
+    if !is_listed(rows, row, person, second) {
+        return false;
+    }
+    members::is_person(table, index, j)
 }
 
-// The least middle from `from` on that is tried with credential c: only kind 3 has one, and only a principal that some allowed
-// simple membership names can be a member of anything. Past the last principal where there is none.
-fn next_middle(table: &[Number], allowed: CredentialSet, c: usize, from: Number) -> Number
+// The row that tells of so many levels: from the last row on nothing is new.
+fn row_of(levels: usize, last: usize) -> usize
+    ensures { λ r. ⌜ r ≡ lesser levels last ⌝ }
+{
+    if levels < last {
+        return levels;
+    }
+    last
+}
+
+// By the row, the principal at `person` is in the role at `place`.
+fn is_listed(rows: &[CredentialSet], row: usize, person: usize, place: usize) -> bool
+    requires { ⌜ (length (now rows) ≡ tableCells) × (row ≤ 16) ⌝ }
+    requires { ⌜ (person < 20) × (place ≤ 20) ⌝ }
+    ensures { λ r. ⌜ r ≡ inSet (getD (now (rows .entry)) (rowCell row place) 0) person ⌝ }
+{
+    sets::has(rows[ROW * row + place], person)
+}
+
+// The role that stands at a place.
+fn role_of(table: &[Number], place: usize) -> Role
     requires { ⌜ WellFormed (now table) ⌝ }
-    requires { ⌜ Numbered (credentials (now table)) c ⌝ }
-    requires { ⌜ from ≤ mostPrincipals + 1 ⌝ }
-    ensures { λ r. ⌜ NextMiddle (now (table .entry)) allowed c from r ⌝ }
+    requires { ⌜ place < credentials (now table) ⌝ }
+    ensures { λ r. ⌜ r ≡ credential (now (table .entry)) (suc place) .role ⌝ }
 {
-    let credential = layout::credential(table, c);
-    if credential.kind != LINKING_CONTAINMENT {
-        if from == 0 {
-            return 0;
-        }
-        return layout::MOST_PRINCIPALS + 1;
-    }
-    let n = layout::credentials(table);
-    let mut least = layout::MOST_PRINCIPALS + 1;
-    let mut i = 0;
-    while i < n {
-        if sets::has(allowed, i) {
-            least = nearer(layout::credential(table, i + 1), from, least);
-        }
-        i += 1;
-    }
-    least
+    let credential = layout::credential(table, place + 1);
+    credential.role
 }
 
-// The credential's principal, where it is a simple membership's and stands from `from` on but before `least`.
-fn nearer(c: Credential, from: Number, least: Number) -> Number
-    ensures { λ r. ⌜ r ≡ Search.nearer from least c ⌝ }
+// The state sets one role on; where no automaton is imposed nobody asks for them.
+fn stepped(table: &[Number], constraints: AutomatonSet, role: Role, states: StateSets) -> StateSets
+    requires { ⌜ WellFormed (now table) ⌝ }
+    ensures { λ r. ⌜ r ≡ Search.stepped (now (table .entry)) constraints role states ⌝ }
 {
-    if c.kind != SIMPLE_MEMBERSHIP {
-        return least;
+    if constraints == 0 {
+        return states;
     }
-    if c.first < from {
-        return least;
+    states.moved(table, role)
+}
+
+// Credential i + 1 is allowed and defines the role at `place`.
+fn may_use(index: &[u8], allowed: CredentialSet, place: usize, i: usize) -> bool
+    requires { ⌜ Placed (now index) ⌝ }
+    requires { ⌜ i < 20 ⌝ }
+    ensures { λ r. ⌜ r ≡ usable (now (index .entry)) allowed place i ⌝ }
+{
+    if !sets::has(allowed, i) {
+        return false;
     }
-    if least <= c.first {
-        return least;
+    members::role_cell(index, i) == place
+}
+
+// A chain that names a role more than once proves it once: every word is judged alike, whichever of them it goes through.
+fn is_asked_before(index: &[u8], i: usize, k: usize) -> bool
+    requires { ⌜ Placed (now index) ⌝ }
+    requires { ⌜ (i < 20) × (k < 4) ⌝ }
+    ensures { λ r. ⌜ r ≡ askedBefore (now (index .entry)) i k ⌝ }
+{
+    let place = members::asked_cell(index, i, k);
+    let mut j = 0;
+    while j < k {
+        if members::asked_cell(index, i, j) == place {
+            return true;
+        }
+        j += 1;
     }
-    c.first
+    false
 }

@@ -1,290 +1,151 @@
-// Which credentials bear on a query, by roles alone, whoever the members are: those that some derivation could use at all, the
-// productive ones, and of these the ones that can be reached from the goal's role. Without this a wallet of mostly unrelated
-// credentials would cost two to their number.
+// Which credentials bear on a query, by roles alone, whoever the members are: those whose role can be reached from the query's.
+// Without this a wallet of mostly unrelated credentials would cost two to their number. A set of roles is the set of their places
+// (crate members): the role at place r counts 2^r.
 use sets::CredentialSet;
-use table::Chain;
-use table::Credential;
-use table::INTERSECTION_CONTAINMENT;
 use table::LINKING_CONTAINMENT;
-use table::Name;
 use table::Number;
-use table::Principal;
-use table::Role;
-use table::SIMPLE_CONTAINMENT;
+use table::Query;
+use table::SIMPLE_MEMBERSHIP;
 use table::layout;
 ghost use mathlib.Core.Path.{_≡_};
-ghost use mathlib.Core.List.{[], _∷_};
 ghost use mathlib.Core.Bool.{not, true};
-ghost use Prim.Native.Nat.{_<_};
-ghost use lib.ListN.{length, take};
-ghost use Rattle.table.specs.Limits.{mostCredentials, mostParts};
+ghost use Prim.Native.Nat.{_<_, _≤_};
+ghost use lib.ListN.{getD};
 ghost use Rattle.sets.specs.Logic.{_and_};
+ghost use Rattle.sets.specs.Sets.{inSet};
+ghost use Rattle.table.specs.Layout.{credentials};
 ghost use Rattle.table.specs.Holding.{WellFormed};
-ghost use Rattle.sets.specs.Sets.{inSet, part};
-ghost use Rattle.search.specs.Relevance.{Asking, ChainThere, Indexed, Place, Productive, Reached, Round, allMet};
-ghost use Rattle.search.specs.Relevance.{definers, indexed, linkedRoles, meant, rolesAsked, withMet};
+ghost use Rattle.members.specs.Members.{Indexed, Placed, goalRole};
+ghost use Rattle.search.specs.Search.{Prepared};
+ghost use Rattle.search.specs.Relevance.{Relevant, Round, WithAsked, WithLinks, WithRoles, definedAt};
 
-// Five cells for each of at most 20 credentials.
-const PLACE: usize = 5;
-
-pub const INDEX_CELLS: usize = 100;
-
-// Every credential that a table can have.
-const EVERY: CredentialSet = 1048575;
-
-// The index of the table: for each credential how many roles it asks, and for each of these the credentials that define it.
-pub fn index(table: &[Number]) -> [u32; INDEX_CELLS]
-    requires { ⌜ WellFormed (now table) ⌝ }
-    ensures { λ r. ⌜ Indexed (now (table .entry)) r ⌝ }
+// The credentials whose role can be reached from the query's role: every derivation of the queried membership uses only these. The
+// index is that of the table and the query (`members::index`).
+pub fn relevant(table: &[Number], query: Query, index: &[u8]) -> CredentialSet
+    requires { ⌜ Prepared (now table) query (now index) ⌝ }
+    ensures { λ r. ⌜ Relevant (now (table .entry)) query r ⌝ }
 {
-    let n = layout::credentials(table);
-    let mut index = [0; INDEX_CELLS];
-    let mut i = 0;
-    while i < PLACE * n {
-        let cell = index_cell(table, layout::credential(table, i / PLACE + 1), i % PLACE);
-        index[i] = cell;
-        i += 1;
-    }
-    index
+    at_places(index, layout::credentials(table), reached(table, index))
 }
 
-// Cell k of a credential's place.
-fn index_cell(table: &[Number], c: Credential, k: usize) -> u32
-    requires { ⌜ WellFormed (now table) ⌝ }
-    requires { ⌜ ChainThere (now table) c ⌝ }
-    ensures { λ r. ⌜ r ≡ indexed (now (table .entry)) (rolesAsked (now (table .entry)) c) k ⌝ }
-{
-    let asked = roles_asked(table, c);
-    let len = asked.len;
-    if k == 0 {
-        return len as u32;
-    }
-    if len < k {
-        return 0;
-    }
-    defining(table, EVERY, asked.roles[k - 1])
-}
-
-// The allowed credentials whose premises can all be met, as far as roles go: the least such set, round by round.
-pub fn productive(table: &[Number], index: &[u32], allowed: CredentialSet) -> CredentialSet
+// The places of the roles that can be reached from the query's role, round by round until nothing is new.
+fn reached(table: &[Number], index: &[u8]) -> CredentialSet
     requires { ⌜ WellFormed (now table) ⌝ }
     requires { ⌜ Indexed (now table) (now index) ⌝ }
-    ensures { λ r. ⌜ (part r allowed ≡ true) × Productive (now (table .entry)) allowed r ⌝ }
+    ensures { λ r. ⌜ (inSet r (getD (now (index .entry)) goalRole 0) ≡ true)
+        × Round (now (table .entry)) (now (index .entry)) (credentials (now (table .entry))) r r ⌝ }
 {
-    let mut set = 0;
-    let mut next = more_productive(table, index, allowed, 0);
-    while next != set {
-        set = next;
-        next = more_productive(table, index, allowed, set);
+    let mut before = 0;
+    let mut places = sets::with(0, members::goal_role(index));
+    while places != before {
+        let more = more_places(table, index, before, places);
+        before = places;
+        places = more;
     }
-    set
+    places
 }
 
-// One round: the set with each allowed credential all of whose roles asked are defined in it.
-fn more_productive(
+// One round: the places with those of the roles that they ask. What is asked from those of the round before is there already.
+fn more_places(
     table: &[Number],
-    index: &[u32],
-    allowed: CredentialSet,
-    set: CredentialSet,
+    index: &[u8],
+    before: CredentialSet,
+    places: CredentialSet,
 ) -> CredentialSet
     requires { ⌜ WellFormed (now table) ⌝ }
     requires { ⌜ Indexed (now table) (now index) ⌝ }
-    ensures { λ r. ⌜ Round allowed set r (Productive (now (table .entry)) allowed set) ⌝ }
+    requires { ⌜ Round (now table) (now index) (credentials (now table)) before places ⌝ }
+    ensures { λ r. ⌜ Round (now (table .entry)) (now (index .entry)) (credentials (now (table .entry))) places r ⌝ }
 {
     let n = layout::credentials(table);
-    let mut more = set;
+    let mut more = places;
     let mut i = 0;
     while i < n {
-        if is_new(allowed, more, i) {
-            if is_productive(index, more, i) {
-                more = sets::with(more, i);
-            }
+        if is_new(before, more, members::role_cell(index, i)) {
+            more = with_roles(table, index, i, more);
         }
         i += 1;
     }
     more
 }
 
-// The productive credentials that can be reached from the goal's role.
-pub fn reachable(
-    table: &[Number],
-    index: &[u32],
-    role: Role,
-    productive: CredentialSet,
-) -> CredentialSet
-    requires { ⌜ WellFormed (now table) ⌝ }
-    requires { ⌜ Indexed (now table) (now index) ⌝ }
-    ensures { λ r. ⌜ (part r productive ≡ true)
-        × ((part (definers (now (table .entry)) productive role) r ≡ true) × Reached (now (table .entry)) productive r) ⌝ }
+// The place is one of `places`, and not one of those before.
+fn is_new(before: CredentialSet, places: CredentialSet, place: usize) -> bool
+    requires { ⌜ place ≤ 20 ⌝ }
+    ensures { λ r. ⌜ r ≡ (inSet places place and not (inSet before place)) ⌝ }
 {
-    let mut set = defining(table, productive, role);
-    let mut next = more_reachable(table, index, productive, set);
-    while next != set {
-        set = next;
-        next = more_reachable(table, index, productive, set);
-    }
-    set
-}
-
-// One round: the set with each productive credential that defines a role asked by one of it.
-fn more_reachable(
-    table: &[Number],
-    index: &[u32],
-    productive: CredentialSet,
-    set: CredentialSet,
-) -> CredentialSet
-    requires { ⌜ WellFormed (now table) ⌝ }
-    requires { ⌜ Indexed (now table) (now index) ⌝ }
-    ensures { λ r. ⌜ Round productive set r (Reached (now (table .entry)) productive set) ⌝ }
-{
-    let n = layout::credentials(table);
-    let mut more = set;
-    let mut i = 0;
-    while i < n {
-        if sets::has(more, i) {
-            more = with_defining(index, productive, more, i);
-        }
-        i += 1;
-    }
-    more
-}
-
-// Credential i + 1 is allowed and not yet in the set.
-fn is_new(allowed: CredentialSet, set: CredentialSet, i: usize) -> bool
-    requires { ⌜ i < mostCredentials ⌝ }
-    ensures { λ r. ⌜ r ≡ (inSet allowed i and not (inSet set i)) ⌝ }
-{
-    if !sets::has(allowed, i) {
+    if !sets::has(places, place) {
         return false;
     }
-    !sets::has(set, i)
+    !sets::has(before, place)
 }
 
-// Each role that credential i + 1 asks is defined by some credential of the set.
-fn is_productive(index: &[u32], set: CredentialSet, i: usize) -> bool
-    requires { ⌜ Place (now index) i ⌝ }
-    ensures { λ r. ⌜ r ≡ allMet (now (index .entry)) i set ⌝ }
+// The places with those of all roles that credential i + 1 asks.
+fn with_roles(table: &[Number], index: &[u8], i: usize, places: CredentialSet) -> CredentialSet
+    requires { ⌜ WellFormed (now table) ⌝ }
+    requires { ⌜ Indexed (now table) (now index) ⌝ }
+    requires { ⌜ i < credentials (now table) ⌝ }
+    ensures { λ r. ⌜ WithRoles (now (table .entry)) (now (index .entry)) i places r ⌝ }
 {
-    let at = PLACE * i;
-    let len = index[at] as usize;
-    let mut k = 0;
-    while k < len {
-        if index[at + 1 + k] & set == 0 {
-            return false;
-        }
-        k += 1;
+    let credential = layout::credential(table, i + 1);
+    let kind = credential.kind;
+    if kind == SIMPLE_MEMBERSHIP {
+        return places;
     }
-    true
+    let more = with_asked(index, i, places);
+    if kind != LINKING_CONTAINMENT {
+        return more;
+    }
+    with_links(table, index, i, more)
 }
 
-// Those of `reached`, and the credentials of the set that define a role asked by credential i + 1.
-fn with_defining(
-    index: &[u32],
-    set: CredentialSet,
-    reached: CredentialSet,
-    i: usize,
-) -> CredentialSet
-    requires { ⌜ Place (now index) i ⌝ }
-    ensures { λ r. ⌜ r ≡ withMet (now (index .entry)) i set reached ⌝ }
+// With those of the four in the cells of credential i + 1.
+fn with_asked(index: &[u8], i: usize, places: CredentialSet) -> CredentialSet
+    requires { ⌜ Placed (now index) ⌝ }
+    requires { ⌜ i < 20 ⌝ }
+    ensures { λ r. ⌜ WithAsked (now (index .entry)) i 4 places r ⌝ }
 {
-    let at = PLACE * i;
-    let len = index[at] as usize;
-    let mut more = reached;
+    let mut more = places;
     let mut k = 0;
-    while k < len {
-        more = more | (index[at + 1 + k] & set);
+    while k < 4 {
+        more = sets::with(more, members::asked_cell(index, i, k));
         k += 1;
     }
     more
 }
 
-// The credentials of the set that define the role, or a role of that name where the owner is 0.
-fn defining(table: &[Number], set: CredentialSet, role: Role) -> CredentialSet
+// With those of the roles that credential i + 1, of kind 3, asks with some middle.
+fn with_links(table: &[Number], index: &[u8], i: usize, places: CredentialSet) -> CredentialSet
     requires { ⌜ WellFormed (now table) ⌝ }
-    ensures { λ r. ⌜ r ≡ definers (now (table .entry)) set role ⌝ }
+    requires { ⌜ Indexed (now table) (now index) ⌝ }
+    requires { ⌜ i < credentials (now table) ⌝ }
+    ensures { λ r. ⌜ WithLinks (now (table .entry)) (now (index .entry)) i (credentials (now (table .entry))) places r ⌝ }
 {
     let n = layout::credentials(table);
+    let mut more = places;
+    let mut j = 0;
+    while j < n {
+        if members::is_person(table, index, j) {
+            more = sets::with(more, members::link_cell(index, i, j));
+        }
+        j += 1;
+    }
+    more
+}
+
+// Those of the first n credentials whose role stands at one of the places.
+fn at_places(index: &[u8], n: usize, places: CredentialSet) -> CredentialSet
+    requires { ⌜ Placed (now index) ⌝ }
+    requires { ⌜ n ≤ 20 ⌝ }
+    ensures { λ r. ⌜ r ≡ definedAt (now (index .entry)) places n ⌝ }
+{
     let mut found = 0;
     let mut i = 0;
     while i < n {
-        if sets::has(set, i) {
-            let credential = layout::credential(table, i + 1);
-            if is_meant(role, credential.role) {
-                found = sets::with(found, i);
-            }
+        if sets::has(places, members::role_cell(index, i)) {
+            found = sets::with(found, i);
         }
         i += 1;
     }
     found
-}
-
-// The role is the one asked, or has its name where every owner is asked.
-fn is_meant(asked: Role, role: Role) -> bool
-    ensures { λ r. ⌜ r ≡ meant asked role ⌝ }
-{
-    if asked.owner.0 != 0 {
-        if asked.owner.0 != role.owner.0 {
-            return false;
-        }
-    }
-    asked.name.0 == role.name.0
-}
-
-// The roles that a credential asks; a middle can be any owner, which 0 stands for.
-fn roles_asked(table: &[Number], c: Credential) -> Chain
-    requires { ⌜ WellFormed (now table) ⌝ }
-    requires { ⌜ ChainThere (now table) c ⌝ }
-    ensures { λ r. ⌜ Asking (now (table .entry)) c r ⌝ }
-{
-    let kind = c.kind;
-    match kind {
-        SIMPLE_CONTAINMENT => asks_one(Role {
-            owner: Principal(c.first),
-            name: Name(c.second),
-        }),
-        LINKING_CONTAINMENT => asks_linked(c),
-        INTERSECTION_CONTAINMENT => layout::chain(table, c.first),
-        _ => asks_none(),
-    }
-}
-
-fn asks_none() -> Chain
-    ensures { λ r. ⌜ (r .len ≡ 0) × (length (r .roles) ≡ mostParts) ⌝ }
-{
-    Chain {
-        len: 0,
-        roles: [Role {
-            owner: Principal(0),
-            name: Name(0),
-        }; layout::MOST_PARTS],
-    }
-}
-
-fn asks_one(role: Role) -> Chain
-    ensures { λ r. ⌜ (r .len ≡ 1) × ((length (r .roles) ≡ mostParts) × (take 1 (r .roles) ≡ role ∷ [])) ⌝ }
-{
-    Chain {
-        len: 1,
-        roles: [role; layout::MOST_PARTS],
-    }
-}
-
-fn asks_linked(c: Credential) -> Chain
-    ensures { λ r. ⌜ (r .len ≡ 2) × ((length (r .roles) ≡ mostParts) × (take 2 (r .roles) ≡ linkedRoles c)) ⌝ }
-{
-    let owner = c.role.owner;
-    let member = Role {
-        owner: owner,
-        name: Name(c.first),
-    };
-    let linked = Role {
-        owner: Principal(0),
-        name: Name(c.second),
-    };
-    let mut roles = [member; layout::MOST_PARTS];
-    roles[1] = linked;
-    Chain {
-        len: 2,
-        roles: roles,
-    }
 }

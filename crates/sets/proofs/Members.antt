@@ -1,13 +1,13 @@
 -- A number as a set: what is in an empty set, a union, an intersection, a set of one and a set by a test, for any number
 -- of states; two sets with the same members are one number.
 use mathlib.Core.Path.{_≡_, refl, sym, ap, _∙_}
-use mathlib.Core.Bool.{Bool, true, false}
-use Prim.Native.Nat.{ℕ, zero, suc, _*_, _/_, _%_, _^_, _<_, _≤_}
+use mathlib.Core.Bool.{Bool, true, false, not}
+use Prim.Native.Nat.{ℕ, zero, suc, _+_, _-_, _*_, _/_, _%_, _^_, _<_, _≤_}
 use native.Mathlib.Omega.{arith}
-use native.Mathlib.Nat.{div-eq-of-lt, div-one, div-div-eq-div-mul, mod-eq-of-lt, one-mul, pow-suc, pow-succ'}
+use native.Mathlib.Nat.{div-eq-of-lt, div-one, div-div-eq-div-mul, mod-eq-of-lt, mod-self, one-mul, pow-suc, pow-succ'}
 use native.Mathlib.Decide.{decLt, ℕ-discrete}
 use lib.Arith.{bin-ind}
-use lib.Bits.{bitAnd, bitOr, and-le-r, and-shr, and-mod, or-lt, or-shr, or-mod}
+use lib.Bits.{bitAnd, bitOr, and-le-r, and-mask, and-mod, and-self, and-shr, and-step, or-lt, or-shr, or-mod}
 use lib.Pow.{pow-lt, pow-mono}
 use lib.Dec.{eqb, ltb, eqb·zero-suc, eqb·suc-zero, eqb·suc-suc}
 use borrow.Author.Tests.{ne-eqb, eq-eqb, eqb-true, eqb-false, not-true, ltb-true, ltb-false, lt-ltb, le-ltb}
@@ -116,6 +116,15 @@ meets-common x y h =
     let both = sym (inSet-and x y s) ∙ inside in
     (s, and-first _ _ both, and-second _ _ both)
 
+-- whether they meet, as the code asks
+pub meets-not : (x y : ℕ) → bitAnd x y ≡ 0 → meets x y ≡ false
+unfolding meets
+meets-not x y e = ap not (eq-eqb (bitAnd x y) 0 e)
+
+pub meets-some : (x y : ℕ) → (bitAnd x y ≡ 0 → ⊥) → meets x y ≡ true
+unfolding meets
+meets-some x y h = ap not (ne-eqb (bitAnd x y) 0 h)
+
 -- a set that takes in one state more where a test passes
 pub inSet-pick : (b : Bool) (x t s : ℕ) → inSet (pick b (bitOr x (2 ^ t)) x) s ≡ (inSet x s or (b and eqb t s))
 unfolding pick _and_
@@ -222,6 +231,46 @@ below-members x n s few h = go (decLt s n)
     go : Dec (s < n) → s < n
     go (yes less) = less
     go (no more) = absurd (false-true (sym (inSet-beyond x n s few (omega arith)) ∙ h))
+
+-- a member less below the bound, where the last is not in it
+pub fewer-below : (x n : ℕ) → x < 2 ^ (n + 1) → inSet x n ≡ false → x < 2 ^ n
+fewer-below x n few out =
+    members-below x n (λ s h. go s (below-members x (n + 1) s few h) h (ℕ-discrete s n))
+  where
+    go : (s : ℕ) → s < n + 1 → inSet x s ≡ true → Dec (s ≡ n) → s < n
+    go s l h (yes e) = absurd (false-true (sym out ∙ sym (ap (inSet x) e) ∙ h))
+    go s l h (no e) = omega arith
+
+-- a set has just one member where it and the number before it have none in common
+abbrev IsOne : ℕ → Type 0
+IsOne x = (x ≡ 0 → ⊥) → bitAnd x (x - 1) ≡ 0 → (k : ℕ) × (x ≡ 2 ^ k)
+
+first-alone : (x : ℕ) (b : Bool) → inSet x 0 ≡ b → IsOne (x / 2) → IsOne x
+first-alone x true e later some none =
+    let one = odd x e in
+    let halves : (x - 1) / 2 ≡ x / 2 = omega arith in
+    let both : bitAnd (x / 2) ((x - 1) / 2) ≡ x / 2 = ap (bitAnd (x / 2)) halves ∙ and-self (x / 2) in
+    (0, omega (arith, and-step x (x - 1)))
+first-alone x false e later some none =
+    let zero = even x e in
+    let halves : (x - 1) / 2 ≡ x / 2 - 1 = omega arith in
+    let both = ap (bitAnd (x / 2)) halves in
+    let (k, same) = later (λ z. some (omega arith)) (omega (arith, and-step x (x - 1))) in
+    (suc k, omega (arith, pow-suc 2 k))
+
+one-member : (x : ℕ) → IsOne x
+one-member = bin-ind IsOne (λ some none. absurd (some refl)) (λ x later. first-alone x (inSet x 0) refl later)
+
+pub one-only : (x c : ℕ) → bitAnd x (x - 1) ≡ 0 → inSet x c ≡ true → part x (2 ^ c) ≡ true
+one-only x c none h =
+    let (k, e) = one-member x (λ z. false-true (sym (ap (λ y. inSet y c) z ∙ inSet-zero c) ∙ h)) none in
+    let same : k ≡ c = eqb-true k c (sym (inSet-pow k c) ∙ sym (ap (λ y. inSet y c) e) ∙ h) in
+    rw (e, same) (part-refl (2 ^ c))
+
+pub one-shown : (x c : ℕ) → inSet x c ≡ true → part x (2 ^ c) ≡ true → bitAnd x (x - 1) ≡ 0
+one-shown x c h l =
+    let e : x ≡ 2 ^ c = part-antisym x (2 ^ c) l (one-among c x h) in
+    rw e (and-mask (2 ^ c) c ∙ mod-self (2 ^ c))
 
 -- one bit, as the code makes it: nothing is shifted out of a number's width
 pub one-bit : (width k : ℕ) → k < width → (1 * 2 ^ k) % 2 ^ width ≡ 2 ^ k

@@ -183,6 +183,15 @@ any-not p n k h l = refuted (p k) (λ e. false-true (sym h ∙ any-reached p n k
 pub any-all : (p : ℕ → Bool) (i n : ℕ) → i ≡ n → anyBelow p i ≡ false → anyBelow p n ≡ false
 any-all p i n e h = sym (ap (anyBelow p) e) ∙ h
 
+-- where each number that passes one test passes another, and where two tests are one
+pub any-mono : (p q : ℕ → Bool) (n : ℕ) → ((k : ℕ) → k < n → p k ≡ true → q k ≡ true) → anyBelow p n ≡ true
+    → anyBelow q n ≡ true
+any-mono p q n more h = let (k, l, passes) = any-shows p n h in any-reached q n k l (more k l passes)
+
+pub any-same : (p q : ℕ → Bool) (n : ℕ) → ((k : ℕ) → k < n → p k ≡ q k) → anyBelow p n ≡ anyBelow q n
+any-same p q n same =
+    same-test _ _ (any-mono p q n (λ k l e. sym (same k l) ∙ e)) (any-mono q p n (λ k l e. same k l ∙ e))
+
 -- some number below n passes, or none does
 pub any-or-none : {A : Type 0} (p : ℕ → Bool) (n : ℕ) → ((k : ℕ) → k < n → p k ≡ true → A) → (anyBelow p n ≡ false → A) → A
 any-or-none {A} p n one none = go (anyBelow p n) refl

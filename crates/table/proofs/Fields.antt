@@ -1,20 +1,23 @@
 -- What readers rely on in a record that passes its check: the ranges of its fields.
-use mathlib.Core.Path.{_≡_, sym, _∙_}
+use mathlib.Core.Path.{_≡_, refl, sym, ap, _∙_}
 use mathlib.Core.List.{List}
-use mathlib.Core.Bool.{true}
+use mathlib.Core.Bool.{Bool, true, false}
 use Prim.Native.Nat.{ℕ, _≤_}
 use native.Mathlib.Omega.{arith}
 use borrow.Author.Tests.{leb-true, eqb-true}
+use Rattle.sets.specs.Logic.{_and_}
 use Rattle.table.specs.Limits.{mostPrincipals, lastState}
 use Rattle.table.specs.Layout.{Numbered, automata, cell, cells, credential, edge, principal}
 use Rattle.table.specs.Checks.{within, isPrincipal, credentialOk, cellOk, edgeOk, goodCredential, goodCell, goodEdge}
+use Rattle.table.specs.Checks.{meaningOk}
 use Rattle.table.specs.declared.Credential.{Credential}
 use Rattle.table.specs.declared.Cell.{Cell}
 use Rattle.table.specs.declared.Edge.{Edge}
-use Rattle.sets.proofs.Tests.{and-first, and-second, and-parts, or-either}
-use Rattle.table.proofs.Meanings.{kind-4}
+use Rattle.sets.proofs.Tests.{and-first, and-second, and-parts, false-true, or-either}
+use Rattle.table.proofs.Meanings.{kind-4, kind-none}
 
 pub record CredentialRange (q a : ℕ) (c : Credential) : Type 0 where
+  pub kind : Numbered 4 (c .kind)
   pub intersection : c .kind ≡ 4 → Numbered q (c .first)
   pub automaton : c .automaton ≤ a
 
@@ -37,6 +40,18 @@ pub principal-range : (x : ℕ) → isPrincipal (principal x) ≡ true → Numbe
 unfolding isPrincipal
 principal-range x e = within-range mostPrincipals x e
 
+-- every kind but 1 to 4 is refused
+kind-known : (kind first second q : ℕ) → meaningOk kind first second q ≡ true → Numbered 4 kind
+unfolding within _and_
+kind-known kind first second q ok = go (within 1 4 kind) refl
+  where
+    go : (b : Bool) → within 1 4 kind ≡ b → Numbered 4 kind
+    go true e = within-range 4 kind e
+    go false e = absurd (false-true (sym (kind-none kind first second q (no 1 refl) (no 2 refl) (no 3 refl) (no 4 refl)) ∙ ok))
+      where
+        no : (k : ℕ) → within 1 4 k ≡ true → kind ≡ k → ⊥
+        no k inside same = false-true (sym e ∙ ap (within 1 4) same ∙ inside)
+
 module _ (t : List ℕ) (i : ℕ) where
   pub credential-range : goodCredential t i ≡ true → CredentialRange (cells t) (automata t) (credential t i)
   unfolding goodCredential credentialOk
@@ -44,6 +59,7 @@ module _ (t : List ℕ) (i : ℕ) where
       let rest = and-second _ _ good in
       let means = and-first _ _ rest in
       record {
+        kind = kind-known _ _ _ _ means;
         intersection = λ four. within-range (cells t) _ (and-first _ _ (sym (kind-4 _ _ _ _ four) ∙ means));
         automaton = leb-true _ _ (and-second _ _ rest);
       }

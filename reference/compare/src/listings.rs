@@ -1,7 +1,8 @@
 //! The listings on which the two sides are compared.
 
 use reference::generate::listings::{self, Listing, Source};
-use reference::generate::wallets::{self, Place, Plan};
+use reference::generate::shapes::{self, Place, Way};
+use reference::generate::wallets::{self, Plan, Wallet};
 use reference::generate::{damage, queries, wide};
 use reference::query::Query;
 use reference::random::Random;
@@ -47,6 +48,9 @@ pub fn fixed(judge: &mut impl FnMut(Listing)) {
         ));
     }
     fixed_wallets(judge);
+    for wallet in fixed_shapes() {
+        judge(listing(&wallet.records.numbers(), wallet.query));
+    }
 }
 
 /// Hands over wallets of every size and arrangement.
@@ -57,11 +61,34 @@ fn fixed_wallets(judge: &mut impl FnMut(Listing)) {
         let plan = Plan {
             bearing,
             others: random.between(0, 20 - bearing),
-            place: [Place::Low, Place::High, Place::Anywhere][index % 3],
+            place: wallets::Place::ALL[index % 3],
         };
         let wallet = wallets::planned(&mut random, plan);
         judge(listing(&wallet.records.numbers(), wallet.query));
     }
+}
+
+/// Wallets of every shape, up to the largest.
+fn fixed_shapes() -> Vec<Wallet> {
+    let mut wallets: Vec<Wallet> = (2..=5).map(shapes::ladder).collect();
+    wallets.extend((1..=15).map(|rungs| shapes::rungs(rungs, 2)));
+    wallets.extend((2..=10).map(|people| shapes::rungs(10, people)));
+    wallets.push(shapes::rungs(15, 5));
+    wallets.extend((3..=9).map(shapes::containments));
+    wallets.extend((1..=4).map(shapes::layers));
+    for definers in [[1; 4], [2; 4], [3; 4], [4; 4], [1, 3, 6, 9], [4, 5, 5, 5]] {
+        wallets.extend(Place::ALL.map(|place| shapes::choices(&definers, place)));
+    }
+    for each in [
+        &[1; 20][..],
+        &[2; 10],
+        &[3; 6],
+        &[4; 5],
+        &[3, 3, 3, 3, 3, 3, 2],
+    ] {
+        wallets.extend(Way::ALL.map(|way| shapes::ways(each, way)));
+    }
+    wallets
 }
 
 /// Hands over so many listings made up at random.

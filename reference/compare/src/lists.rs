@@ -177,7 +177,7 @@ impl Lists {
                 lines.push((format!("{size}: {}", outcome(number)), count, 1));
             }
         }
-        for source in Source::ALL {
+        for source in Source::all() {
             let count = self.sources.get(&source).copied();
             lines.push((format!("{source}"), count, 1));
         }

@@ -3,12 +3,13 @@
 use std::fmt;
 
 use crate::generate::claims::query;
+use crate::generate::families::{self, Family};
 use crate::generate::growth::Policy;
 use crate::generate::wallets::Wallet;
 use crate::generate::{crossed, damage, policies, queries, wallets};
 use crate::query::{Query, DEEPEST};
 use crate::random::Random;
-use crate::records::Records;
+use crate::records::{Head, Records};
 
 /// What a listing call is given, but for its buffer.
 #[derive(Clone, Debug, PartialEq, Eq)]
@@ -30,6 +31,8 @@ pub enum Source {
     Wallet,
     /// A wallet with ways from part to part.
     Crossed,
+    /// A wallet of a family.
+    Shaped(Family),
     /// A table in which many goals can be derived, and one of these goals.
     Policy,
     /// Such a table, and any query.
@@ -44,28 +47,26 @@ pub enum Source {
 
 impl Source {
     /// Every source that there is.
-    pub const ALL: [Source; 8] = [
-        Source::Fixed,
-        Source::Wallet,
-        Source::Crossed,
-        Source::Policy,
-        Source::AnyQuery,
-        Source::Table,
-        Source::Query,
-        Source::Both,
-    ];
+    pub fn all() -> Vec<Source> {
+        let mut sources = vec![Source::Fixed, Source::Wallet, Source::Crossed];
+        sources.extend(Family::ALL.map(Source::Shaped));
+        sources.extend([Source::Policy, Source::AnyQuery]);
+        sources.extend([Source::Table, Source::Query, Source::Both]);
+        sources
+    }
 }
 
 /// A listing made up at random.
 pub fn made_up(random: &mut Random) -> Listing {
-    let source = match random.below(16) {
+    let source = match random.below(20) {
         0..=5 => Source::Wallet,
         6 => Source::Crossed,
         7..=11 => Source::Policy,
         12 => Source::AnyQuery,
         13 => Source::Table,
         14 => Source::Query,
-        _ => Source::Both,
+        15 => Source::Both,
+        _ => Source::Shaped(*random.pick(&Family::ALL)),
     };
     from_source(random, source)
 }
@@ -76,6 +77,10 @@ fn from_source(random: &mut Random, source: Source) -> Listing {
         Source::Policy => goal_of_policy(random),
         Source::AnyQuery => (policies::records(random), queries::valid(random)),
         Source::Crossed => with_query(crossed::made_up(random)),
+        Source::Shaped(family) => {
+            let most = Head::LIMITS.credentials;
+            with_query(families::made_up(random, family, most))
+        }
         _ => with_query(wallets::made_up(random)),
     };
     let mut table = records.numbers();
@@ -117,6 +122,7 @@ impl fmt::Display for Source {
             Source::Fixed => "the same in every run",
             Source::Wallet => "grown wallet",
             Source::Crossed => "wallet with ways from part to part",
+            Source::Shaped(family) => return family.fmt(out),
             Source::Policy => "goal of a table with many",
             Source::AnyQuery => "any query",
             Source::Table => "damaged table",

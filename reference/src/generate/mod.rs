@@ -3,8 +3,8 @@
 //! - [`valid`], [`damage`], [`noise`]: tables, valid, damaged and blind
 //! - [`queries`]: queries, valid and damaged
 //! - [`policies`], [`constraints`]: tables in which goals can be derived
-//! - [`wallets`], [`crossed`], [`listings`]: tables with queries that have
-//!   minimal sets
+//! - [`wallets`], [`crossed`], [`shapes`], [`families`], [`listings`]: tables with
+//!   queries that have minimal sets
 //! - [`growth`], [`claims`]: right records, grown from such tables
 //! - [`wrongs`], [`spoil`], [`misfits`], [`every`]: wrong ones
 //! - [`wide`]: records of very many nodes
@@ -16,6 +16,7 @@ pub mod constraints;
 pub mod crossed;
 pub mod damage;
 pub mod every;
+pub mod families;
 pub mod growth;
 pub mod listings;
 pub mod misfits;
@@ -23,6 +24,7 @@ pub mod noise;
 pub mod places;
 pub mod policies;
 pub mod queries;
+pub mod shapes;
 pub mod spoil;
 pub mod valid;
 pub mod wallets;

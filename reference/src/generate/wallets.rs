@@ -46,6 +46,11 @@ pub enum Place {
     Anywhere,
 }
 
+impl Place {
+    /// Every place that there is.
+    pub const ALL: [Place; 3] = [Place::Low, Place::High, Place::Anywhere];
+}
+
 /// A wallet of any size, often with automata, and a depth limit for which some
 /// derivations may be too deep.
 pub fn made_up(random: &mut Random) -> Wallet {

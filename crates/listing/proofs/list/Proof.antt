@@ -1,60 +1,21 @@
--- `listing::list` meets its contract: rows 1 to 8 are those of the request, then the minimal sets are listed. Assumes nothing.
-use mathlib.Core.Path.{sym, ap, _∙_}
 use borrow.Author.Needs.{needs}
-use Rattle.table.specs.Checks.{told}
-use Rattle.checks.specs.Told.{queryTold}
-use Rattle.table.proofs.Stages.{refused-then, then-on}
-use Rattle.table.proofs.WellFormed.{request-accepted}
-use Rattle.listing.specs.Minimal.{listing, listingTold}
-use Rattle.listing.proofs.Whole.{buffer-accepted, buffer-refused}
 use Rattle.listing.proofs.list.Statement.{statement}
 use Rattle.listing.proofs.list.Tie as tie
+use Rattle.listing.proofs.list.Reads as reads
+use Rattle.listing.proofs.list.Lts as lts
+use Rattle.listing.proofs.list_with.Reads as list-with-reads
 
-check-request-requires : tie.Need-check-request-requires
-check-request-requires c κs = search needs
+-- src/lib.rt:39:5
+list-with-requires : tie.Need-list-with-requires
+list-with-requires c κs = search needs
 
-enum-told : tie.Need-enum-told
-enum-told c = search needs
-
-list-checked-requires : tie.Need-list-checked-requires
-unfolding queryTold
-list-checked-requires c κs =
-    let check-request = c .before .before .before .check-request in
-    let enum-told = c .before .enum-told in
-    let both = request-accepted _ _ (sym (check-request .ensures) ∙ ap queryTold (enum-told .given .1)) in
-    (both .0, both .1)
-
-enum-known-why : tie.Need-enum-known-why
-enum-known-why c = search needs
-
+-- src/lib.rt:35:1
 same-length : tie.Need-same-length
 same-length c = search needs
 
+-- src/lib.rt:35:1
 returns : tie.Need-returns
-unfolding listing queryTold
-returns c =
-    let check-request = c .before .before .before .before .before .before .check-request in
-    let enum-told = c .before .before .before .before .enum-told in
-    let list-checked = c .before .before .list-checked in
-    let accepts = sym (check-request .ensures) ∙ ap queryTold (enum-told .given .1) in
-    (list-checked .ensures .0 ∙ then-on accepts, list-checked .ensures .1 ∙ sym (buffer-accepted _ _ _ accepts))
-
-returns-2 : tie.Need-returns-2
-unfolding listing listingTold queryTold told
-returns-2 c =
-    let why = c .before .why in
-    let check-request = c .before .before .before .check-request in
-    let refuses = ap queryTold (sym (why .given .1)) ∙ check-request .ensures in
-    (refused-then _ refuses, sym (buffer-refused _ _ _ (sym refuses)))
+returns c = search needs
 
 pub list-spec : {M : Type 1} → statement M
-list-spec =
-    tie.close
-    (tie.spec
-    check-request-requires
-    enum-told
-    list-checked-requires
-    enum-known-why
-    same-length
-    returns
-    returns-2)
+list-spec = tie.close (tie.spec list-with-requires same-length returns)

@@ -1,14 +1,26 @@
--- `search::provable`: the search begins at the query's goal, with nothing above it. Assumes an accepted table and a valid query.
-use Rattle.derivation.proofs.Above.{depth-fits}
-use Rattle.search.proofs.Trying.{search-starts}
-use mathlib.Core.Path.{_∙_}
+-- `search::provable` meets its contract: the goal search begins at the places of the query's principal and role, with the members
+-- within the query's depth. Assumes nothing.
+use mathlib.Core.Path.{refl}
 use native.Mathlib.Omega.{arith}
+use Rattle.search.proofs.Starting.{goal-found, goal-stands, goal-unnamed}
+use borrow.Author.Needs.{needs}
 use borrow.Author.Needs.{needs}
 use Rattle.search.proofs.provable.Statement.{statement}
 use Rattle.search.proofs.provable.Tie as tie
 
-goal-of-requires : tie.Need-goal-of-requires
-goal-of-requires c κs = search needs
+goal-person-requires : tie.Need-goal-person-requires
+goal-person-requires c κs = search needs
+
+credentials-requires : tie.Need-credentials-requires
+credentials-requires c κs = search needs
+
+returns : tie.Need-returns
+returns c =
+    goal-unnamed (c .before .before .before .before .before .before .pre .0) (c .before .before .goal-person .ensures .0) _ _ _ refl (c .before .before .before .before .before .before .pre .1)
+    (omega (arith, c .if1 .taken, c .before .credentials .ensures .same))
+
+goal-role-requires : tie.Need-goal-role-requires
+goal-role-requires c κs = search needs
 
 wide-requires : tie.Need-wide-requires
 wide-requires c κs = search needs
@@ -16,30 +28,26 @@ wide-requires c κs = search needs
 start-requires : tie.Need-start-requires
 start-requires c κs = search needs
 
-empty-requires : tie.Need-empty-requires
-empty-requires c κs = search needs
-
 goal-search-requires : tie.Need-goal-search-requires
-goal-search-requires c κs =
-    let pre = c .before .before .before .before .before .pre in
-    let wide = c .before .before .wide in
-    (pre .0, (c .empty .ensures .0, omega (arith, depth-fits _ (pre .1), wide .ensures .0, c .empty .ensures .1 .0)))
+goal-search-requires c κs = (
+  record { wellFormed = c .before .before .before .before .before .before .before .before .before .pre .0 .wellFormed; indexed = c .before .before .before .before .before .before .before .before .before .pre .0 .indexed; members = rw (c .before .wide .ensures .0) (c .before .before .before .before .before .before .before .before .before .pre .1) },
+  goal-stands (c .before .before .before .before .before .before .before .before .before .pre .0) (c .before .before .before .before .before .goal-person .ensures .0) (omega (arith, c .before .before .before .if1 .left, c .before .before .before .before .credentials .ensures .same)) (c .before .before .goal-role .ensures .0),
+)
 
-returns : tie.Need-returns
-returns c =
-    let wide = c .before .before .before .wide in
-    let start = c .before .before .start in
-    let goal-of = c .before .before .before .before .goal-of in
-    c .goal-search .ensures ∙ search-starts _ _ _ _ _ _ _ _ (wide .ensures .0) (c .before .empty .ensures .1 .1)
-    (start .ensures) (goal-of .ensures)
+returns-2 : tie.Need-returns-2
+returns-2 c =
+    goal-found (c .before .before .before .before .before .before .before .before .before .before .pre .0) (c .before .before .before .before .before .before .goal-person .ensures .0) (omega (arith, c .before .before .before .before .if1 .left, c .before .before .before .before .before .credentials .ensures .same)) (c .before .before .before .goal-role .ensures .0) _ _ _ _
+    (c .before .before .wide .ensures .0) (c .before .start .ensures) (c .goal-search .ensures)
 
 pub provable-spec : {M : Type 1} → statement M
 provable-spec =
     tie.close
     (tie.spec
-    goal-of-requires
+    goal-person-requires
+    credentials-requires
+    returns
+    goal-role-requires
     wide-requires
     start-requires
-    empty-requires
     goal-search-requires
-    returns)
+    returns-2)

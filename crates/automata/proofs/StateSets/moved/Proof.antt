@@ -1,17 +1,16 @@
 -- `automata::StateSets::moved` meets its contract: the sets have moved along the first k edges. Assumes nothing.
-use mathlib.Core.Path.{refl}
 use Prim.Native.Nat.{_-_, _≤_}
 use native.Mathlib.Omega.{arith}
 use borrow.Author.Needs.{needs}
-use Rattle.automata.proofs.Together.{Moving, edge-there, moving-all, moving-more, moving-none}
+use Rattle.automata.proofs.Together.{Moving, edge-there, moving-all, moving-none, moving-on, moving-past}
 use Rattle.automata.proofs.StateSets.moved.Statement.{statement}
 use Rattle.automata.proofs.StateSets.moved.Tie as tie
 
 abbrev Inv-loop : tie.InvT-loop
-Inv-loop self table role next₀ e k₀ next k = (k ≤ e) × Moving table role self k next
+Inv-loop self table role sets₀ e k₀ sets k = (k ≤ e) × Moving table role self k (record { sets = sets })
 
 abbrev μ-loop : tie.MeasureT-loop
-μ-loop self table role next₀ e k₀ next k = e - k
+μ-loop self table role sets₀ e k₀ sets k = e - k
 
 edges-requires : tie.Need-edges-requires Inv-loop μ-loop
 edges-requires c κs = search needs
@@ -25,20 +24,72 @@ add-k c = search needs
 edge-requires : tie.Need-edge-requires Inv-loop μ-loop
 edge-requires c κs = search needs
 
-with-edge-requires : tie.Need-with-edge-requires Inv-loop μ-loop
-with-edge-requires c κs =
+leads-requires : tie.Need-leads-requires Inv-loop μ-loop
+leads-requires c κs =
     let pre = c .before .before .before .before .before .pre in
-    edge-there _ pre _ (omega arith) (c .edge .ensures)
+    let (own, (from, to)) = edge-there _ pre _ (omega arith) (c .edge .ensures) in
+    (own, from)
+
+wide-requires : tie.Need-wide-requires Inv-loop μ-loop
+wide-requires c κs = search needs
+
+sub-at : tie.Need-sub-at Inv-loop μ-loop
+sub-at c =
+    let pre = c .before .before .before .before .before .before .before .before .pre in
+    let there = edge-there _ pre _ (omega arith) (c .before .before .before .edge .ensures) in
+    omega arith
+
+mul-with-16 : tie.Need-mul-with-16 Inv-loop μ-loop
+mul-with-16 c = search needs
+
+array-read-with-16 : tie.Need-array-read-with-16 Inv-loop μ-loop
+array-read-with-16 c =
+    let pre = c .before .before .before .before .before .before .before .before .pre in
+    let there = edge-there _ pre _ (omega arith) (c .before .before .before .edge .ensures) in
+    omega arith
+
+wide-requires-2 : tie.Need-wide-requires-2 Inv-loop μ-loop
+wide-requires-2 c κs = search needs
+
+with-16-requires : tie.Need-with-16-requires Inv-loop μ-loop
+with-16-requires c κs =
+    let pre = c .before .before .before .before .before .before .before .before .before .pre in
+    let there = edge-there _ pre _ (omega arith) (c .before .before .before .before .edge .ensures) in
+    omega arith
+
+mul-sets : tie.Need-mul-sets Inv-loop μ-loop
+mul-sets c = search needs
+
+array-write-sets : tie.Need-array-write-sets Inv-loop μ-loop
+array-write-sets c =
+    let pre = c .before .before .before .before .before .before .before .before .before .before .pre in
+    let there = edge-there _ pre _ (omega arith) (c .before .before .before .before .before .edge .ensures) in
+    omega arith
 
 loop-less : tie.Need-loop-less Inv-loop μ-loop
 loop-less c = search needs
 
 loop-again : tie.Need-loop-again Inv-loop μ-loop
 loop-again c =
-    let loop = c .before .before .before .loop in
-    let pre = c .before .before .before .before .before .before .pre in
-    rw (c .with-edge .ensures, c .before .edge .ensures)
-    (omega arith, moving-more _ _ _ _ _ (loop .inv .1) (edge-there _ pre _ (omega arith) refl .0))
+    let pre = c .before .before .before .before .before .before .before .before .before .before .pre in
+    let read = c .before .before .before .before .before .edge .ensures in
+    let (own, states) = edge-there _ pre _ (omega arith) read in
+    let so-far = c .before .before .before .before .before .before .before .loop .inv .1 in
+    let test = c .before .before .before .before .leads .ensures in
+    let taken = c .before .before .before .if1 .taken in
+    let automaton = c .before .before .wide .ensures .0 in
+    (omega arith, moving-on _ _ _ _ _ so-far read own test taken automaton (c .before .wide2 .ensures .0) (c .with-16 .ensures))
+
+loop-less-2 : tie.Need-loop-less-2 Inv-loop μ-loop
+loop-less-2 c = search needs
+
+loop-again-2 : tie.Need-loop-again-2 Inv-loop μ-loop
+loop-again-2 c =
+    let pre = c .before .before .before .before .before .before .before .pre in
+    let read = c .before .before .edge .ensures in
+    let (own, states) = edge-there _ pre _ (omega arith) read in
+    let so-far = c .before .before .before .before .loop .inv .1 in
+    (omega arith, moving-past _ _ _ _ _ so-far read own (c .before .leads .ensures) (c .if1 .left))
 
 returns : tie.Need-returns Inv-loop μ-loop
 returns c = moving-all _ _ _ _ _ (omega arith) (c .before .loop .inv .1)
@@ -53,7 +104,17 @@ moved-spec =
     loop-holds
     add-k
     edge-requires
-    with-edge-requires
+    leads-requires
+    wide-requires
+    sub-at
+    mul-with-16
+    array-read-with-16
+    wide-requires-2
+    with-16-requires
+    mul-sets
+    array-write-sets
     loop-less
     loop-again
+    loop-less-2
+    loop-again-2
     returns)

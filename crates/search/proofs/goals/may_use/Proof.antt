@@ -1,34 +1,23 @@
--- `search::goals::may_use`: the credential is in the set, and its role is the goal's. Assumes an accepted table and a
--- credential of it.
-use mathlib.Core.Path.{sym}
-use Rattle.search.specs.Search.{mayUse}
-use Rattle.sets.proofs.Tests.{and-is-off, failed, passed}
-use Rattle.search.proofs.Trying.{uses-role}
+-- `search::goals::may_use` meets its contract: the credential is not allowed, or its cell says which role it defines.
+-- Assumes nothing.
+use Rattle.search.proofs.Testing.{allowed-defines, unallowed}
+use Rattle.sets.proofs.Tests.{failed, passed}
 use borrow.Author.Needs.{needs}
 use Rattle.search.proofs.goals.may_use.Statement.{statement}
 use Rattle.search.proofs.goals.may_use.Tie as tie
-
-sub-has : tie.Need-sub-has
-sub-has c = search needs
 
 has-requires : tie.Need-has-requires
 has-requires c κs = search needs
 
 returns : tie.Need-returns
-unfolding mayUse
-returns c = sym (and-is-off _ (failed (c .before .has .ensures) (c .if1 .taken)))
+returns c = unallowed _ _ _ _ (failed (c .before .has .ensures) (c .if1 .taken))
 
-credential-requires : tie.Need-credential-requires
-credential-requires c κs = search needs
-
-same-requires : tie.Need-same-requires
-same-requires c κs = search needs
+role-cell-requires : tie.Need-role-cell-requires
+role-cell-requires c κs = search needs
 
 returns-2 : tie.Need-returns-2
 returns-2 c =
-    let member = passed (c .before .before .before .has .ensures) (c .before .before .if1 .left) in
-    uses-role _ _ _ _ _ (c .same .ensures) (c .before .credential .ensures) member
+    allowed-defines _ _ _ _ (passed (c .before .before .has .ensures) (c .before .if1 .left)) _ (c .role-cell .ensures .0)
 
 pub may-use-spec : {M : Type 1} → statement M
-may-use-spec =
-    tie.close (tie.spec sub-has has-requires returns credential-requires same-requires returns-2)
+may-use-spec = tie.close (tie.spec has-requires returns role-cell-requires returns-2)

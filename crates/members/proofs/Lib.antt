@@ -1,0 +1,10 @@
+-- Laws that belong to no one function; crates above cite those marked `pub mod`.
+pub mod Reading
+pub mod Places
+pub mod Persons
+pub mod Indexing
+pub mod Stepping
+pub mod ByKind
+pub mod Masks
+pub mod Rows
+pub mod Reaching

@@ -1,0 +1,68 @@
+-- One step of a search: where more goals are proved by one test than by another, more are proved by a credential; and whoever a
+-- test that is closed under all credentials leaves out is nowhere in within any number of levels.
+use mathlib.Core.Path.{_≡_, refl}
+use mathlib.Core.List.{List, [], _∷_}
+use mathlib.Core.Bool.{Bool, true, false}
+use mathlib.Core.Option.{Option, none, some}
+use Prim.Native.Nat.{ℕ, zero, suc, _<_}
+use lib.ListN.{length}
+use lib.Dec.{eqb}
+use Rattle.sets.specs.Logic.{pick}
+use Rattle.sets.proofs.Tests.{and-both, and-first, and-second, any-shows, false-true}
+pub use Rattle.sets.proofs.Tests.{any-mono}
+use Rattle.table.specs.Layout.{credential, credentials}
+use Rattle.table.specs.declared.Goal.{Goal}
+use Rattle.derivation.specs.Rules.{premises}
+use Rattle.members.specs.Places.{isPerson}
+use Rattle.members.specs.Trying.{everyGoal, mayUse, provedPremises, provesBy}
+use Rattle.members.specs.Members.{within}
+
+pick-mono : (b : Bool) {x x′ y y′ : Bool} → (x ≡ true → x′ ≡ true) → (y ≡ true → y′ ≡ true) → pick b x y ≡ true
+    → pick b x′ y′ ≡ true
+unfolding pick
+pick-mono true f g h = f h
+pick-mono false f g h = g h
+
+module _ (one one′ : Goal → Bool) (more : (g : Goal) → one g ≡ true → one′ g ≡ true) where
+  pub every-mono : (goals : List Goal) → everyGoal one goals ≡ true → everyGoal one′ goals ≡ true
+  unfolding everyGoal
+  every-mono [] h = refl
+  every-mono (g ∷ goals) h =
+      and-both (more g (and-first (one g) _ h)) (every-mono goals (and-second (one g) _ h))
+
+  module _ (word word′ : Bool) (ends : word ≡ true → word′ ≡ true) where
+    pub proved-mono : (asked : Option (List Goal)) → provedPremises one word asked ≡ true → provedPremises one′ word′ asked ≡ true
+    unfolding provedPremises
+    proved-mono none h = h
+    proved-mono (some goals) h = pick-mono (eqb (length goals) 0) ends (every-mono goals) h
+
+    pub proves-by-mono : (t : List ℕ) (g : Goal) (c : ℕ) → provesBy t one word g c ≡ true → provesBy t one′ word′ g c ≡ true
+    unfolding provesBy
+    proves-by-mono t g c h =
+        pick-mono (eqb (credential t c .kind) 3)
+        (any-mono _ _ (credentials t) (λ j l both.
+        and-both (and-first (isPerson t j) _ both)
+        (proved-mono (premises t g c (credential t (suc j) .first)) (and-second (isPerson t j) _ both))))
+        (proved-mono (premises t g c 0)) h
+
+module _ (t : List ℕ) (S : ℕ) where
+  -- within no level nothing is proved, within one more what some credential proves by what the levels before prove
+  pub within-none : {A : Type 0} (g : Goal) → within t S 0 g ≡ true → A
+  unfolding within
+  within-none g h = absurd (false-true h)
+
+  pub within-step : (k : ℕ) (g : Goal) → within t S (suc k) g ≡ true
+      → (c : ℕ) × (c < credentials t) × (mayUse t S g (suc c) ≡ true) × (provesBy t (within t S k) true g (suc c) ≡ true)
+  unfolding within
+  within-step k g h =
+      let (c, l, both) = any-shows _ (credentials t) h in
+      (c, l, and-first (mayUse t S g (suc c)) _ both, and-second (mayUse t S g (suc c)) _ both)
+
+  pub within-closed : (T : Goal → Bool)
+      → ((g : Goal) (c : ℕ) → c < credentials t → mayUse t S g (suc c) ≡ true → provesBy t T true g (suc c) ≡ true → T g ≡ true)
+      → (k : ℕ) (g : Goal) → within t S k g ≡ true → T g ≡ true
+  within-closed T closed zero g h = within-none g h
+  within-closed T closed (suc k) g h =
+      let (c, l, may, proved) = within-step k g h in
+      closed g c l may
+      (proves-by-mono (within t S k) T (within-closed T closed k) true true (λ e. e) t g (suc c) proved)

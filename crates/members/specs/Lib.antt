@@ -1,0 +1,5 @@
+pub mod Places
+pub mod Trying
+pub mod Members
+pub mod Indexing
+pub mod Levels

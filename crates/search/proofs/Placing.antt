@@ -1,0 +1,318 @@
+-- The search by places: a goal whose principal and role stand at places of the table, what the table of members says of it, and
+-- what a credential asks, cell by cell of the index.
+use mathlib.Core.Path.{_≡_, refl, sym, ap, ap₂, _∙_}
+use mathlib.Core.List.{List}
+use mathlib.Core.Bool.{Bool, true, false, not}
+use mathlib.Core.Option.{Option, none, some}
+use mathlib.Core.Logic.{_⊎_, ⊎-elim}
+use Prim.Native.Nat.{ℕ, zero, suc, _+_, _^_, _<_, _≤_}
+use native.Mathlib.Numerals.{add-one}
+use native.Mathlib.Omega.{arith}
+use native.Mathlib.Decide.{decLt}
+use lib.ListN.{getD}
+use lib.Bits.{bitOr}
+use lib.Dec.{eqb, ltb}
+use borrow.Author.Tests.{eq-eqb, eqb-true, le-ltb, lt-ltb, ltb-true, ne-eqb}
+use Rattle.sets.specs.Logic.{_and_, anyBelow, pick}
+use Rattle.sets.specs.Sets.{inSet, part}
+use Rattle.sets.proofs.Tests.{and-both, and-first, and-is, and-is-off, and-none, and-second, and-true, any-shows, failed}
+use Rattle.sets.proofs.Tests.{false-true, refuted, same-test}
+use Rattle.table.specs.Layout.{Numbered, credential, credentials, principal, role, sameRole}
+use Rattle.table.specs.Holding.{WellFormed}
+use Rattle.table.specs.declared.Role.{Role}
+use Rattle.table.specs.declared.Credential.{Credential}
+use Rattle.table.specs.declared.Goal.{Goal}
+use Rattle.automata.specs.Together.{acceptingSet}
+use Rattle.automata.specs.declared.StateSets.{StateSets}
+use Rattle.derivation.specs.Rules.{goal, premises}
+use Rattle.derivation.proofs.Ruling.{Rule, rule-applied}
+use Rattle.derivation.proofs.Ruling.Rule.{membership, containment, linking, intersection}
+use Rattle.members.specs.Places.{isPerson, personAt, roleAt}
+use Rattle.members.specs.Trying.{mayUse, provedPremises, provesBy}
+use Rattle.members.specs.Members.{Members, askedCell, lesser, linkCell, listed, padded, rolesAsked, rowCell, within}
+use Rattle.members.proofs.Places.{is-person, role-defined, person-stands, role-few, role-stands}
+use Rattle.members.proofs.Stepping.{any-mono, proves-by-mono}
+use Rattle.members.proofs.ByKind.{any-same, by-membership, by-middles, by-parts, byMiddle, middleRole}
+use Rattle.search.specs.Search.{Searched, Stands, Tried, goalAt, proves, provesAt, stepped}
+
+-- what the search proves with so many levels left, below a branch, from state sets s
+module _ (t : List ℕ) (S A : ℕ) where
+  -- what the search proves, members by levels have
+  proves-within : (levels above : ℕ) (s : StateSets) (g : Goal) → proves t S A levels above s g ≡ true
+      → within t S levels g ≡ true
+  unfolding proves within
+  proves-within zero above s g h = h
+  proves-within (suc levels) above s g h =
+      let below = stepped t A (g .role) s in
+      let deeper = bitOr above (2 ^ roleAt t (g .role)) in
+      any-mono _ _ (credentials t) (λ c l both.
+      and-both (and-first _ _ both)
+      (proves-by-mono (proves t S A levels deeper below) (within t S levels) (proves-within levels deeper below)
+      (part A (acceptingSet t below)) true (λ e. refl) t g (suc c) (and-second _ _ both)))
+      (and-second _ _ h)
+
+  -- a role that nobody defines has no member
+  undefined-unproved : (levels above : ℕ) (s : StateSets) (g : Goal) → credentials t ≤ roleAt t (g .role)
+      → proves t S A levels above s g ≡ false
+  unfolding proves mayUse
+  undefined-unproved zero above s g beyond = refl
+  undefined-unproved (suc levels) above s g beyond =
+      refuted _ (λ h.
+      let (c, l, both) = any-shows _ (credentials t) (and-second _ _ h) in
+      let there = role-defined t (g .role) c l (and-second _ _ (and-first _ _ both)) in
+      omega arith)
+
+  -- the principal at `person` in a role, by the role's place
+  pub proves-at : (levels above : ℕ) (s : StateSets) (person : ℕ) (r : Role)
+      → provesAt t S A levels above s person (roleAt t r)
+      ≡ proves t S A levels above s (goal (principal (credential t (suc person) .first)) r)
+  unfolding provesAt
+  proves-at levels above s person r = go (decLt (roleAt t r) (credentials t))
+    where
+      go : Dec (roleAt t r < credentials t)
+          → (ltb (roleAt t r) (credentials t) and proves t S A levels above s (goalAt t person (roleAt t r)))
+          ≡ proves t S A levels above s (goal (principal (credential t (suc person) .first)) r)
+      go (yes there) = and-is (lt-ltb _ _ there) (rw (role-stands t r there))
+      go (no beyond) =
+          and-is-off _ (le-ltb (roleAt t r) (credentials t) (omega arith))
+          ∙ sym (undefined-unproved levels above s (goal (principal (credential t (suc person) .first)) r) (omega arith))
+
+  -- what the row does not have is not proved
+  module _ {levels last : ℕ} {rows : List ℕ} (members : Members t S levels last rows) (above : ℕ) (s : StateSets) where
+    pub unnamed-unproved : (g : Goal) → credentials t ≤ personAt t (g .principal .0) → proves t S A levels above s g ≡ false
+    unfolding listed
+    unnamed-unproved g beyond =
+        refuted _ (λ h.
+        let there = members .every levels (omega arith) g (proves-within levels above s g h) in
+        false-true (sym (le-ltb _ _ beyond) ∙ and-first _ _ there))
+
+    unlisted-at : (person place : ℕ) (r : Role) → isPerson t person ≡ true → place ≡ roleAt t r
+        → inSet (getD rows (rowCell (lesser levels last) place) 0) person ≡ false
+        → provesAt t S A levels above s person place ≡ false
+    unfolding listed
+    unlisted-at person place r named at off =
+        let g = goal (principal (credential t (suc person) .first)) r in
+        let missing = rw (← is-person t person named .1, at) at off in
+        ap (provesAt t S A levels above s person) at ∙ proves-at levels above s person r
+        ∙ refuted _ (λ h.
+        let there = members .every levels (omega arith) g (proves-within levels above s g h) in
+        false-true (sym missing ∙ and-second _ _ there))
+
+-- fewer levels
+pub searched-fewer : {t index rows : List ℕ} {S levels last : ℕ} (levels′ : ℕ) → levels′ ≤ levels
+    → Searched t index rows S levels last → Searched t index rows S levels′ last
+searched-fewer levels′ fewer searched =
+    let members = searched .members in
+    record {
+      wellFormed = searched .wellFormed;
+      indexed = searched .indexed;
+      members =
+          record { room = members .room; few = members .few; every = λ k l g h. members .every k (omega arith) g h };
+    }
+
+-- a principal with a place, and any role
+pub stands-at : (t : List ℕ) (person : ℕ) (r : Role) → person < credentials t → isPerson t person ≡ true
+    → Stands t person (roleAt t r)
+stands-at t person r there named =
+    record {
+      there = there;
+      named = named;
+      few = role-few t r;
+      first = λ defined. ap (roleAt t) (role-stands t r defined);
+    }
+
+-- what is said of a goal by its places
+module _ (t : List ℕ) (S A levels above : ℕ) (s : StateSets) (person place : ℕ) where
+  pub level-none : levels ≡ 0 → false ≡ provesAt t S A levels above s person place
+  unfolding provesAt proves
+  level-none nothing = rw nothing (sym (and-none (ltb place (credentials t)) refl))
+
+  pub place-none : credentials t ≤ place → false ≡ provesAt t S A levels above s person place
+  unfolding provesAt
+  place-none beyond = sym (and-is-off _ (le-ltb place (credentials t) beyond))
+
+  pub place-unlisted : {row last : ℕ} {rows : List ℕ} {told : Bool} → Members t S levels last rows → Stands t person place
+      → place < credentials t → row ≡ lesser levels last → told ≡ inSet (getD rows (rowCell row place) 0) person
+      → not told ≡ true → false ≡ provesAt t S A levels above s person place
+  place-unlisted members stands there the-row e off =
+      sym (unlisted-at t S A members above s person place (credential t (suc place) .role) (stands .named)
+      (sym (stands .first there)) (rw the-row at (failed e off)))
+
+-- credential i + 1 proves its own goal
+abbrev pub provesOwn : List ℕ → ℕ → ℕ → ℕ → ℕ → StateSets → Bool → ℕ → ℕ → Bool
+provesOwn t S A levels above s word person i = provesBy t (proves t S A levels above s) word (goalAt t person i) (suc i)
+
+-- where a test says which goals are proved, by places: the principal is not in role k of those that credential i + 1 asks; the
+-- principal at j is a middle with which it proves the goal
+abbrev pub partMissed : List ℕ → (ℕ → ℕ → Bool) → ℕ → ℕ → ℕ → Bool
+partMissed index at person i = λ k. not (at person (getD index (askedCell i k) 0))
+
+abbrev pub middleTried : List ℕ → List ℕ → (ℕ → ℕ → Bool) → ℕ → ℕ → ℕ → Bool
+middleTried t index at person i = λ j.
+    isPerson t j and at j (getD index (askedCell i 0) 0) and at person (getD index (linkCell i j) 0)
+
+-- the roles that credential i + 1 asks, and what kind 3 asks of the principal where the middle stands at j
+abbrev pub partRole : List ℕ → ℕ → ℕ → Role
+partRole t i k = padded (rolesAsked t (credential t (suc i))) k
+
+abbrev pub linkedRole : List ℕ → ℕ → ℕ → Role
+linkedRole t i j = role (credential t (suc j) .first) (credential t (suc i) .second)
+
+-- what kind 3 asks of a middle
+linking-role : (t : List ℕ) (c : ℕ) → credential t c .kind ≡ 3 → padded (rolesAsked t (credential t c)) 0 ≡ middleRole t c
+unfolding rolesAsked padded pick
+linking-role t c three = rw three
+
+-- what a credential proves, cell by cell of the index: the search for each goal that it asks, by places
+module _ {t index rows : List ℕ} {S levels last : ℕ} (searched : Searched t index rows S levels last) {person i : ℕ}
+    (tried : Tried t person i) where
+  pub part-cell : (credential t (suc i) .kind ≡ 2) ⊎ (credential t (suc i) .kind ≡ 4) → (k : ℕ) → k < 4
+      → getD index (askedCell i k) 0 ≡ roleAt t (partRole t i k)
+  part-cell kind k l =
+      searched .indexed .asked i k (tried .there) l (λ one. ⊎-elim (λ two. omega arith) (λ four. omega arith) kind)
+
+  pub first-cell : credential t (suc i) .kind ≡ 3 → getD index (askedCell i 0) 0 ≡ roleAt t (partRole t i 0)
+  first-cell kind = searched .indexed .asked i 0 (tried .there) (omega arith) (λ one. omega arith)
+
+  pub second-cell : credential t (suc i) .kind ≡ 3 → (j : ℕ) → j < credentials t → isPerson t j ≡ true
+      → getD index (linkCell i j) 0 ≡ roleAt t (linkedRole t i j)
+  second-cell kind j l middle = searched .indexed .linked i j (tried .there) l kind (is-person t j middle .0)
+
+  numbered : Numbered (credentials t) (suc i)
+  numbered = record { first = omega arith; last = omega (arith, tried .there) }
+
+  own : sameRole (credential t (suc i) .role) (goalAt t person i .role) ≡ true
+  unfolding sameRole
+  own =
+      and-both (eq-eqb (credential t (suc i) .role .owner .0) _ refl) (eq-eqb (credential t (suc i) .role .name .0) _ refl)
+
+  module _ (A above : ℕ) (s : StateSets) where
+    abbrev one : Goal → Bool
+    one = proves t S A levels above s
+
+    abbrev found : ℕ → ℕ → Bool
+    found = provesAt t S A levels above s
+
+    -- kind 1: it names the principal at `person`
+    pub cell-named : (word : Bool) → credential t (suc i) .kind ≡ 1
+        → provesOwn t S A levels above s word person i ≡ (eqb (getD index (askedCell i 0) 0) person and word)
+    cell-named word kind =
+        by-membership t (searched .wellFormed) one word (goalAt t person i) (suc i) numbered own kind
+        ∙ ap (λ b. b and word) (same-test _ _ to from)
+      where
+        at : getD index (askedCell i 0) 0 ≡ personAt t (credential t (suc i) .first)
+        at = searched .indexed .named i (tried .there) kind
+
+        to : eqb (credential t (suc i) .first) (credential t (suc person) .first) ≡ true
+            → eqb (getD index (askedCell i 0) 0) person ≡ true
+        to e =
+            let same = eqb-true (credential t (suc i) .first) _ e in
+            eq-eqb _ _ (at ∙ ap (personAt t) same ∙ is-person t person (tried .named) .1)
+
+        from : eqb (getD index (askedCell i 0) 0) person ≡ true
+            → eqb (credential t (suc i) .first) (credential t (suc person) .first) ≡ true
+        from e =
+            let same = sym at ∙ eqb-true _ person e in
+            let stands = person-stands t (credential t (suc i) .first) (rw same (tried .who)) in
+            eq-eqb _ _ (sym (stands .1) ∙ ap (λ k. credential t (suc k) .first) same)
+
+    -- kinds 2 and 4: the principal is in each role that it asks
+    pub cell-parts : (word : Bool) → (credential t (suc i) .kind ≡ 2) ⊎ (credential t (suc i) .kind ≡ 4)
+        → provesOwn t S A levels above s word person i ≡ not (anyBelow (partMissed index found person i) 4)
+    cell-parts word kind =
+        by-parts t (searched .wellFormed) one word (goalAt t person i) (suc i) numbered own kind
+        ∙ ap not (any-same _ _ 4 (λ k l. ap not
+        (sym (proves-at t S A levels above s person (partRole t i k)) ∙ ap (found person) (sym (part-cell kind k l)))))
+
+    -- kind 3: with some middle
+    pub cell-middles : (word : Bool) → credential t (suc i) .kind ≡ 3
+        → provesOwn t S A levels above s word person i ≡ anyBelow (middleTried t index found person i) (credentials t)
+    cell-middles word kind =
+        by-middles t (searched .wellFormed) one word (goalAt t person i) (suc i) numbered own kind
+        ∙ any-same _ _ (credentials t) (λ j l. go j l (isPerson t j) refl)
+      where
+        go : (j : ℕ) → j < credentials t → (b : Bool) → isPerson t j ≡ b
+            → (isPerson t j and byMiddle t one (goalAt t person i) (suc i) j) ≡ middleTried t index found person i j
+        go j l true e =
+            let first = ap (roleAt t) (sym (linking-role t (suc i) kind)) ∙ sym (first-cell kind) in
+            ap (λ b. isPerson t j and b)
+            (ap₂ _and_
+            (sym (proves-at t S A levels above s j (middleRole t (suc i))) ∙ ap (found j) first)
+            (sym (proves-at t S A levels above s person (linkedRole t i j)) ∙ ap (found person) (sym (second-cell kind j l e))))
+        go j l false e = and-is-off _ e ∙ sym (and-is-off _ e)
+
+    -- a part whose mask has not the principal is not proved
+    pub part-unlisted : (credential t (suc i) .kind ≡ 2) ⊎ (credential t (suc i) .kind ≡ 4) → (k : ℕ) → k < 4
+        → inSet (getD rows (rowCell (lesser levels last) (getD index (askedCell i k) 0)) 0) person ≡ false
+        → provesAt t S A levels above s person (getD index (askedCell i k) 0) ≡ false
+    part-unlisted kind k l =
+        unlisted-at t S A (searched .members) above s person _ (partRole t i k) (tried .named) (part-cell kind k l)
+
+    -- a middle is tried where the masks have both
+    pub middle-unlisted : credential t (suc i) .kind ≡ 3 → (j : ℕ) → j < credentials t
+        → (inSet (getD rows (rowCell (lesser levels last) (getD index (askedCell i 0) 0)) 0) j
+        and inSet (getD rows (rowCell (lesser levels last) (getD index (linkCell i j) 0)) 0) person and isPerson t j) ≡ false
+        → middleTried t index found person i j ≡ false
+    middle-unlisted kind j l off = go (isPerson t j) refl (inSet (mask (getD index (askedCell i 0) 0)) j) refl
+      where
+        mask : ℕ → ℕ
+        mask place = getD rows (rowCell (lesser levels last) place) 0
+
+        go : (b : Bool) → isPerson t j ≡ b → (a : Bool) → inSet (mask (getD index (askedCell i 0) 0)) j ≡ a
+            → middleTried t index found person i j ≡ false
+        go false e a f = and-is-off _ e
+        go true e false f =
+            and-none (isPerson t j) (and-is-off _
+            (unlisted-at t S A (searched .members) above s j _ (partRole t i 0) e (first-cell kind) f))
+        go true e true f =
+            let second = inSet (mask (getD index (linkCell i j) 0)) person in
+            let missing = sym (and-is f (ap (λ b. second and b) e ∙ and-true second)) ∙ off in
+            and-none (isPerson t j) (and-none (found j (getD index (askedCell i 0) 0))
+            (unlisted-at t S A (searched .members) above s person _ (linkedRole t i j) (tried .named) (second-cell kind j l e)
+            missing))
+
+-- a credential of no known kind proves nothing
+proved-some : (one : Goal → Bool) (word : Bool) (asked : Option (List Goal)) → provedPremises one word asked ≡ true
+    → (goals : List Goal) × (asked ≡ some goals)
+unfolding provedPremises
+proved-some one word none h = absurd (false-true h)
+proved-some one word (some goals) h = (goals, refl)
+
+-- credential i + 1 has been read as x
+module _ (t : List ℕ) (i : ℕ) (x : Credential) (read : x ≡ credential t (i + 1)) where
+  same-kind : x .kind ≡ credential t (suc i) .kind
+  same-kind = ap (λ (y : Credential). y .kind) (read ∙ ap (credential t) (add-one i))
+
+  pub kind-read : (k : ℕ) → x .kind ≡ k → credential t (suc i) .kind ≡ k
+  kind-read k e = sym same-kind ∙ e
+
+  pub kind-other : (one : Goal → Bool) (word : Bool) (g : Goal) → (x .kind ≡ 1 → ⊥) → (x .kind ≡ 2 → ⊥) → (x .kind ≡ 3 → ⊥)
+      → (x .kind ≡ 4 → ⊥) → false ≡ provesBy t one word g (suc i)
+  unfolding provesBy pick
+  kind-other one word g n1 n2 n3 n4 =
+      rw (ne-eqb (credential t (suc i) .kind) 3 (λ three. n3 (same-kind ∙ three)))
+      (sym (refuted _ (λ h.
+      let (goals, applies) = proved-some one word (premises t g (suc i) 0) h in
+      by-rule goals (rule-applied t g (suc i) 0 goals applies))))
+    where
+      by-rule : (goals : List Goal) → Rule t g (credential t (suc i)) 0 goals → ⊥
+      by-rule goals (membership one named z e) = n1 (same-kind ∙ one)
+      by-rule goals (containment two z e) = n2 (same-kind ∙ two)
+      by-rule goals (linking three range e) = n3 (same-kind ∙ three)
+      by-rule goals (intersection four z e) = n4 (same-kind ∙ four)
+
+-- an accepted table has at most 20 credentials
+pub below-most : {t : List ℕ} → WellFormed t → (i : ℕ) → i < credentials t → i < 20
+below-most wf i l = omega (arith, wf .sized .counted .fewCredentials)
+
+pub most : {t : List ℕ} → WellFormed t → (i : ℕ) → i ≤ credentials t → i ≤ 20
+most wf i l = omega (arith, wf .sized .counted .fewCredentials)
+
+-- the row that tells of so many levels is one of the table's
+pub row-fits : {t rows : List ℕ} {S levels last row : ℕ} → Members t S levels last rows → row ≡ lesser levels last → row ≤ 16
+unfolding lesser pick
+row-fits {levels = levels} {last = last} members e = rw e (go (ltb levels last) refl)
+  where
+    go : (b : Bool) → ltb levels last ≡ b → pick b levels last ≤ 16
+    go true less = omega (arith, ltb-true levels last less, members .few)
+    go false less = members .few

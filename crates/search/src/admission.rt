@@ -1,0 +1,121 @@
+// Whether some accepted record uses only credentials of a set: some derivation that uses only these complies with the automata
+// of the credentials that it uses. An automaton matters only where one of its credentials is used, so each automaton that the set
+// bears is either done without, by leaving its credentials out, or imposed on every word.
+use crate::Terms;
+use sets::AutomatonSet;
+use sets::CredentialSet;
+use table::Number;
+use table::Query;
+use table::layout;
+ghost use mathlib.Core.Path.{_≡_};
+ghost use Prim.Native.Nat.{_≤_};
+ghost use Rattle.table.specs.Limits.{mostAutomata};
+ghost use Rattle.table.specs.Holding.{WellFormed};
+ghost use Rattle.derivation.specs.Attached.{automataOf};
+ghost use Rattle.sets.specs.Logic.{_and_};
+ghost use Rattle.members.specs.Members.{Members};
+ghost use Rattle.search.specs.Search.{Prepared, provable};
+ghost use Rattle.search.specs.Admits;
+ghost use Rattle.search.specs.Admits.{admitsBy};
+
+// Whether some accepted record uses only credentials of the set.
+pub fn admits(table: &[Number], query: Query, index: &[u8], set: CredentialSet) -> bool
+    requires { ⌜ Prepared (now table) query (now index) ⌝ }
+    ensures { λ r. ⌜ r ≡ Admits.admits (now (table .entry)) query set ⌝ }
+{
+    admits_under(table, query, index, set, 0, layout::automata(table))
+}
+
+// Whether the set proves the membership under the constraints, and each automaton from k down to 1 that it bears can be done
+// without or imposed beside them.
+fn admits_under(
+    table: &[Number],
+    query: Query,
+    index: &[u8],
+    set: CredentialSet,
+    constraints: AutomatonSet,
+    k: usize,
+) -> bool
+    requires { ⌜ Prepared (now table) query (now index) ⌝ }
+    requires { ⌜ k ≤ mostAutomata ⌝ }
+    ensures { λ r. ⌜ r ≡ (provable (now (table .entry)) query set constraints
+        and admitsBy (now (table .entry)) query set constraints k) ⌝ }
+{
+    let mut rows = [0; members::TABLE_CELLS];
+    let last = members::fill(table, index, set, layout::wide(query.depth), &mut rows);
+    let terms = Terms {
+        allowed: set,
+        constraints: constraints,
+        last: last,
+    };
+    if !crate::provable(table, query, index, &rows, terms) {
+        return false;
+    }
+    admits_by(
+        table,
+        query,
+        index,
+        &rows,
+        terms,
+        derivation::automata_of(table, set),
+        k,
+    )
+}
+
+// Whether each automaton from k down to 1 that the set bears can be done without or imposed, where the set proves the membership
+// under the constraints there are.
+fn admits_by(
+    table: &[Number],
+    query: Query,
+    index: &[u8],
+    rows: &[CredentialSet],
+    terms: Terms,
+    borne: AutomatonSet,
+    k: usize,
+) -> bool
+    requires { ⌜ Prepared (now table) query (now index) ⌝ }
+    requires { ⌜ Members (now table) (terms .allowed) (query .depth) (terms .last) (now rows) ⌝ }
+    requires { ⌜ borne ≡ automataOf (now table) (terms .allowed) ⌝ }
+    requires { ⌜ k ≤ mostAutomata ⌝ }
+    ensures { λ r. ⌜ r ≡ admitsBy (now (table .entry)) query (terms .allowed) (terms .constraints) k ⌝ }
+{
+    if k == 0 {
+        return true;
+    }
+    if !sets::has_16(borne, k - 1) {
+        return admits_by(table, query, index, rows, terms, borne, k - 1);
+    }
+    let fewer = without(table, terms.allowed, k);
+    if admits_under(table, query, index, fewer, terms.constraints, k - 1) {
+        return true;
+    }
+    let more = Terms {
+        allowed: terms.allowed,
+        constraints: sets::with_16(terms.constraints, k - 1),
+        last: terms.last,
+    };
+    if !crate::provable(table, query, index, rows, more) {
+        return false;
+    }
+    admits_by(table, query, index, rows, more, borne, k - 1)
+}
+
+// The credentials of the set that do not bear automaton k.
+fn without(table: &[Number], set: CredentialSet, k: usize) -> CredentialSet
+    requires { ⌜ WellFormed (now table) ⌝ }
+    ensures { λ r. ⌜ r ≡ Admits.without (now (table .entry)) set k ⌝ }
+{
+    let n = layout::credentials(table);
+    let mut kept = 0;
+    let mut i = 0;
+    while i < n {
+        if sets::has(set, i) {
+            let credential = layout::credential(table, i + 1);
+            if credential.automaton as usize != k {
+                kept = sets::with(kept, i);
+            }
+        }
+        i += 1;
+    }
+    kept
+}
