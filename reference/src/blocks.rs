@@ -16,7 +16,7 @@ const BLOCK: usize = 512;
 /// Cells that the program has.
 const MOST_CELLS: usize = 64;
 /// So often it lists.
-const LISTS: usize = 4;
+pub const LISTS: usize = 4;
 /// What they hold beforehand. No set is so great.
 const UNTOUCHED: u32 = 2863311530;
 

@@ -47,7 +47,9 @@ impl StateSets {
         requires { ⌜ WellFormed (now table) ⌝ }
         ensures { λ r. ⌜ r ≡ movedSets (now (table .entry)) role self ⌝ }
     {
-        let mut sets = [0; AUTOMATA];
+        let mut next = StateSets {
+            sets: [0; AUTOMATA],
+        };
         let e = layout::edges(table);
         let mut k = 0;
         while k < e {
@@ -55,10 +57,10 @@ impl StateSets {
             let edge = layout::edge(table, k);
             if self.leads(edge, role) {
                 let at = layout::wide(edge.automaton) - 1;
-                sets[at] = sets::with_16(sets[at], layout::wide(edge.to));
+                next.sets[at] = sets::with_16(next.sets[at], layout::wide(edge.to));
             }
         }
-        StateSets { sets: sets }
+        next
     }
 
     // The automata that accept where their sets are now, as a set: automaton k counts 2^(k-1).

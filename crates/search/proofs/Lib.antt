@@ -5,6 +5,7 @@ pub mod Placing
 pub mod Trying
 pub mod Testing
 pub mod Starting
+pub mod Deriving
 pub mod Searching
 pub mod Admitting
 pub mod Deciding

@@ -7,10 +7,10 @@ use Rattle.automata.proofs.StateSets.moved.Statement.{statement}
 use Rattle.automata.proofs.StateSets.moved.Tie as tie
 
 abbrev Inv-loop : tie.InvT-loop
-Inv-loop self table role sets₀ e k₀ sets k = (k ≤ e) × Moving table role self k (record { sets = sets })
+Inv-loop self table role next₀ e k₀ next k = (k ≤ e) × Moving table role self k next
 
 abbrev μ-loop : tie.MeasureT-loop
-μ-loop self table role sets₀ e k₀ sets k = e - k
+μ-loop self table role next₀ e k₀ next k = e - k
 
 edges-requires : tie.Need-edges-requires Inv-loop μ-loop
 edges-requires c κs = search needs
@@ -42,8 +42,8 @@ sub-at c =
 mul-with-16 : tie.Need-mul-with-16 Inv-loop μ-loop
 mul-with-16 c = search needs
 
-array-read-with-16 : tie.Need-array-read-with-16 Inv-loop μ-loop
-array-read-with-16 c =
+element-copy-out-with-16 : tie.Need-element-copy-out-with-16 Inv-loop μ-loop
+element-copy-out-with-16 c =
     let pre = c .before .before .before .before .before .before .before .before .pre in
     let there = edge-there _ pre _ (omega arith) (c .before .before .before .edge .ensures) in
     omega arith
@@ -53,17 +53,17 @@ wide-requires-2 c κs = search needs
 
 with-16-requires : tie.Need-with-16-requires Inv-loop μ-loop
 with-16-requires c κs =
-    let pre = c .before .before .before .before .before .before .before .before .before .pre in
-    let there = edge-there _ pre _ (omega arith) (c .before .before .before .before .edge .ensures) in
-    omega arith
-
-mul-sets : tie.Need-mul-sets Inv-loop μ-loop
-mul-sets c = search needs
-
-array-write-sets : tie.Need-array-write-sets Inv-loop μ-loop
-array-write-sets c =
     let pre = c .before .before .before .before .before .before .before .before .before .before .pre in
     let there = edge-there _ pre _ (omega arith) (c .before .before .before .before .before .edge .ensures) in
+    omega arith
+
+mul-next : tie.Need-mul-next Inv-loop μ-loop
+mul-next c = search needs
+
+element-write-next : tie.Need-element-write-next Inv-loop μ-loop
+element-write-next c =
+    let pre = c .before .before .before .before .before .before .before .before .before .before .before .pre in
+    let there = edge-there _ pre _ (omega arith) (c .before .before .before .before .before .before .edge .ensures) in
     omega arith
 
 loop-less : tie.Need-loop-less Inv-loop μ-loop
@@ -71,13 +71,13 @@ loop-less c = search needs
 
 loop-again : tie.Need-loop-again Inv-loop μ-loop
 loop-again c =
-    let pre = c .before .before .before .before .before .before .before .before .before .before .pre in
-    let read = c .before .before .before .before .before .edge .ensures in
+    let pre = c .before .before .before .before .before .before .before .before .before .before .before .pre in
+    let read = c .before .before .before .before .before .before .edge .ensures in
     let (own, states) = edge-there _ pre _ (omega arith) read in
-    let so-far = c .before .before .before .before .before .before .before .loop .inv .1 in
-    let test = c .before .before .before .before .leads .ensures in
-    let taken = c .before .before .before .if1 .taken in
-    let automaton = c .before .before .wide .ensures .0 in
+    let so-far = c .before .before .before .before .before .before .before .before .loop .inv .1 in
+    let test = c .before .before .before .before .before .leads .ensures in
+    let taken = c .before .before .before .before .if1 .taken in
+    let automaton = c .before .before .before .wide .ensures .0 in
     (omega arith, moving-on _ _ _ _ _ so-far read own test taken automaton (c .before .wide2 .ensures .0) (c .with-16 .ensures))
 
 loop-less-2 : tie.Need-loop-less-2 Inv-loop μ-loop
@@ -108,11 +108,11 @@ moved-spec =
     wide-requires
     sub-at
     mul-with-16
-    array-read-with-16
+    element-copy-out-with-16
     wide-requires-2
     with-16-requires
-    mul-sets
-    array-write-sets
+    mul-next
+    element-write-next
     loop-less
     loop-again
     loop-less-2
