@@ -3,6 +3,7 @@
 use mathlib.Core.Path.{_≡_}
 use mathlib.Core.List.{List}
 use mathlib.Core.Bool.{true}
+use mathlib.Core.Logic.{_↔_}
 use Prim.Native.Nat.{ℕ, _^_, _<_}
 use native.Mathlib.Omega.{arith}
 use Rattle.table.specs.Layout.{credentials}
@@ -15,7 +16,7 @@ use Rattle.verifier.proofs.DemandTwo.{demand-two}
 use Rattle.cuts.proofs.Least.{least-least, least-passes, least-shown, least-within}
 use Rattle.sorted.proofs.Ascending.{one-list, those-numbers}
 use Rattle.search.specs.Admits.{admits}
-use Rattle.search.proofs.Admitting.{accepted-admits, accepted-fits, admits-accepted}
+use Rattle.search.proofs.Admitting.{accepted-admits, accepted-fits, admits-accepted, admits-mono}
 use Rattle.listing.specs.Minimal.{isMinimal, minimalSets}
 use Rattle.listing.specs.Demands.{Admitted, Minimal, MinimalSets, Used}
 
@@ -28,6 +29,13 @@ module _ (t : List ℕ) (wf : WellFormed t) (q : Query) (valid : Valid q) where
   admits-admitted S there =
       let (rec, T, a, within) = admits-accepted t wf q S there in
       (T, (rec, demand-two t q rec T (wf .accepted) valid .1 a), within)
+
+  pub admitted-admits : (S : ℕ) → Admitted t q S → admits t q S ≡ true
+  admitted-admits S (T, used, within) = admits-mono t wf q T S within (used-admits T used)
+
+  -- what the list asks of the search is what the demands say
+  pub admits-exactly : (S : ℕ) → (admits t q S ≡ true) ↔ Admitted t q S
+  admits-exactly S = (admits-admitted S, admitted-admits S)
 
   pub used-fits : (S : ℕ) → Used t q S → S < 2 ^ credentials t
   used-fits S (rec, e) = accepted-fits t q rec S (demand-two t q rec S (wf .accepted) valid .0 e)

@@ -31,7 +31,7 @@ use Rattle.members.proofs.ByKind.{middleRole, parts-few}
 use Rattle.members.proofs.Places.{person-is, person-stands}
 use Rattle.search.specs.Search.{Prepared, UsesOnly}
 use Rattle.search.specs.Relevance.{AsksIn, Relevant, Round, definedAt}
-use Rattle.search.proofs.Naming.{Tried, middle-tried}
+use Rattle.search.proofs.Naming.{IsMiddle, middle-tried}
 use Rattle.search.proofs.Within.{only-end, only-node}
 
 -- the roles of a list of at most n are all among the first n, the last one repeated behind it
@@ -79,7 +79,7 @@ module _ (t : List ℕ) (wf : WellFormed t) (index : List ℕ) (indexed : Indexe
         rw (indexed .linked (c - 1) (personAt t m) (at .0) known three′ one, names, at .1)
         at (asks-in .linked three′ (personAt t m) known (person-is t m known))
 
-    premises-reached : (g : Goal) (m : ℕ) (goals : List Goal) → Tried t c m → Rule t g (credential t c) m goals
+    premises-reached : (g : Goal) (m : ℕ) (goals : List Goal) → IsMiddle t c m → Rule t g (credential t c) m goals
         → everyGoal isReached goals ≡ true
     unfolding everyGoal isReached rolesAsked pick
     premises-reached g m goals tried (membership one named z e) = rw (← e)

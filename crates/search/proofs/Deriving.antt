@@ -21,12 +21,12 @@ use Rattle.derivation.proofs.Using.{placed}
 use Rattle.members.specs.Trying.{everyGoal, mayUse, provedPremises}
 use Rattle.members.specs.Members.{Members, lesser, listed, within}
 use Rattle.search.specs.Search.{UsesOnly}
-use Rattle.search.proofs.Naming.{Tried, middle-tried, tried-proves}
+use Rattle.search.proofs.Naming.{IsMiddle, middle-tried, tried-proves}
 use Rattle.search.proofs.Within.{only-below, only-here, only-later}
 
 -- a goal is there one level up, through a credential of the set that applies to it, where its premises are there
 within-through : (t : List ℕ) (S levels : ℕ) (g : Goal) (c m : ℕ) (goals : List Goal) → premises t g c m ≡ some goals
-    → inSet S (c - 1) ≡ true → Tried t c m → everyGoal (within t S levels) goals ≡ true → within t S (suc levels) g ≡ true
+    → inSet S (c - 1) ≡ true → IsMiddle t c m → everyGoal (within t S levels) goals ≡ true → within t S (suc levels) g ≡ true
 unfolding within mayUse provedPremises premises
 within-through t S levels g c m goals applies own tried each =
     let at = placed (applies-numbered t g c m goals applies) in

@@ -57,11 +57,11 @@ named-by t c p there one named =
     person-named t p (c - 1) (at .0) (rw (at .1) one) (rw (at .1) named)
 
 -- m is a middle that is tried with credential c: a principal with a place for kind 3, and 0 for the others
-pub record Tried (t : List ℕ) (c m : ℕ) : Type 0 where
+pub record IsMiddle (t : List ℕ) (c m : ℕ) : Type 0 where
   pub linking : credential t c .kind ≡ 3 → personAt t m < credentials t
   pub other : (credential t c .kind ≡ 3 → ⊥) → m ≡ 0
 
-pub tried-proves : (t : List ℕ) (one : Goal → Bool) (word : Bool) (g : Goal) (c m : ℕ) → Tried t c m
+pub tried-proves : (t : List ℕ) (one : Goal → Bool) (word : Bool) (g : Goal) (c m : ℕ) → IsMiddle t c m
     → provedPremises one word (premises t g c m) ≡ true → provesBy t one word g c ≡ true
 unfolding provesBy pick
 tried-proves t one word g c m tried h = go (ℕ-discrete (credential t c .kind) 3)
@@ -86,7 +86,7 @@ module _ (t : List ℕ) (wf : WellFormed t) (g : Goal) (c m : ℕ) (goals : List
       let some-part = some-parts t _ (credential t c .first) (wf-chain t wf c there four .least) in
       below _ (rw (← e) (asks-parts (g .principal) (parts t (credential t c .first)) some-part))
 
-  middle-named : Rule t g (credential t c) m goals → Tried t c m
+  middle-named : Rule t g (credential t c) m goals → IsMiddle t c m
   middle-named (membership one named z e) = record { linking = λ three. absurd (omega arith); other = λ n. z }
   middle-named (containment two z e) = record { linking = λ three. absurd (omega arith); other = λ n. z }
   middle-named (linking three range e) =
@@ -105,7 +105,7 @@ members-known {t} wf (step {c = c} {m = m} {goals = asked} {g = g} applies new d
 
 -- a node's middle is one that the search tries
 pub middle-tried : {t : List ℕ} → WellFormed t → {levels : ℕ} {branch : List Goal} {f : Forest} (g : Goal) (c m : ℕ)
-    (goals : List Goal) → premises t g c m ≡ some goals → Derives t levels branch goals f → Tried t c m
+    (goals : List Goal) → premises t g c m ≡ some goals → Derives t levels branch goals f → IsMiddle t c m
 middle-tried {t} wf g c m goals applies d =
     let there = applies-numbered t g c m goals applies in
     middle-named t wf g c m goals there (members-known wf d) (rule-applied t g c m goals applies)

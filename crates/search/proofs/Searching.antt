@@ -41,7 +41,7 @@ use Rattle.derivation.proofs.Applying.{applies-numbered, applies-role, asks-mor
 use Rattle.derivation.proofs.Ruling.{asks-nothing}
 use Rattle.derivation.proofs.Using.{placed}
 use Rattle.derivation.proofs.Running.{accepting-member, accepts-all-append, sets-after-next, sets-after-none, setsAfter}
-use Rattle.search.proofs.Naming.{Tried, middle-tried, tried-proves}
+use Rattle.search.proofs.Naming.{IsMiddle, middle-tried, tried-proves}
 use Rattle.search.proofs.Within.{only-below, only-here, only-later, only-node}
 
 -- an automaton that the table does not have starts in no state, so it accepts no word
@@ -271,7 +271,7 @@ module _ (t : List ℕ) (wf : WellFormed t) (S A : ℕ) where
 
   -- a goal is proved through a credential of the set that applies to it, once its premises are
   proves-through : (levels : ℕ) (above : ℕ) (s : StateSets) (g : Goal) (c m : ℕ) (goals : List Goal)
-      → premises t g c m ≡ some goals → not (inSet above (roleAt t (g .role))) ≡ true → inSet S (c - 1) ≡ true → Tried t c m
+      → premises t g c m ≡ some goals → not (inSet above (roleAt t (g .role))) ≡ true → inSet S (c - 1) ≡ true → IsMiddle t c m
       → let below = stepped t A (g .role) s in
       let each = everyGoal (proves t S A levels (bitOr above (2 ^ roleAt t (g .role))) below) goals in
       pick (eqb (length goals) 0) (part A (acceptingSet t below)) each ≡ true
