@@ -84,6 +84,25 @@ uint32_t bwlchareg_list(const uint16_t *table, size_t table_length,
                         uint32_t *sets, size_t sets_length,
                         uint64_t *value);
 
+/* Writes the first record of a minimal set: rows 1 to 8, then 15 and 16. On 0 the value is the record's length in numbers, 1 to
+ * record_length, and the first cells of `record`, as many as the value says, hold the record.
+ *
+ *  15  the set is not on the list that bwlchareg_list makes for this table and query    position 0
+ *  16  fewer cells than the record has numbers                                          position 0
+ *
+ * bwlchareg_verify accepts the record, with exactly this set, and every other record that it accepts and that uses only credentials
+ * of the set comes later, compared number by number, the smaller first.
+ *
+ * Cells beyond the record are unchanged, and on a refusal no cell changes, so the buffer is never scratch space. A record may have
+ * more than a thousand million nodes; on 16 the call ends after about as many steps as there are cells, times the work of a node.
+ * `record` must overlap neither the table nor the last parameter.
+ */
+uint32_t bwlchareg_write(const uint16_t *table, size_t table_length,
+                         uint16_t principal, uint16_t owner, uint16_t name, uint16_t depth,
+                         uint32_t set,
+                         uint16_t *record, size_t record_length,
+                         uint64_t *value);
+
 #ifdef __cplusplus
 }
 #endif

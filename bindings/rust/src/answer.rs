@@ -46,11 +46,12 @@ impl Answer {
         }
     }
 
-    /// The answer to a listing, whose value is the count.
+    /// The answer to a listing, whose value is the count, or to a writing, whose
+    /// value is the record's length.
     ///
     /// Accepted is number 0 with a count of 1 to as many as there are cells and
     /// nothing else, so a library that left the value unwritten, or counts more
-    /// sets than it was lent cells for, is never taken to have made a list.
+    /// than it was lent cells for, is never taken to have filled them.
     pub fn count(self, cells: usize) -> Result<usize, Refusal> {
         match (self.number, usize::try_from(self.value)) {
             (0, Ok(count)) if (1..=cells).contains(&count) => Ok(count),

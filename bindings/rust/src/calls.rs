@@ -186,3 +186,72 @@ pub fn verify(table: &[u16], query: Query, record: &[u16]) -> Result<u32, Refusa
 pub fn list(table: &[u16], query: Query, cells: &mut [u32]) -> Result<usize, Refusal> {
     ffi::list(table, query, cells).count(cells.len())
 }
+
+/// Writes the first record of a minimal set: what the holder shows for a set of
+/// the [`list`]. The record stands in the first of the lent cells, two numbers
+/// for each node, and the answer is its length in numbers.
+///
+/// It is the record that [`verify`] accepts with exactly this set as its used
+/// set and that comes first, compared number by number, the smaller first:
+/// every other accepted record that uses only credentials of the set comes
+/// later.
+///
+/// Cells beyond the record are unchanged. `write` takes any cells; what they
+/// held does not matter.
+///
+/// # Errors
+///
+/// Refusals 1 to 8 as for [`check_query`]; then 15 ([`Refusal::NOT_LISTED`]) if
+/// the set is not on the list; and 16 ([`Refusal::LONGER_RECORD`]) if there are
+/// fewer cells than the record has numbers. On a refusal no cell changes. A
+/// record of sixteen levels may have more than a thousand million nodes; with
+/// fewer cells the call ends after about as many steps as there are cells.
+///
+/// # Examples
+///
+/// From the list to records that the verifier accepts, with cells that grow
+/// until the record fits:
+///
+/// ```
+/// use bwlchareg::{list, verify, write, Query, Refusal};
+///
+/// fn record_of(table: &[u16], query: Query, set: u32) -> Result<Vec<u16>, Refusal> {
+///     let mut cells = vec![0; 2];
+///     loop {
+///         match write(table, query, set, &mut cells) {
+///             Ok(length) => {
+///                 cells.truncate(length);
+///                 return Ok(cells);
+///             }
+///             Err(refusal) if refusal.number == Refusal::LONGER_RECORD => {
+///                 cells.resize(2 * cells.len(), 0);
+///             }
+///             Err(refusal) => return Err(refusal),
+///         }
+///     }
+/// }
+///
+/// let table = [
+///     4, 0, 0, 0, //
+///     1, 1, 3, 3, 2, 0, // whoever is in M.2, for some M in 1.3, is in 1.1
+///     1, 3, 1, 2, 0, 0, // principal 2 is in 1.3
+///     2, 2, 1, 4, 0, 0, // principal 4 is in 2.2
+///     1, 1, 1, 4, 0, 0, // principal 4 is in 1.1
+/// ];
+/// let query = Query { principal: 4, owner: 1, name: 1, depth: 2 };
+/// let mut sets = [0; 4];
+/// let count = list(&table, query, &mut sets)?;
+/// for &set in &sets[..count] {
+///     let record = record_of(&table, query, set)?;
+///     assert_eq!(verify(&table, query, &record), Ok(set));
+/// }
+/// assert_eq!(record_of(&table, query, 7)?, [1, 2, 2, 0, 3, 0]);
+///
+/// // All four credentials prove it too, but the set is not minimal.
+/// let refusal = record_of(&table, query, 15).unwrap_err();
+/// assert_eq!(refusal.number, Refusal::NOT_LISTED);
+/// # Ok::<(), Refusal>(())
+/// ```
+pub fn write(table: &[u16], query: Query, set: u32, record: &mut [u16]) -> Result<usize, Refusal> {
+    ffi::write(table, query, set, record).count(record.len())
+}

@@ -42,6 +42,19 @@ extern "C" {
         sets_length: usize,
         value: *mut u64,
     ) -> u32;
+
+    fn bwlchareg_write(
+        table: *const u16,
+        table_length: usize,
+        principal: u16,
+        owner: u16,
+        name: u16,
+        depth: u16,
+        set: u32,
+        record: *mut u16,
+        record_length: usize,
+        value: *mut u64,
+    ) -> u32;
 }
 
 pub fn check(table: &[u16]) -> Answer {
@@ -97,6 +110,24 @@ pub fn list(table: &[u16], query: Query, cells: &mut [u32]) -> Answer {
             query.depth,
             cells.as_mut_ptr(),
             cells.len(),
+            value,
+        )
+    })
+}
+
+pub fn write(table: &[u16], query: Query, set: u32, record: &mut [u16]) -> Answer {
+    // SAFETY: as for `list`; the set is passed by value.
+    Answer::of(|value| unsafe {
+        bwlchareg_write(
+            table.as_ptr(),
+            table.len(),
+            query.principal,
+            query.owner,
+            query.name,
+            query.depth,
+            set,
+            record.as_mut_ptr(),
+            record.len(),
             value,
         )
     })

@@ -9,6 +9,7 @@
 //! | [`check`] | is this a table of credentials? |
 //! | [`check_query`] | is it, and is this a query? |
 //! | [`list`] | which minimal sets of credentials prove the queried membership? |
+//! | [`write`] | which record does the holder show for a minimal set? |
 //! | [`verify`] | is this record a proof of it that keeps to every constraint it uses? |
 //!
 //! Everything is given as numbers; [`layout`] says what each of them means and
@@ -17,7 +18,7 @@
 //! with a [`Refusal`]: a number, a position, and both in words.
 //!
 //! ```
-//! use bwlchareg::{check, list, verify, Query};
+//! use bwlchareg::{check, list, verify, write, Query};
 //!
 //! // Shop 1, School 2, Ann 4; discount 1, student 2, accredited 3.
 //! let table = [
@@ -38,8 +39,13 @@
 //! assert_eq!(cells[..count], [0b0111, 0b1000]);
 //!
 //! // Ann shows the first: credential 1 with School as the middle, and below
-//! // it credentials 2 and 3. The answer is the set that the record uses.
-//! let used = verify(&table, query, &[1, 2, 2, 0, 3, 0])?;
+//! // it credentials 2 and 3. The record has six numbers.
+//! let mut record = [0; 16];
+//! let length = write(&table, query, cells[0], &mut record)?;
+//! assert_eq!(record[..length], [1, 2, 2, 0, 3, 0]);
+//!
+//! // The verifier's answer is the set that the record uses.
+//! let used = verify(&table, query, &record[..length])?;
 //! assert_eq!(used, 0b0111);
 //! # Ok::<(), bwlchareg::Refusal>(())
 //! ```
@@ -48,7 +54,7 @@
 //!
 //! The library's side of every call is proved to meet its contract, for every
 //! input of every length: it ends, it reads only what it is lent, it writes
-//! only the cells that [`list`] names, and it answers what `layout` and the
+//! only the cells that [`list`] and [`write`] name, and it answers what `layout` and the
 //! table at [`Refusal`] say. No call panics, keeps anything for the next one or
 //! takes memory other than the stack, so calls may be made from several
 //! threads at once.
@@ -79,7 +85,7 @@ mod sets;
 #[doc = include_str!("../README.md")]
 struct Readme;
 
-pub use calls::{check, check_query, list, verify};
+pub use calls::{check, check_query, list, verify, write};
 pub use query::Query;
 pub use refusal::Refusal;
 pub use sets::credentials;

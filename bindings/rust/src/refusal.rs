@@ -27,10 +27,12 @@ use std::fmt;
 /// | 12 | a node's credential is not in the table, defines another role than the goal's, or is kind 1 of another principal, or the middle is wrong | the node |
 /// | 13 | a node's level is above the depth limit, or its role is already on the branch | the node |
 /// | 14 | an automaton of a credential that the record uses rejects a word of the record | the least such automaton |
+/// | 15 | the set is not on the list of minimal sets | 0 |
+/// | 16 | there are fewer cells than the record has numbers | 0 |
 ///
 /// [`check`](crate::check) gives 1 to 7, [`check_query`](crate::check_query) 1
 /// to 8, [`list`](crate::list) 1 to 10, [`verify`](crate::verify) 1 to 8 and 11
-/// to 14. Any other number means that the archive which is linked is not the
+/// to 14, [`write`](crate::write) 1 to 8, 15 and 16. Any other number means that the archive which is linked is not the
 /// one that this crate is for; so does 0, which no refusal of the library has.
 ///
 /// # Examples
@@ -73,7 +75,7 @@ use std::fmt;
 /// ```
 #[derive(Clone, Copy, Debug, PartialEq, Eq, Hash)]
 pub struct Refusal {
-    /// The number of the condition that the input meets, 1 to 14.
+    /// The number of the condition that the input meets, 1 to 16.
     pub number: u32,
     /// The record of the table, query field, node or automaton that meets it,
     /// counted from 1; 0 where the condition has no place of its own.
@@ -89,6 +91,14 @@ impl Refusal {
     /// buffer": there are more minimal sets than cells. The cells are filled
     /// with the first ones.
     pub const LONGER: u32 = 10;
+
+    /// The number with which [`write`](crate::write) answers that the set is
+    /// not on the list. No cell has changed.
+    pub const NOT_LISTED: u32 = 15;
+
+    /// The number with which [`write`](crate::write) answers that there are
+    /// fewer cells than the record has numbers. No cell has changed.
+    pub const LONGER_RECORD: u32 = 16;
 
     /// The refusal in words, its position included: what `Display` writes.
     ///
@@ -106,6 +116,7 @@ impl fmt::Display for Refusal {
         let position = self.position;
         match self.number {
             1..=3 | Refusal::NONE | Refusal::LONGER => {}
+            Refusal::NOT_LISTED | Refusal::LONGER_RECORD => {}
             4 | 6 => write!(out, "credential {position} ")?,
             5 => write!(out, "part cell {position} ")?,
             7 => write!(out, "edge {position} ")?,
@@ -149,6 +160,8 @@ fn condition(number: u32) -> &'static str {
         }
         13 => "is deeper than the depth limit, or its role is already on the branch",
         14 => "rejects a word of the record",
+        Refusal::NOT_LISTED => "the set is not on the list of minimal sets",
+        Refusal::LONGER_RECORD => "there are fewer cells than the record has numbers",
         _ => "is no refusal of the library",
     }
 }
@@ -174,11 +187,11 @@ mod tests {
 
     #[test]
     fn every_refusal_has_words_of_its_own() {
-        let mut all: Vec<String> = (1..=14).map(|number| words(number, 1)).collect();
+        let mut all: Vec<String> = (1..=16).map(|number| words(number, 1)).collect();
         assert!(all.iter().all(|text| !text.contains("no refusal")));
         all.sort();
         all.dedup();
-        assert_eq!(all.len(), 14);
+        assert_eq!(all.len(), 16);
     }
 
     #[test]
@@ -186,7 +199,7 @@ mod tests {
         for number in [4, 5, 6, 7, 11, 12, 13, 14] {
             assert!(words(number, 713).contains(" 713"), "number {number}");
         }
-        for number in [1, 2, 3, 9, 10] {
+        for number in [1, 2, 3, 9, 10, 15, 16] {
             assert_eq!(words(number, 713), words(number, 0));
         }
     }
@@ -203,7 +216,7 @@ mod tests {
 
     #[test]
     fn what_is_no_refusal_is_said_to_be_none() {
-        for number in [0, 15, u32::MAX] {
+        for number in [0, 17, u32::MAX] {
             let text = words(number, u64::MAX);
             assert!(text.contains("no refusal"), "{text}");
             assert!(text.contains(&number.to_string()), "{text}");
