@@ -197,7 +197,7 @@ fn keep(
 }
 
 // Whether an admitted set is minimal: without any one of its credentials it is not admitted.
-fn is_minimal(table: &[Number], query: Query, index: &[u8], set: CredentialSet) -> bool
+pub fn is_minimal(table: &[Number], query: Query, index: &[u8], set: CredentialSet) -> bool
     requires { ⌜ Prepared (now table) query (now index) ⌝ }
     requires { ⌜ set < 2 ^ credentials (now table) ⌝ }
     requires { ⌜ admits (now table) query set ≡ true ⌝ }

@@ -4,6 +4,7 @@
 // definition means.
 mod below; // below.rt: the search over sets, by cuts
 
+pub use below::is_minimal;
 use checks::QueryCheck;
 use sets::CredentialSet;
 use table::Number;

@@ -85,7 +85,7 @@ pub fn goal_search(
 }
 
 // Credential i + 1 proves the goal, with some middle; so many levels are left for what it asks.
-fn credential_search(
+pub fn credential_search(
     table: &[Number],
     index: &[u8],
     rows: &[CredentialSet],
@@ -259,7 +259,7 @@ fn ends_word(
 }
 
 // A principal stands at j who is in the first role, and the one at `person` is in the second, by the row.
-fn is_middle(
+pub fn is_middle(
     table: &[Number],
     index: &[u8],
     rows: &[CredentialSet],
@@ -287,7 +287,7 @@ fn is_middle(
 }
 
 // The row that tells of so many levels: from the last row on nothing is new.
-fn row_of(levels: usize, last: usize) -> usize
+pub fn row_of(levels: usize, last: usize) -> usize
     ensures { λ r. ⌜ r ≡ lesser levels last ⌝ }
 {
     if levels < last {
@@ -306,7 +306,7 @@ fn is_listed(rows: &[CredentialSet], row: usize, person: usize, place: usize) ->
 }
 
 // The role that stands at a place.
-fn role_of(table: &[Number], place: usize) -> Role
+pub fn role_of(table: &[Number], place: usize) -> Role
     requires { ⌜ WellFormed (now table) ⌝ }
     requires { ⌜ place < credentials (now table) ⌝ }
     ensures { λ r. ⌜ r ≡ credential (now (table .entry)) (suc place) .role ⌝ }
@@ -316,7 +316,12 @@ fn role_of(table: &[Number], place: usize) -> Role
 }
 
 // The state sets one role on; where no automaton is imposed nobody asks for them.
-fn stepped(table: &[Number], constraints: AutomatonSet, role: Role, states: StateSets) -> StateSets
+pub fn stepped(
+    table: &[Number],
+    constraints: AutomatonSet,
+    role: Role,
+    states: StateSets,
+) -> StateSets
     requires { ⌜ WellFormed (now table) ⌝ }
     ensures { λ r. ⌜ r ≡ Search.stepped (now (table .entry)) constraints role states ⌝ }
 {
@@ -327,7 +332,7 @@ fn stepped(table: &[Number], constraints: AutomatonSet, role: Role, states: Stat
 }
 
 // Credential i + 1 is allowed and defines the role at `place`.
-fn may_use(index: &[u8], allowed: CredentialSet, place: usize, i: usize) -> bool
+pub fn may_use(index: &[u8], allowed: CredentialSet, place: usize, i: usize) -> bool
     requires { ⌜ Placed (now index) ⌝ }
     requires { ⌜ i < 20 ⌝ }
     ensures { λ r. ⌜ r ≡ usable (now (index .entry)) allowed place i ⌝ }

@@ -8,6 +8,13 @@ mod relevance; // relevance.rt: which credentials bear on a query
 
 pub use admission::admits;
 use automata::StateSets;
+pub use goals::credential_search;
+pub use goals::goal_search;
+pub use goals::is_middle;
+pub use goals::may_use;
+pub use goals::role_of;
+pub use goals::row_of;
+pub use goals::stepped;
 pub use relevance::relevant;
 use sets::AutomatonSet;
 use sets::CredentialSet;
@@ -21,7 +28,7 @@ ghost use Rattle.search.specs.Search.{Prepared};
 
 // What a search does not change on its way: the credentials that may be used, credential i counting 2^(i-1); the automata that must
 // accept every word, automaton k counting 2^(k-1); and the last row of the table of members.
-struct Terms {
+pub struct Terms {
     pub allowed: CredentialSet,
     pub constraints: AutomatonSet,
     pub last: usize,

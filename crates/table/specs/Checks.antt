@@ -145,6 +145,8 @@ numberOf reason.RecordLength = 11
 numberOf reason.Node = 12
 numberOf reason.Branch = 13
 numberOf reason.Word = 14
+numberOf reason.NotListed = 15
+numberOf reason.LongerRecord = 16
 
 unfoldable pub told : Refusal → Outcome
 unfolding numberOf

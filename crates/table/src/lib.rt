@@ -109,6 +109,8 @@ pub enum Reason {
     Node,
     Branch,
     Word,
+    NotListed,
+    LongerRecord,
 }
 
 impl Reason {
@@ -131,6 +133,8 @@ impl Reason {
             Reason::Node => 12,
             Reason::Branch => 13,
             Reason::Word => 14,
+            Reason::NotListed => 15,
+            Reason::LongerRecord => 16,
         }
     }
 }

@@ -1,0 +1,115 @@
+-- docs/DEFINITION.md, "The first record": which credential and which middle a node of the first record has. `one` says which goals
+-- can be proved below the node, and `word` whether a word may end at it.
+use Prim.Native.Nat.{ℕ, suc, _<_, _≤_}
+use mathlib.Core.Path.{_≡_}
+use mathlib.Core.List.{List, []}
+use mathlib.Core.Bool.{Bool, true}
+use mathlib.Core.Option.{Option, none, some}
+use lib.ListN.{getD, length}
+use lib.Dec.{leb, ltb}
+use Rattle.sets.specs.Logic.{_and_, _or_}
+use Rattle.sets.specs.Sets.{inSet, part, setOf}
+use Rattle.table.specs.Limits.{mostParts, mostPrincipals}
+use Rattle.table.specs.Layout.{credential, credentials}
+use Rattle.table.specs.declared.Goal.{Goal}
+use Rattle.automata.specs.Together.{acceptingSet}
+use Rattle.automata.specs.declared.StateSets.{StateSets}
+use Rattle.derivation.specs.Rules.{premises}
+use Rattle.derivation.specs.Held.{noGoal}
+use Rattle.members.specs.Places.{isPerson, least}
+use Rattle.members.specs.Trying.{mayUse, provedPremises, provesBy}
+use Rattle.members.specs.Members.{askedCell, linkCell, rowCell}
+use Rattle.search.specs.Search.{Stands, goalAt, proves, provesAt, usable}
+use Rattle.choice.specs.declared.Node.{Node}
+
+-- credential c + 1 is in the set, defines the goal's role, and proves the goal
+abbrev pub provesWith : List ℕ → ℕ → (Goal → Bool) → Bool → Goal → ℕ → Bool
+provesWith t S one word g = λ c. mayUse t S g (suc c) and provesBy t one word g (suc c)
+
+-- the least credential of the set that proves the goal
+unfoldable pub leastCredential : List ℕ → ℕ → (Goal → Bool) → Bool → Goal → ℕ
+leastCredential t S one word g = suc (least (provesWith t S one word g) (credentials t))
+
+-- the least middle with which credential c proves the goal; 0 for every kind but 3, which asks nothing with another
+unfoldable pub leastMiddle : List ℕ → (Goal → Bool) → Bool → Goal → ℕ → ℕ
+leastMiddle t one word g c = least (λ m. provedPremises one word (premises t g c m)) (suc mostPrincipals)
+
+-- the goals that a credential asks; none where it does not apply
+unfoldable pub asked : Option (List Goal) → List Goal
+asked none = []
+asked (some goals) = goals
+
+-- the goals by the places of principal and role, each of them proved
+pub record Children (t : List ℕ) (S A levels above : ℕ) (s : StateSets) (goals : List Goal) (len : ℕ) (persons places : List ℕ)
+    : Type 0 where
+  pub few : len ≤ mostParts
+  pub people : length persons ≡ mostParts
+  pub roles : length places ≡ mostParts
+  pub count : len ≡ length goals
+  pub stands : (k : ℕ) → k < len → Stands t (getD persons k 0) (getD places k 0)
+  pub proved : (k : ℕ) → k < len → provesAt t S A levels above s (getD persons k 0) (getD places k 0) ≡ true
+  pub goals-are : (k : ℕ) → k < len → goalAt t (getD persons k 0) (getD places k 0) ≡ getD goals k noGoal
+
+-- the node's numbers are the least, and its children are what they ask; so many levels are left below the node
+pub record Chosen (t : List ℕ) (S A levels above : ℕ) (s : StateSets) (g : Goal) (node : Node) : Type 0 where
+  pub credential-is : node .credential
+      ≡ leastCredential t S (proves t S A levels above s) (part A (acceptingSet t s)) g
+  pub middle-is : node .middle
+      ≡ leastMiddle t (proves t S A levels above s) (part A (acceptingSet t s)) g (node .credential)
+  pub children : Children t S A levels above s (asked (premises t g (node .credential) (node .middle)))
+      (node .len) (node .persons) (node .places)
+
+-- the node of credential i + 1, which is not of kind 3, and asks the first `len` roles of its cells
+pub record Unlinked (index : List ℕ) (person i len : ℕ) (node : Node) : Type 0 where
+  pub credential-is : node .credential ≡ suc i
+  pub middle-is : node .middle ≡ 0
+  pub len-is : node .len ≡ len
+  pub people : length (node .persons) ≡ mostParts
+  pub roles : length (node .places) ≡ mostParts
+  pub person-is : (k : ℕ) → k < mostParts → getD (node .persons) k 0 ≡ person
+  pub place-is : (k : ℕ) → k < mostParts → getD (node .places) k 0 ≡ getD index (askedCell i k) 0
+
+-- the node of credential i + 1, of kind 3, with the principal at j as its middle
+pub record Linked (index : List ℕ) (person i j middle : ℕ) (node : Node) : Type 0 where
+  pub credential-is : node .credential ≡ suc i
+  pub middle-is : node .middle ≡ middle
+  pub len-is : node .len ≡ 2
+  pub people : length (node .persons) ≡ mostParts
+  pub roles : length (node .places) ≡ mostParts
+  pub first-person : getD (node .persons) 0 0 ≡ j
+  pub second-person : getD (node .persons) 1 0 ≡ person
+  pub first-place : getD (node .places) 0 0 ≡ getD index (askedCell i 0) 0
+  pub second-place : getD (node .places) 1 0 ≡ getD index (linkCell i j) 0
+
+-- r is the last of the first n credentials that the index lets be used for the role at `place`
+pub record LastUsable (index : List ℕ) (S place n r : ℕ) : Type 0 where
+  pub few : r < n
+  pub none : (i : ℕ) → r < i → i < n → usable index S place i ≡ true → ⊥
+
+-- the principal at j is a middle with which credential i + 1, of kind 3, proves the goal
+abbrev pub leads : List ℕ → List ℕ → ℕ → ℕ → ℕ → ℕ → StateSets → ℕ → ℕ → ℕ → Bool
+leads t index S A levels above s person i = λ j.
+    isPerson t j and provesAt t S A levels above s j (getD index (askedCell i 0) 0)
+    and provesAt t S A levels above s person (getD index (linkCell i j) 0)
+
+-- the principals whom the row has as middles of credential i + 1, among those that stand below n
+unfoldable pub listedMiddles : List ℕ → List ℕ → List ℕ → ℕ → ℕ → ℕ → ℕ → ℕ
+listedMiddles t index rows row person i n =
+    setOf (λ j. inSet (getD rows (rowCell row (getD index (askedCell i 0) 0)) 0) j
+    and inSet (getD rows (rowCell row (getD index (linkCell i j) 0)) 0) person and isPerson t j) n
+
+-- the first number of credential j + 1 is less than that of best + 1, or there is no such credential
+unfoldable pub comesBefore : List ℕ → ℕ → ℕ → Bool
+comesBefore t j best = leb (credentials t) best or ltb (credential t (suc j) .first) (credential t (suc best) .first)
+
+-- of the principals that stand at places of the set, the one at r has the least number
+pub record LeastNamed (t : List ℕ) (places r : ℕ) : Type 0 where
+  pub there : r < credentials t
+  pub member : inSet places r ≡ true
+  pub least : (k : ℕ) → inSet places k ≡ true → credential t (suc r) .first ≤ credential t (suc k) .first
+
+-- of the middles that pass, the one at r has the least number
+pub record LeastMiddle (t : List ℕ) (passes : ℕ → Bool) (r : ℕ) : Type 0 where
+  pub there : r < credentials t
+  pub leads-on : passes r ≡ true
+  pub least : (k : ℕ) → k < credentials t → passes k ≡ true → credential t (suc r) .first ≤ credential t (suc k) .first

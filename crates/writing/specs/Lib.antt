@@ -1,0 +1,4 @@
+pub mod First
+pub mod Walked
+pub mod Writing
+pub mod Writes

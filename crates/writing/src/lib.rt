@@ -1,0 +1,106 @@
+// The holder's end, after the list: the first record of a listed set (docs/DEFINITION.md, "The first record"). It is walked twice, once
+// to count and once to write, so that a record that does not fit leaves every cell unchanged. specs/Writing.antt says what the answer
+// and the cells are; specs/Writes.antt states that this is the record that the definition means.
+mod walk; // walk.rt: the nodes of the record, in preorder
+
+use checks::QueryCheck;
+use search::Terms;
+use sets::CredentialSet;
+use table::Number;
+use table::Query;
+use table::Reason;
+use table::Refusal;
+use table::layout;
+ghost use mathlib.Core.Path.{_≡_};
+ghost use mathlib.Core.Bool.{true};
+ghost use lib.ListN.{length};
+ghost use Rattle.table.specs.Outcome.{Outcome};
+ghost use Rattle.table.specs.Holding.{WellFormed};
+ghost use Rattle.table.specs.Checks.{Valid, numberOf};
+ghost use Rattle.search.specs.Search.{Prepared};
+ghost use Rattle.listing.specs.Minimal.{isMinimal};
+ghost use Rattle.writing.specs.Writing.{Tells, recordAfter, writing, writtenTold};
+
+// The record's length in numbers; it stands in the first cells.
+pub enum Written {
+    Length(usize),
+    Refused(Refusal),
+}
+
+// Writes the accepted record that uses exactly the set and comes first, number by number: rows 1 to 8, then 15, 16 or the record, for
+// any table, query, set and cells. Cells beyond the record are unchanged, and on a refusal all are.
+pub fn write(table: &[Number], query: Query, set: CredentialSet, rec: &mut [Number]) -> Written
+    ensures { λ r. ⌜ (writtenTold r ≡ writing (now (table .entry)) query set (length (now (rec .entry))))
+        × (now (rec .exit) ≡ recordAfter (now (table .entry)) query set (now (rec .entry))) ⌝ }
+{
+    match checks::check_request(table, query) {
+        QueryCheck::Valid => write_checked(table, query, set, rec),
+        QueryCheck::Refused(why) => Written::Refused(why),
+    }
+}
+
+// Row 15, or what follows it.
+fn write_checked(table: &[Number], query: Query, set: CredentialSet, rec: &mut [Number]) -> Written
+    requires { ⌜ WellFormed (now table) ⌝ }
+    requires { ⌜ Valid query ⌝ }
+    ensures { λ r. ⌜ Tells (now (table .entry)) query set (now (rec .entry)) (now (rec .exit)) (writtenTold r) ⌝ }
+{
+    let index = members::index(table, query);
+    if !is_listed(table, query, &index, set) {
+        return refused(Reason::NotListed);
+    }
+    write_listed(table, query, &index, set, rec)
+}
+
+// Whether the set is on the list: it is admitted, and not without any one of its credentials. No list is made.
+fn is_listed(table: &[Number], query: Query, index: &[u8], set: CredentialSet) -> bool
+    requires { ⌜ Prepared (now table) query (now index) ⌝ }
+    ensures { λ r. ⌜ r ≡ isMinimal (now (table .entry)) query set ⌝ }
+{
+    if set >> layout::credentials(table) != 0 {
+        return false;
+    }
+    if !search::admits(table, query, index, set) {
+        return false;
+    }
+    listing::is_minimal(table, query, index, set)
+}
+
+// Row 16, or the record. The length is known before the first cell is written: the record is walked without cells first, up to as many
+// numbers as there are cells.
+fn write_listed(
+    table: &[Number],
+    query: Query,
+    index: &[u8],
+    set: CredentialSet,
+    rec: &mut [Number],
+) -> Written
+    requires { ⌜ Prepared (now table) query (now index) ⌝ }
+    requires { ⌜ isMinimal (now table) query set ≡ true ⌝ }
+    ensures { λ r. ⌜ Tells (now (table .entry)) query set (now (rec .entry)) (now (rec .exit)) (writtenTold r) ⌝ }
+{
+    let mut rows = [0; members::TABLE_CELLS];
+    let last = members::fill(table, index, set, layout::wide(query.depth), &mut rows);
+    let terms = Terms {
+        allowed: set,
+        constraints: derivation::automata_of(table, set),
+        last: last,
+    };
+    let cells = rec.len();
+    let len = walk::from_goal(table, query, index, &rows, terms, cells, &mut rec[..0]);
+    if cells < len {
+        return refused(Reason::LongerRecord);
+    }
+    walk::from_goal(table, query, index, &rows, terms, cells, rec);
+    Written::Length(len)
+}
+
+// A refusal of the writing as a whole has position 0.
+fn refused(reason: Reason) -> Written
+    ensures { λ r. ⌜ writtenTold r ≡ Outcome.refused (numberOf reason) 0 ⌝ }
+{
+    Written::Refused(Refusal {
+        reason: reason,
+        position: 0,
+    })
+}
