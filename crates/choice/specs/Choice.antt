@@ -17,14 +17,11 @@ use Rattle.automata.specs.declared.StateSets.{StateSets}
 use Rattle.derivation.specs.Rules.{premises}
 use Rattle.derivation.specs.Held.{noGoal}
 use Rattle.members.specs.Places.{isPerson, least}
-use Rattle.members.specs.Trying.{mayUse, provedPremises, provesBy}
+use Rattle.members.specs.Trying.{provedPremises}
 use Rattle.members.specs.Members.{askedCell, linkCell, rowCell}
+pub use Rattle.search.specs.Search.{provesWith}
 use Rattle.search.specs.Search.{Stands, goalAt, proves, provesAt, usable}
 use Rattle.choice.specs.declared.Node.{Node}
-
--- credential c + 1 is in the set, defines the goal's role, and proves the goal
-abbrev pub provesWith : List ℕ → ℕ → (Goal → Bool) → Bool → Goal → ℕ → Bool
-provesWith t S one word g = λ c. mayUse t S g (suc c) and provesBy t one word g (suc c)
 
 -- the least credential of the set that proves the goal
 unfoldable pub leastCredential : List ℕ → ℕ → (Goal → Bool) → Bool → Goal → ℕ

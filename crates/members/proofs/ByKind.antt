@@ -165,7 +165,7 @@ module _ (t : List ℕ) (wf : WellFormed t) (one : Goal → Bool) (word : Bool) 
       ∙ all-roles (parts t (credential t c .first)) (few .0) (few .1)
       ∙ ap allProved (sym (roles-4 t _ kind))
 
-  with-middle : credential t c .kind ≡ 3 → (j : ℕ) → j < credentials t → isPerson t j ≡ true
+  pub with-middle : credential t c .kind ≡ 3 → (j : ℕ) → j < credentials t → isPerson t j ≡ true
       → provedPremises one word (premises t g c (middleAt t j)) ≡ byMiddle t one g c j
   unfolding isPerson pick _and_ everyGoal
   with-middle kind j l person =

@@ -116,7 +116,7 @@ module _ (t : List ℕ) (c : Credential) where
       }
 
 -- the list's own role where there is one, and the last behind
-padded-inside : (roles : List Role) (k : ℕ) (d : Role) → k < length roles → getD roles k d ≡ padded roles k
+pub padded-inside : (roles : List Role) (k : ℕ) (d : Role) → k < length roles → getD roles k d ≡ padded roles k
 unfolding padded
 padded-inside [] k d l = absurd (omega arith)
 padded-inside (r ∷ []) zero d l = refl
@@ -136,7 +136,7 @@ padded-behind (r ∷ s ∷ roles) (suc k) (suc last) d e l = padded-behind (s �
 
 -- a chain as the code holds it
 module _ (t : List ℕ) (first : ℕ) (held : Chain) (holds : Holds t first held) where
-  held-length : length (parts t first) ≡ held .len
+  pub held-length : length (parts t first) ≡ held .len
   held-length = rw (← holds .roles) (length-take-le (held .len) (held .roles) (omega (arith, holds .few, holds .room)))
 
   pub held-some : chainOk t first ≡ true → 1 ≤ held .len

@@ -159,7 +159,7 @@ abbrev pub linkedRole : List ℕ → ℕ → ℕ → Role
 linkedRole t i j = role (credential t (suc j) .first) (credential t (suc i) .second)
 
 -- what kind 3 asks of a middle
-linking-role : (t : List ℕ) (c : ℕ) → credential t c .kind ≡ 3 → padded (rolesAsked t (credential t c)) 0 ≡ middleRole t c
+pub linking-role : (t : List ℕ) (c : ℕ) → credential t c .kind ≡ 3 → padded (rolesAsked t (credential t c)) 0 ≡ middleRole t c
 unfolding rolesAsked padded pick
 linking-role t c three = rw three
 
@@ -178,10 +178,10 @@ module _ {t index rows : List ℕ} {S levels last : ℕ} (searched : Searched t 
       → getD index (linkCell i j) 0 ≡ roleAt t (linkedRole t i j)
   second-cell kind j l middle = searched .indexed .linked i j (tried .there) l kind (is-person t j middle .0)
 
-  numbered : Numbered (credentials t) (suc i)
+  pub numbered : Numbered (credentials t) (suc i)
   numbered = record { first = omega arith; last = omega (arith, tried .there) }
 
-  own : sameRole (credential t (suc i) .role) (goalAt t person i .role) ≡ true
+  pub own : sameRole (credential t (suc i) .role) (goalAt t person i .role) ≡ true
   unfolding sameRole
   own =
       and-both (eq-eqb (credential t (suc i) .role .owner .0) _ refl) (eq-eqb (credential t (suc i) .role .name .0) _ refl)
@@ -224,22 +224,26 @@ module _ {t index rows : List ℕ} {S levels last : ℕ} (searched : Searched t 
         ∙ ap not (any-same _ _ 4 (λ k l. ap not
         (sym (proves-at t S A levels above s person (partRole t i k)) ∙ ap (found person) (sym (part-cell kind k l)))))
 
-    -- kind 3: with some middle
-    pub cell-middles : (word : Bool) → credential t (suc i) .kind ≡ 3
-        → provesOwn t S A levels above s word person i ≡ anyBelow (middleTried t index found person i) (credentials t)
-    cell-middles word kind =
-        by-middles t (searched .wellFormed) one word (goalAt t person i) (suc i) numbered own kind
-        ∙ any-same _ _ (credentials t) (λ j l. go j l (isPerson t j) refl)
+    -- kind 3: with a middle that stands at j, and with some middle
+    pub cell-middle : credential t (suc i) .kind ≡ 3 → (j : ℕ) → j < credentials t
+        → (isPerson t j and byMiddle t one (goalAt t person i) (suc i) j) ≡ middleTried t index found person i j
+    cell-middle kind j l = go (isPerson t j) refl
       where
-        go : (j : ℕ) → j < credentials t → (b : Bool) → isPerson t j ≡ b
+        go : (b : Bool) → isPerson t j ≡ b
             → (isPerson t j and byMiddle t one (goalAt t person i) (suc i) j) ≡ middleTried t index found person i j
-        go j l true e =
+        go true e =
             let first = ap (roleAt t) (sym (linking-role t (suc i) kind)) ∙ sym (first-cell kind) in
             ap (λ b. isPerson t j and b)
             (ap₂ _and_
             (sym (proves-at t S A levels above s j (middleRole t (suc i))) ∙ ap (found j) first)
             (sym (proves-at t S A levels above s person (linkedRole t i j)) ∙ ap (found person) (sym (second-cell kind j l e))))
-        go j l false e = and-is-off _ e ∙ sym (and-is-off _ e)
+        go false e = and-is-off _ e ∙ sym (and-is-off _ e)
+
+    pub cell-middles : (word : Bool) → credential t (suc i) .kind ≡ 3
+        → provesOwn t S A levels above s word person i ≡ anyBelow (middleTried t index found person i) (credentials t)
+    cell-middles word kind =
+        by-middles t (searched .wellFormed) one word (goalAt t person i) (suc i) numbered own kind
+        ∙ any-same _ _ (credentials t) (cell-middle kind)
 
     -- a part whose mask has not the principal is not proved
     pub part-unlisted : (credential t (suc i) .kind ≡ 2) ⊎ (credential t (suc i) .kind ≡ 4) → (k : ℕ) → k < 4
@@ -272,7 +276,7 @@ module _ {t index rows : List ℕ} {S levels last : ℕ} (searched : Searched t 
             missing))
 
 -- a credential of no known kind proves nothing
-proved-some : (one : Goal → Bool) (word : Bool) (asked : Option (List Goal)) → provedPremises one word asked ≡ true
+pub proved-some : (one : Goal → Bool) (word : Bool) (asked : Option (List Goal)) → provedPremises one word asked ≡ true
     → (goals : List Goal) × (asked ≡ some goals)
 unfolding provedPremises
 proved-some one word none h = absurd (false-true h)

@@ -23,16 +23,12 @@ use Rattle.automata.specs.declared.StateSets.{StateSets}
 use Rattle.derivation.specs.Rules.{goal}
 use Rattle.members.specs.Places.{isPerson, roleAt}
 use Rattle.members.specs.Trying.{mayUse, provesBy}
-use Rattle.members.specs.Members.{askedCell, lesser, linkCell, roleCell, rowCell}
+use Rattle.members.specs.Members.{Indexed, askedCell, lesser, linkCell, roleCell, rowCell}
 use Rattle.members.specs.Levels.{askedMask, askedMembers}
 use Rattle.members.proofs.Places.{place-same, same-place}
 use Rattle.search.proofs.Placing.{cell-middles, cell-parts, first-cell, linkedRole, middle-unlisted, middleTried}
 use Rattle.search.proofs.Placing.{part-cell, part-unlisted, partMissed, partRole, provesOwn, second-cell, stands-at}
-use Rattle.search.specs.Search.{Searched, Stands, Tried, askedBefore, goalAt, proves, provesAt, stepped, usable}
-
--- credential c + 1 may be used for the goal and proves it
-abbrev pub provesWith : List ℕ → ℕ → (Goal → Bool) → Bool → Goal → ℕ → Bool
-provesWith t S one word g = λ c. mayUse t S g (suc c) and provesBy t one word g (suc c)
+use Rattle.search.specs.Search.{Searched, Stands, Tried, askedBefore, goalAt, proves, provesAt, provesWith, stepped, usable}
 
 -- levels are left: the goal is decided one level further down
 step-down : (t : List ℕ) (S A levels above : ℕ) (s : StateSets) (g : Goal) → (levels ≡ 0 → ⊥)
@@ -57,6 +53,55 @@ module _ (t : List ℕ) (S A levels above : ℕ) (s : StateSets) (person place :
 
   pub place-again : inSet above place ≡ true → false ≡ provesAt t S A levels above s person place
   place-again again = sym (and-is-off _ (ap not again)) ∙ place-step
+
+-- credential i + 1 may be used for the role at a place if it is allowed and defines the role
+module _ {t index : List ℕ} (indexed : Indexed t index) {person place : ℕ} (stands : Stands t person place)
+    (there : place < credentials t) (S i : ℕ) (l : i < credentials t) where
+  cell : getD index (roleCell i) 0 ≡ roleAt t (credential t (suc i) .role)
+  cell = indexed .defined i l
+
+  at : roleAt t (credential t (suc place) .role) ≡ place
+  at = stands .first there
+
+  same-role : eqb (getD index (roleCell i) 0) place ≡ true → credential t (suc i) .role ≡ credential t (suc place) .role
+  same-role e =
+      let places = sym cell ∙ eqb-true _ _ e ∙ sym at in
+      place-same t _ _ places (rw (places, at) there)
+
+  same-at : sameRole (credential t (suc i) .role) (credential t (suc place) .role) ≡ eqb (getD index (roleCell i) 0) place
+  unfolding sameRole
+  same-at =
+      same-test _ _ (λ same. eq-eqb _ _ (cell ∙ same-place t _ _ same ∙ at)) (λ e.
+      let r = credential t (suc place) .role in
+      rw (same-role e) (and-both (eq-eqb (r .owner .0) _ refl) (eq-eqb (r .name .0) _ refl)))
+
+  pub usable-is : usable index S place i ≡ mayUse t S (goalAt t person place) (suc i)
+  unfolding usable mayUse
+  usable-is = rw (sub-one (suc i), same-at)
+
+  pub usable-role : usable index S place i ≡ true → credential t (suc i) .role ≡ credential t (suc place) .role
+  unfolding usable
+  usable-role on = same-role (and-second _ _ on)
+
+  -- and it proves the goal, or not
+  module _ (one : Goal → Bool) (word : Bool) {may : Bool} (told : may ≡ usable index S place i) where
+    abbrev tried : ℕ → Bool
+    tried = provesWith t S one word (goalAt t person place)
+
+    pub next-unused : anyBelow tried i ≡ false → may ≡ false → anyBelow tried (i + 1) ≡ false
+    next-unused before off = any-next tried i before (and-is-off _ (sym usable-is ∙ sym told ∙ off))
+
+    module _ (on : may ≡ true) {by : Bool} (e : by ≡ provesBy t one word (goalAt t person i) (suc i)) where
+      by-is : by ≡ provesBy t one word (goalAt t person place) (suc i)
+      by-is =
+          e ∙ ap (λ r. provesBy t one word (goal (principal (credential t (suc person) .first)) r) (suc i))
+          (usable-role (sym told ∙ on))
+
+      pub passes-here : by ≡ true → tried i ≡ true
+      passes-here proved = and-both (sym usable-is ∙ sym told ∙ on) (sym by-is ∙ proved)
+
+      pub next-unproved : anyBelow tried i ≡ false → by ≡ false → anyBelow tried (i + 1) ≡ false
+      next-unproved before off = any-next tried i before (and-none _ (sym by-is ∙ off))
 
 -- a goal is entered: a level is left, its role stands at a place that is not on the branch above, and branch and state sets are
 -- one role on
@@ -88,48 +133,28 @@ module _ {t index rows : List ℕ} {S levels last A above deeper : ℕ} {s below
   pub none-proves : (i : ℕ) → i ≡ n → anyBelow tries i ≡ false → false ≡ provesAt t S A levels above s person place
   none-proves i e none = decided (any-all _ i n e none)
 
-  -- credential i + 1 may be used if it is allowed and defines the role
+  -- credential i + 1 is looked at
   module _ (i : ℕ) (l : i < n) {may : Bool} (told : may ≡ usable index S place i) where
-    cell : getD index (roleCell i) 0 ≡ roleAt t (credential t (suc i) .role)
-    cell = entered .searched .indexed .defined i (omega (arith, entered .all))
-
-    at : roleAt t (credential t (suc place) .role) ≡ place
-    at = entered .stands .first (entered .there)
-
-    same-role : eqb (getD index (roleCell i) 0) place ≡ true → credential t (suc i) .role ≡ credential t (suc place) .role
-    same-role e =
-        let places = sym cell ∙ eqb-true _ _ e ∙ sym at in
-        place-same t _ _ places (rw (places, at) (entered .there))
-
-    same-at : sameRole (credential t (suc i) .role) (credential t (suc place) .role) ≡ eqb (getD index (roleCell i) 0) place
-    unfolding sameRole
-    same-at =
-        same-test _ _ (λ same. eq-eqb _ _ (cell ∙ same-place t _ _ same ∙ at)) (λ e.
-        let r = credential t (suc place) .role in
-        rw (same-role e) (and-both (eq-eqb (r .owner .0) _ refl) (eq-eqb (r .name .0) _ refl)))
-
-    may-is : may ≡ mayUse t S (goalAt t person place) (suc i)
-    unfolding usable mayUse
-    may-is = rw (sub-one (suc i), same-at) told
-
-    abbrev proved-by : Role → Bool
-    proved-by r =
-        provesBy t (proves t S A (levels - 1) deeper below) (part A (acceptingSet t below))
-        (goal (principal (credential t (suc person) .first)) r) (suc i)
+    inside : i < credentials t
+    inside = omega (arith, entered .all)
 
     pub unused-next : anyBelow tries i ≡ false → may ≡ false → anyBelow tries (i + 1) ≡ false
-    unused-next before off = any-next tries i before (and-is-off _ (sym may-is ∙ off))
+    unused-next =
+        next-unused (entered .searched .indexed) (entered .stands) (entered .there) S i inside
+        (proves t S A (levels - 1) deeper below) (part A (acceptingSet t below)) told
 
-    module _ (on : may ≡ true) {by : Bool} (e : by ≡ proved-by (credential t (suc i) .role)) where
-      by-is : by ≡ proved-by (credential t (suc place) .role)
-      unfolding usable
-      by-is = e ∙ ap proved-by (same-role (and-second _ _ (sym told ∙ on)))
-
+    module _ (on : may ≡ true) {by : Bool}
+        (e : by
+        ≡ provesBy t (proves t S A (levels - 1) deeper below) (part A (acceptingSet t below)) (goalAt t person i) (suc i)) where
       pub proves-here : by ≡ true → true ≡ provesAt t S A levels above s person place
-      proves-here proved = decided (any-reached tries n i l (and-both (sym may-is ∙ on) (sym by-is ∙ proved)))
+      proves-here proved =
+          decided (any-reached tries n i l
+          (passes-here (entered .searched .indexed) (entered .stands) (entered .there) S i inside _ _ told on e proved))
 
       pub unproved-next : anyBelow tries i ≡ false → by ≡ false → anyBelow tries (i + 1) ≡ false
-      unproved-next before off = any-next tries i before (and-none _ (sym by-is ∙ off))
+      unproved-next =
+          next-unproved (entered .searched .indexed) (entered .stands) (entered .there) S i inside
+          (proves t S A (levels - 1) deeper below) (part A (acceptingSet t below)) told on e
 
 -- the search among the roles before role k
 pub asked-here : (index : List ℕ) (i k j : ℕ) → j < k → getD index (askedCell i j) 0 ≡ getD index (askedCell i k) 0

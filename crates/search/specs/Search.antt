@@ -48,6 +48,11 @@ pub record Provable (t : List ℕ) (q : Query) (S A : ℕ) : Type 0 where
 unfoldable pub stepped : List ℕ → ℕ → Role → StateSets → StateSets
 stepped t A r s = pick (eqb A 0) s (movedSets t r s)
 
+-- credential c + 1 is in the set, defines the goal's role, and proves the goal, where `one` says which goals are proved below it, and
+-- `word` whether a word may end there
+abbrev pub provesWith : List ℕ → ℕ → (Goal → Bool) → Bool → Goal → ℕ → Bool
+provesWith t S one word g = λ c. mayUse t S g (suc c) and provesBy t one word g (suc c)
+
 -- with so many levels left, below a branch on which roles stand at the places `above`, and on whose words the automata have come
 -- to the state sets s
 unfoldable pub proves : List ℕ → ℕ → ℕ → ℕ → ℕ → StateSets → Goal → Bool
@@ -56,7 +61,7 @@ proves t S A (suc levels) above s g =
     let below = stepped t A (g .role) s in
     let one = proves t S A levels (bitOr above (2 ^ roleAt t (g .role))) below in
     not (inSet above (roleAt t (g .role))) and
-    anyBelow (λ c. mayUse t S g (suc c) and provesBy t one (part A (acceptingSet t below)) g (suc c)) (credentials t)
+    anyBelow (provesWith t S one (part A (acceptingSet t below)) g) (credentials t)
 
 unfoldable pub provable : List ℕ → Query → ℕ → ℕ → Bool
 provable t q S A = proves t S A (q .depth) 0 (startingSets t) (goalOf q)

@@ -13,12 +13,12 @@ use Rattle.sets.specs.Sets.{part}
 use Rattle.sets.proofs.Tests.{passed}
 use Rattle.table.specs.Layout.{credentials}
 use Rattle.automata.specs.Together.{acceptingSet}
-use Rattle.search.specs.Search.{goalAt, proves, provesAt}
+use Rattle.search.specs.Search.{goalAt, proves, provesAt, provesWith}
 use Rattle.search.proofs.Placing.{below-most, cell-named, kind-other, kind-read, level-none, middleTried, most, partMissed}
 use Rattle.search.proofs.Placing.{place-none, place-unlisted, row-fits, searched-fewer}
 use Rattle.search.proofs.Trying.{Entered, Middle, all-proved, linked-first, linked-found, linked-none, linked-second}
 use Rattle.search.proofs.Trying.{linked-skipped, none-proves, part-proved, part-repeated, part-unproved, parts-unlisted}
-use Rattle.search.proofs.Trying.{place-again, proves-here, provesWith, stands-first, stands-part, stands-second}
+use Rattle.search.proofs.Trying.{place-again, proves-here, stands-first, stands-part, stands-second}
 use Rattle.search.proofs.Trying.{unproved-next, unused-next}
 use borrow.Author.Needs.{needs}
 use borrow.Fn.Kinds.{In, Out, PK}

@@ -1,0 +1,236 @@
+-- The middles of a credential of kind 3: those whom the table of members has, and of them the one of the least number.
+use mathlib.Core.Path.{_≡_, refl, sym, ap, _∙_}
+use mathlib.Core.List.{List}
+use mathlib.Core.Bool.{Bool, true, false, not}
+use Prim.Native.Nat.{ℕ, suc, _+_, _-_, _^_, _<_, _≤_}
+use native.Mathlib.Omega.{arith}
+use native.Mathlib.Decide.{ℕ-discrete}
+use native.Mathlib.Numerals.{add-one}
+use lib.ListN.{getD}
+use lib.Bits.{bitAnd, bitOr, bitXor}
+use lib.Dec.{leb, ltb}
+use borrow.Author.Tests.{le-leb, leb-false, leb-true, lt-leb, lt-ltb, ltb-false, ltb-true}
+use Rattle.sets.specs.Logic.{_and_, _or_, anyBelow, pick}
+use Rattle.sets.specs.Sets.{inSet, setOf}
+use Rattle.sets.proofs.Tests.{and-both, and-first, and-is, and-is-off, and-second, any-shows, failed, false-true, or-first}
+use Rattle.sets.proofs.Tests.{passed, refuted}
+use Rattle.table.specs.Layout.{credential, credentials}
+use Rattle.table.specs.declared.Credential.{Credential}
+use Rattle.automata.specs.declared.StateSets.{StateSets}
+use Rattle.members.specs.Places.{isPerson}
+use Rattle.members.specs.Members.{askedCell, lesser, linkCell, rowCell}
+use Rattle.members.specs.Trying.{provesBy}
+use Rattle.search.specs.Search.{Searched, Stands, Tried, goalAt, proves, provesAt}
+use Rattle.search.proofs.Placing.{cell-middles, first-cell, linkedRole, middle-unlisted, partRole, second-cell, stands-at}
+use Rattle.sets.proofs.Members.{below-members, inSet-zero, members-below, one-only, part-le, part-member, setOf-members}
+use Rattle.sets.proofs.Without.{one-is, part-fails, without-other, without-own, without-part}
+use Rattle.choice.specs.Choice.{LeastMiddle, LeastNamed, comesBefore, leads, listedMiddles}
+
+le-refl : (x : ℕ) → x ≤ x
+le-refl x = omega arith
+
+pub some-least : (x : ℕ) → (x ≡ 0 → ⊥) → 1 ≤ x
+some-least x some = omega arith
+
+-- credential j + 1 and another have been read as one and other
+module _ (t : List ℕ) (j best : ℕ) where
+  pub before-none : credentials t ≤ best → true ≡ comesBefore t j best
+  unfolding comesBefore
+  before-none beyond = sym (or-first _ (le-leb _ _ beyond))
+
+  pub before-told : best < credentials t → (one other : Credential) → one ≡ credential t (j + 1) → other ≡ credential t (best + 1)
+      → ltb (one .first) (other .first) ≡ comesBefore t j best
+  unfolding comesBefore _or_
+  before-told there one other read read′ =
+      rw (lt-leb (credentials t) best there, ← add-one j, ← add-one best, read, read′)
+
+-- of the places below j that are in the set the one at `best` has the least number, where there are any
+pub record NamedTo (t : List ℕ) (places j best : ℕ) : Type 0 where
+  pub few : best ≤ credentials t
+  pub member : best < credentials t → inSet places best ≡ true
+  pub least : (k : ℕ) → k < j → inSet places k ≡ true
+      → (best < credentials t) × (credential t (suc best) .first ≤ credential t (suc k) .first)
+
+module _ (t : List ℕ) (places : ℕ) where
+  pub named-none : (n : ℕ) → n ≡ credentials t → NamedTo t places 0 n
+  named-none n e =
+      record { few = omega arith; member = λ l. absurd (omega arith); least = λ k l. absurd (omega arith) }
+
+  module _ (j best : ℕ) (so-far : NamedTo t places j best) where
+    pub named-out : inSet places j ≡ false → NamedTo t places (j + 1) best
+    named-out out = record { few = so-far .few; member = so-far .member; least = λ k l. go k l (ℕ-discrete k j) }
+      where
+        go : (k : ℕ) → k < j + 1 → Dec (k ≡ j) → inSet places k ≡ true
+            → (best < credentials t) × (credential t (suc best) .first ≤ credential t (suc k) .first)
+        go k l (yes e) inside = absurd (false-true (sym out ∙ sym (ap (inSet places) e) ∙ inside))
+        go k l (no e) inside = so-far .least k (omega arith) inside
+
+    pub named-kept : comesBefore t j best ≡ false → NamedTo t places (j + 1) best
+    unfolding comesBefore _or_
+    named-kept off = record { few = so-far .few; member = so-far .member; least = λ k l. go k l (ℕ-discrete k j) }
+      where
+        here : (b : Bool) → leb (credentials t) best ≡ b
+            → (b or ltb (credential t (suc j) .first) (credential t (suc best) .first)) ≡ false
+            → (best < credentials t) × (credential t (suc best) .first ≤ credential t (suc j) .first)
+        here true e h = absurd (false-true (sym h))
+        here false e h = (leb-false _ _ e, ltb-false _ _ h)
+
+        go : (k : ℕ) → k < j + 1 → Dec (k ≡ j) → inSet places k ≡ true
+            → (best < credentials t) × (credential t (suc best) .first ≤ credential t (suc k) .first)
+        go k l (yes e) inside = rw e (here (leb (credentials t) best) refl off)
+        go k l (no e) inside = so-far .least k (omega arith) inside
+
+    pub named-here : j < credentials t → inSet places j ≡ true → comesBefore t j best ≡ true → NamedTo t places (j + 1) j
+    unfolding comesBefore _or_
+    named-here there inside on = record { few = omega arith; member = λ l. inside; least = λ k l. go k l (ℕ-discrete k j) }
+      where
+        older : (k : ℕ) → (best < credentials t) × (credential t (suc best) .first ≤ credential t (suc k) .first)
+            → (b : Bool) → leb (credentials t) best ≡ b
+            → (b or ltb (credential t (suc j) .first) (credential t (suc best) .first)) ≡ true
+            → credential t (suc j) .first ≤ credential t (suc k) .first
+        older k (l, le) true e h = absurd (omega (arith, l, leb-true (credentials t) best e))
+        older k (l, le) false e h = omega (arith, le, ltb-true (credential t (suc j) .first) (credential t (suc best) .first) h)
+
+        go : (k : ℕ) → k < j + 1 → Dec (k ≡ j) → inSet places k ≡ true
+            → (j < credentials t) × (credential t (suc j) .first ≤ credential t (suc k) .first)
+        go k l (yes e) m = (there, rw e (le-refl (credential t (suc j) .first)))
+        go k l (no e) m = (there, older k (so-far .least k (omega arith) m) (leb (credentials t) best) refl on)
+
+-- a set by a test, with one number looked at more
+module _ (p : ℕ → Bool) (found i : ℕ) (so-far : found ≡ setOf p i) where
+  set-more : p i ≡ true → bitOr found (2 ^ i) ≡ setOf p (i + 1)
+  unfolding setOf pick
+  set-more on = rw (add-one i, on, so-far)
+
+  set-not : p i ≡ false → found ≡ setOf p (i + 1)
+  unfolding setOf pick
+  set-not off = rw (add-one i, off) so-far
+
+-- whom the row has, principal by principal; the cells have been read as first and second
+module _ (t index rows : List ℕ) (row person i j found first second : ℕ)
+    (so-far : found ≡ listedMiddles t index rows row person i j) (read : first ≡ getD index (askedCell i 0) 0)
+    (read′ : second ≡ getD index (linkCell i j) 0) {told : Bool}
+    (e : told ≡ (inSet (getD rows (rowCell row first) 0) j and inSet (getD rows (rowCell row second) 0) person and isPerson t j)) where
+  pub listed-more : told ≡ true → bitOr found (2 ^ j) ≡ listedMiddles t index rows row person i (j + 1)
+  unfolding listedMiddles
+  listed-more on = set-more _ found j so-far (rw (read, read′) at (sym e ∙ on))
+
+  pub listed-not : told ≡ false → found ≡ listedMiddles t index rows row person i (j + 1)
+  unfolding listedMiddles
+  listed-not off = set-not _ found j so-far (rw (read, read′) at (sym e ∙ off))
+
+-- credential i + 1, of kind 3, with the principal at j as the middle
+module _ {t index rows : List ℕ} {S levels last : ℕ} (searched : Searched t index rows S levels last) {person i : ℕ}
+    (tried : Tried t person i) (kind : credential t (suc i) .kind ≡ 3) {j : ℕ} (there : j < credentials t)
+    (named : isPerson t j ≡ true) where
+  pub first-stands : {place : ℕ} → place ≡ getD index (askedCell i 0) 0 → Stands t j place
+  first-stands e = rw (e, first-cell searched tried kind) (stands-at t j (partRole t i 0) there named)
+
+  pub second-stands : {place : ℕ} → place ≡ getD index (linkCell i j) 0 → Stands t person place
+  second-stands e =
+      rw (e, second-cell searched tried kind j there named)
+      (stands-at t person (linkedRole t i j) (tried .who) (tried .named))
+
+  -- what is told of both goals
+  module _ (A above : ℕ) (s : StateSets) {first : ℕ} (read : first ≡ getD index (askedCell i 0) 0) {one : Bool}
+      (e : one ≡ provesAt t S A levels above s j first) where
+    pub leads-not : not one ≡ true → false ≡ leads t index S A levels above s person i j
+    leads-not off = sym (and-is named (and-is-off _ (rw read at (failed e off))))
+
+    pub leads-told : not one ≡ false → {second : ℕ} → second ≡ getD index (linkCell i j) 0 → {two : Bool}
+        → two ≡ provesAt t S A levels above s person second → two ≡ leads t index S A levels above s person i j
+    leads-told on read′ e′ = sym (and-is named (and-is (rw read at (passed e on)) (sym (rw read′ at e′))))
+
+-- all places have been looked at, and one of them is in the set
+pub named-all : (t : List ℕ) (places j best : ℕ) → j ≡ credentials t → NamedTo t places j best → places < 2 ^ credentials t
+    → (places ≡ 0 → ⊥) → LeastNamed t places best
+named-all t places j best all found few some =
+    let (k, inside, out) = part-fails places 0 (credentials t) few (refuted _ (λ h. some (omega (arith, part-le places 0 h)))) in
+    let there = found .least k (omega (arith, below-members places (credentials t) k few inside)) inside .0 in
+    record {
+      there = there;
+      member = found .member there;
+      least = λ k inside. found .least k (omega (arith, below-members places (credentials t) k few inside)) inside .1;
+    }
+
+-- the middles that are left to be tried: every one that leads on is among them, and each is a principal
+pub record MiddlesLeft (t : List ℕ) (passes : ℕ → Bool) (left : ℕ) : Type 0 where
+  pub few : left < 2 ^ credentials t
+  pub every : (k : ℕ) → k < credentials t → passes k ≡ true → inSet left k ≡ true
+  pub people : (k : ℕ) → inSet left k ≡ true → isPerson t k ≡ true
+
+-- at first those whom the row has
+module _ {t index rows : List ℕ} {S levels last : ℕ} (searched : Searched t index rows S levels last) {person i : ℕ}
+    (tried : Tried t person i) (kind : credential t (suc i) .kind ≡ 3) (A above : ℕ) (s : StateSets) where
+  abbrev passes : ℕ → Bool
+  passes = leads t index S A levels above s person i
+
+  pub left-first : (row left : ℕ) → row ≡ lesser levels last → left ≡ listedMiddles t index rows row person i (credentials t)
+      → MiddlesLeft t passes left
+  unfolding listedMiddles
+  left-first row left the-row is =
+      record {
+        few = members-below left (credentials t) (λ k h. ltb-true k (credentials t) (and-first _ _ (sym (member k) ∙ h)));
+        every = λ k l on. member k ∙ and-both (lt-ltb k _ l) (go k l on (test k) refl);
+        people = λ k h. and-second _ _ (and-second _ _ (and-second _ _ (sym (member k) ∙ h)));
+      }
+    where
+      test : ℕ → Bool
+      test j =
+          inSet (getD rows (rowCell row (getD index (askedCell i 0) 0)) 0) j
+          and inSet (getD rows (rowCell row (getD index (linkCell i j) 0)) 0) person and isPerson t j
+
+      member : (k : ℕ) → inSet left k ≡ (ltb k (credentials t) and test k)
+      member k = rw is (setOf-members test (credentials t) k)
+
+      go : (k : ℕ) → k < credentials t → passes k ≡ true → (b : Bool) → test k ≡ b → test k ≡ true
+      go k l on true e = e
+      go k l on false e =
+          absurd (false-true (sym (middle-unlisted searched tried A above s kind k l (rw the-row at e)) ∙ on))
+
+  -- the credential proves its goal, so some middle leads on
+  pub some-leads : (word : Bool) → provesBy t (proves t S A levels above s) word (goalAt t person i) (suc i) ≡ true
+      → anyBelow passes (credentials t) ≡ true
+  some-leads word proved = sym (cell-middles searched tried A above s word kind) ∙ proved
+
+module _ (t : List ℕ) (passes : ℕ → Bool) (left : ℕ) (is : MiddlesLeft t passes left) where
+  pub left-some : anyBelow passes (credentials t) ≡ true → left ≡ 0 → ⊥
+  left-some some none =
+      let (k, l, on) = any-shows passes (credentials t) some in
+      false-true (sym (inSet-zero k) ∙ sym (ap (λ x. inSet x k) none) ∙ is .every k l on)
+
+  module _ (j : ℕ) (named : LeastNamed t left j) where
+    -- the one that was tried leads on
+    pub least-leads : passes j ≡ true → LeastMiddle t passes j
+    least-leads on =
+        record { there = named .there; leads-on = on; least = λ k l also. named .least k (is .every k l also) }
+
+    -- or it does not, and the others are left
+    others : passes j ≡ false → MiddlesLeft t passes (bitXor left (2 ^ j))
+    others off =
+        let fewer = without-part left j (named .member) in
+        record {
+          few = omega (arith, part-le _ _ fewer, is .few);
+          every =
+              λ k l on. without-other left j k (λ e. false-true (sym off ∙ ap passes e ∙ on)) ∙ is .every k l on;
+          people = λ k h. is .people k (part-member _ _ k fewer h);
+        }
+
+    -- its bit has been made as `bit`
+    pub left-next : passes j ≡ false → (bit : ℕ) → bit ≡ 2 ^ j → MiddlesLeft t passes (bitXor left bit)
+    left-next off bit made = rw made (others off)
+
+    pub left-less : (bit : ℕ) → bit ≡ 2 ^ j → bitXor left bit < left
+    left-less bit made = rw made (go (ℕ-discrete (bitXor left (2 ^ j)) left))
+      where
+        go : Dec (bitXor left (2 ^ j) ≡ left) → bitXor left (2 ^ j) < left
+        go (yes e) =
+            absurd (false-true (sym (without-own left j (named .member)) ∙ ap (λ x. inSet x j) e ∙ named .member))
+        go (no e) = omega (arith, part-le _ _ (without-part left j (named .member)))
+
+    -- nobody else is left
+    pub only-leads : anyBelow passes (credentials t) ≡ true → bitAnd left (left - 1) ≡ 0 → LeastMiddle t passes j
+    only-leads some one =
+        let (k, l, on) = any-shows passes (credentials t) some in
+        let alone = part-member left (2 ^ j) k (one-only left j one (named .member)) (is .every k l on) in
+        least-leads (rw (← one-is j k alone) at on)

@@ -1,0 +1,108 @@
+-- `choice::least_credential` meets its contract: none of the credentials passed proves the goal. Assumes nothing.
+use mathlib.Core.Path.{_≡_, refl}
+use mathlib.Core.Bool.{false}
+use mathlib.Core.Logic.{⊎-elim}
+use Prim.Native.Nat.{_-_, _<_, _≤_}
+use native.Mathlib.Omega.{arith}
+use denote.Ref.{now}
+use Rattle.sets.specs.Logic.{anyBelow}
+use Rattle.sets.specs.Sets.{part}
+use Rattle.table.specs.Layout.{credentials}
+use Rattle.automata.specs.Together.{acceptingSet}
+use Rattle.search.specs.Search.{goalAt, proves, provesWith}
+use Rattle.search.proofs.Trying.{next-unproved, next-unused, passes-here}
+use Rattle.choice.proofs.Candidates.{chosen-here, chosen-last, tried-at}
+use borrow.Author.Needs.{needs}
+use Rattle.choice.proofs.least_credential.Statement.{statement}
+use Rattle.choice.proofs.least_credential.Tie as tie
+use Rattle.choice.proofs.least_credential.Reads as reads
+use Rattle.choice.proofs.least_credential.Lts as lts
+use Rattle.choice.proofs.last_usable.Reads as last-usable-reads
+use Rattle.search.proofs.credential_search.Reads as credential-search-reads
+use Rattle.search.proofs.may_use.Reads as may-use-reads
+use Rattle.table.proofs.layout.credentials.Reads as credentials-reads
+
+abbrev Inv-loop : tie.InvT-loop
+Inv-loop table index rows terms person place levels states above last i₀ i =
+    (i ≤ last) × (anyBelow (provesWith table (terms .allowed)
+    (proves table (terms .allowed) (terms .constraints) levels above states)
+    (part (terms .constraints) (acceptingSet table states)) (goalAt table person place)) i ≡ false)
+
+abbrev μ-loop : tie.MeasureT-loop
+μ-loop table index rows terms person place levels states above last i₀ i = last - i
+
+credentials-requires : tie.Need-credentials-requires Inv-loop μ-loop
+credentials-requires c κs = search needs
+
+last-usable-requires : tie.Need-last-usable-requires Inv-loop μ-loop
+last-usable-requires c κs =
+    let pre = c .before .before .before .before .pre in
+    let n = c .credentials .ensures in
+    (pre .0 .indexed .placed, (omega (arith, n .same, pre .1 .0 .1), n .few))
+
+loop-holds : tie.Need-loop-holds Inv-loop μ-loop
+unfolding anyBelow
+loop-holds c = (omega arith, refl)
+
+may-use-requires : tie.Need-may-use-requires Inv-loop μ-loop
+may-use-requires c κs = search needs
+
+credential-search-requires : tie.Need-credential-search-requires Inv-loop μ-loop
+credential-search-requires c κs =
+    let pre = c .before .before .before .before .before .before .before .before .before .pre in (
+      pre .0,
+      tried-at (pre .1 .0 .0) _
+          (omega (arith, c .before .before .loop-test .taken, c .before .before .before .before .last-usable .ensures .few, c .before .before .before .before .before .credentials .ensures .same)),
+    )
+
+returns : tie.Need-returns Inv-loop μ-loop
+returns c =
+    let pre = c .before .before .before .before .before .before .before .before .before .before .before .pre in
+    let inside : c .before .before .before .before .before .loop .i < credentials (now (c .before .before .before .before .before .before .before .before .before .before .before .args .table)) =
+    omega (arith, c .before .before .before .before .loop-test .taken, c .before .before .before .before .before .before .last-usable .ensures .few, c .before .before .before .before .before .before .before .credentials .ensures .same) in
+    chosen-here (pre .0 .indexed) (pre .1 .0 .0) (pre .1 .0 .1) _ _ _ _ inside (c .before .before .before .before .before .loop .inv .1)
+    (passes-here (pre .0 .indexed) (pre .1 .0 .0) (pre .1 .0 .1) _ _ inside _ _ (c .before .before .before .may-use .ensures) (c .before .before .if1 .taken)
+    (c .before .credential-search .ensures) (c .if2 .taken))
+
+add-i : tie.Need-add-i Inv-loop μ-loop
+add-i c = search needs
+
+loop-less : tie.Need-loop-less Inv-loop μ-loop
+loop-less c = search needs
+
+loop-again : tie.Need-loop-again Inv-loop μ-loop
+loop-again c =
+    let pre = c .before .before .before .before .before .before .before .before .before .pre in
+    let so-far = c .before .before .before .loop .inv .1 in
+    let inside : c .before .before .before .loop .i < credentials (now (c .before .before .before .before .before .before .before .before .before .args .table)) =
+    omega (arith, c .before .before .loop-test .taken, c .before .before .before .before .last-usable .ensures .few, c .before .before .before .before .before .credentials .ensures .same) in
+    let may-use = c .before .may-use .ensures in (
+      omega (arith, c .before .before .loop-test .taken),
+      ⊎-elim (λ way. next-unproved (pre .0 .indexed) (pre .1 .0 .0) (pre .1 .0 .1) _ _ inside _ _ may-use (way .0 .taken)
+          (way .1 .ensures) so-far (way .2 .left))
+          (λ way. next-unused (pre .0 .indexed) (pre .1 .0 .0) (pre .1 .0 .1) _ _ inside _ _ may-use so-far (way .left))
+          (c .if1 .came),
+    )
+
+returns-2 : tie.Need-returns-2 Inv-loop μ-loop
+returns-2 c =
+    let pre = c .before .before .before .before .before .before .before .pre in
+    chosen-last (pre .0 .indexed) (pre .1 .0 .0) (pre .1 .0 .1) _ _ _ _ _ _ (c .before .before .before .credentials .ensures .same) (c .before .before .last-usable .ensures)
+    (omega (arith, c .loop-test .left, c .before .loop .inv .0)) (c .before .loop .inv .1) (pre .1 .1)
+
+pub least-credential-spec : {M : Type 1} → statement M
+least-credential-spec =
+    tie.close
+    (tie.spec
+    Inv-loop
+    μ-loop
+    credentials-requires
+    last-usable-requires
+    loop-holds
+    may-use-requires
+    credential-search-requires
+    returns
+    add-i
+    loop-less
+    loop-again
+    returns-2)
