@@ -1,6 +1,6 @@
-/* The shop example of docs/DEFINITION.md, from C: tables are checked, minimal sets listed and proof records verified. Every
- * answer is printed in words and held against the definition; the program ends with 1 if any differs. bindings/LAYOUT.md says
- * what the numbers mean. */
+/* The shop example of docs/DEFINITION.md, from C: tables are checked, minimal sets listed, their records written and proof
+ * records verified. Every answer is printed in words and held against the definition; the program ends with 1 if any differs.
+ * bindings/LAYOUT.md says what the numbers mean. */
 #include "bwlchareg.h"
 
 #include <inttypes.h>
@@ -33,6 +33,7 @@ static const uint16_t mistaken[] = {1, 0, 0, 0, SHOP, DISCOUNT, 1, 65, 0, 0}; /*
 /* Ann is in Shop.discount by credential 1, since the middle, School, is in Shop.accredited by 2, and Ann in School.student by 3. */
 static const uint16_t record[] = {1, SCHOOL, 2, 0, 3, 0};
 static const uint16_t misled[] = {1, ANN, 2, 0, 3, 0};  /* with another middle, whom credential 2 does not name */
+static const uint16_t outright[] = {4, 0};              /* by credential 4 alone */
 
 /* Each refusal in words, by its number. */
 static const char *const words[] = {
@@ -51,15 +52,19 @@ static const char *const words[] = {
     "this node's credential or middle does not fit its goal",
     "this node is too deep, or its role is already on the branch",
     "this automaton is used and rejects a word",
+    "the set is not on the list of minimal sets",
+    "there are fewer cells than the record has numbers",
 };
 
 #define LENGTH(array) (sizeof(array) / sizeof((array)[0]))
 #define SLICE(array) (array), LENGTH(array)
 #define UNCHANGED UINT32_MAX                            /* what a cell holds before a listing; no set is so great */
 #define UNWRITTEN UINT64_MAX                            /* what the value holds before a call; no call writes it */
+#define NO_NUMBER UINT16_MAX                            /* what a cell holds before a writing; no number of a record is so great */
 
-static uint64_t value = UNWRITTEN;                      /* what a call writes: a refusal's position, a count or a used set */
+static uint64_t value = UNWRITTEN;                      /* what a call writes: a refusal's position, a count, a length or a used set */
 static uint32_t cells[3] = {UNCHANGED, UNCHANGED, UNCHANGED};
+static uint16_t numbers[8];                             /* cells for a record, two more than the longest */
 static int differing;                                   /* how many answers are not those of the definition */
 
 /* Prints the answer to what was asked, and holds number and value against those of the definition. */
@@ -96,6 +101,47 @@ static void tell_cells(uint32_t first, uint32_t second)
     }
 }
 
+/* Asks for the first record of a set, with so many cells, prints the answer and what was written, and holds both against the
+ * definition, in which the right record is nothing where the call refuses. */
+static void tell_write(const char *asked, const uint16_t *table, size_t table_length, uint32_t set, size_t cells_lent,
+                       uint32_t right_number, const uint16_t *right, size_t right_length)
+{
+    for (size_t i = 0; i < LENGTH(numbers); i++)
+        numbers[i] = NO_NUMBER;
+    tell(asked, bwlchareg_write(table, table_length, ANN, SHOP, DISCOUNT, 2, set, numbers, cells_lent, &value),
+         right_number, right_length);
+    if (numbers[0] != NO_NUMBER) {
+        printf("  record");
+        for (size_t i = 0; i < LENGTH(numbers) && numbers[i] != NO_NUMBER; i++)
+            printf(" %d", numbers[i]);
+        printf("\n");
+    }
+    for (size_t i = 0; i < LENGTH(numbers); i++) {
+        int right_cell = i < right_length ? right[i] : NO_NUMBER;
+        if (numbers[i] != right_cell) {
+            printf("  but the definition has %d in cell %zu\n", right_cell, i + 1);
+            differing++;
+        }
+    }
+}
+
+/* From the list to proofs: has the first record of each listed set of T written, and verified, which gives the set again. */
+static void write_the_list(void)
+{
+    static const struct { uint32_t set; const uint16_t *record; size_t length; } right[] = {
+        {7, SLICE(record)}, {8, SLICE(outright)},
+    };
+    uint32_t sets[LENGTH(right)] = {0};
+    tell("list T again", bwlchareg_list(SLICE(T), ANN, SHOP, DISCOUNT, 2, SLICE(sets), &value), 0, LENGTH(right));
+    for (size_t i = 0; i < LENGTH(right); i++) {
+        char asked[40];
+        snprintf(asked, sizeof asked, "write set %" PRIu32 " of T", sets[i]);
+        tell_write(asked, SLICE(T), sets[i], LENGTH(numbers), 0, right[i].record, right[i].length);
+        tell("verify what is written",
+             bwlchareg_verify(SLICE(T), ANN, SHOP, DISCOUNT, 2, numbers, right[i].length, &value), 0, right[i].set);
+    }
+}
+
 int main(void)
 {
     tell("check T", bwlchareg_check(SLICE(T), &value), 0, 0);
@@ -124,6 +170,10 @@ int main(void)
     tell("verify with T, depth 1", bwlchareg_verify(SLICE(T), ANN, SHOP, DISCOUNT, 1, SLICE(record), &value), 13, 2);
     tell("verify two nodes of it", bwlchareg_verify(SLICE(T), ANN, SHOP, DISCOUNT, 2, record, 4, &value), 11, 3);
     tell("verify another middle", bwlchareg_verify(SLICE(T), ANN, SHOP, DISCOUNT, 2, SLICE(misled), &value), 12, 2);
+
+    write_the_list();
+    tell_write("write set 7 of U", SLICE(U), 7, LENGTH(numbers), 15, NULL, 0);
+    tell_write("write set 7 of T, five cells", SLICE(T), 7, 5, 16, NULL, 0);
 
     printf("%d answers differ from the definition\n", differing);
     return differing != 0;

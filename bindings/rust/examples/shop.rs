@@ -1,10 +1,11 @@
 //! The shop example of docs/DEFINITION.md through the static library: its two
 //! tables are checked, with one that has a mistake in it, a proof record is
-//! verified, and the minimal sets are listed.
+//! verified, the minimal sets are listed, and a record is written for each of
+//! them and verified.
 
 use std::fmt::Debug;
 
-use bwlchareg::{check, check_query, layout, list, verify, Query, Refusal};
+use bwlchareg::{check, check_query, layout, list, verify, write, Query, Refusal};
 
 /// Principals Shop 1, School 2, Ann 4; names discount 1, student 2, accredited 3.
 const T: [u16; 28] = [
@@ -80,6 +81,18 @@ fn main() {
         "minimal sets of table T for School",
         sets(&T, Query { principal: 2, ..Q }),
     );
+
+    for set in sets(&T, Q).expect("a list of table T") {
+        let record = record(&T, Q, set);
+        tell(&format!("record of set {set}, table T"), record.clone());
+        let used = record.and_then(|record| verify(&T, Q, &record));
+        tell("  that record with table T", used);
+    }
+    tell("record of set 7, table U", record(&U, Q, 7));
+    tell(
+        "record of set 7, table T, five cells",
+        write(&T, Q, 7, &mut [0; 5]),
+    );
 }
 
 /// All minimal sets, if there are no more than ten.
@@ -87,4 +100,11 @@ fn sets(table: &[u16], query: Query) -> Result<Vec<u32>, Refusal> {
     let mut cells = [0; 10];
     let count = list(table, query, &mut cells)?;
     Ok(cells[..count].to_vec())
+}
+
+/// The first record of a set, if it has no more than ten numbers.
+fn record(table: &[u16], query: Query, set: u32) -> Result<Vec<u16>, Refusal> {
+    let mut cells = [0; 10];
+    let length = write(table, query, set, &mut cells)?;
+    Ok(cells[..length].to_vec())
 }

@@ -54,10 +54,10 @@
 //!
 //! The library's side of every call is proved to meet its contract, for every
 //! input of every length: it ends, it reads only what it is lent, it writes
-//! only the cells that [`list`] and [`write`] name, and it answers what `layout` and the
-//! table at [`Refusal`] say. No call panics, keeps anything for the next one or
-//! takes memory other than the stack, so calls may be made from several
-//! threads at once.
+//! only the cells that [`list`] and [`write`] name, and it answers what
+//! `layout` and the table at [`Refusal`] say. No call panics, keeps anything
+//! for the next one or takes memory other than the stack, so calls may be made
+//! from several threads at once.
 //!
 //! A check takes time in proportion to the table, a verification in proportion
 //! to the record. Listing is a search, whose time can grow exponentially with

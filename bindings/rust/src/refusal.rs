@@ -32,8 +32,9 @@ use std::fmt;
 ///
 /// [`check`](crate::check) gives 1 to 7, [`check_query`](crate::check_query) 1
 /// to 8, [`list`](crate::list) 1 to 10, [`verify`](crate::verify) 1 to 8 and 11
-/// to 14, [`write`](crate::write) 1 to 8, 15 and 16. Any other number means that the archive which is linked is not the
-/// one that this crate is for; so does 0, which no refusal of the library has.
+/// to 14, [`write`](crate::write) 1 to 8, 15 and 16. Any other number means
+/// that the archive which is linked is not the one that this crate is for; so
+/// does 0, which no refusal of the library has.
 ///
 /// # Examples
 ///

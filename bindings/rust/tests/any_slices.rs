@@ -2,23 +2,29 @@
 //! memory, the answer is accepted or a refusal that docs/DEFINITION.md allows
 //! there, and no cell is written that it does not name.
 
+#[allow(dead_code)]
 mod drawn;
 
-use bwlchareg::{check, check_query, layout, list, verify, Query, Refusal};
+use std::ops::Range;
+
+use bwlchareg::{check, check_query, layout, list, verify, write, Query, Refusal};
 use drawn::{Random, LONGEST};
 
 const SEED: u64 = 2015;
 const CASES: usize = 30_000;
 
-/// What is given to the calls: a table, a query, a record and how many cells.
+/// What is given to the calls: a table, a query, a record, a set, and how many
+/// cells there are for sets and for the numbers of a record.
 struct Input {
     table: Vec<u16>,
     query: Query,
     record: Vec<u16>,
+    set: u32,
     cells: usize,
+    room: usize,
 }
 
-/// What the calls then answer.
+/// What the calls then answer, and what the cells hold.
 #[derive(Debug, PartialEq)]
 struct Answers {
     check: Result<(), Refusal>,
@@ -26,6 +32,8 @@ struct Answers {
     verify: Result<u32, Refusal>,
     list: Result<usize, Refusal>,
     cells: Vec<u32>,
+    write: Result<usize, Refusal>,
+    written: Vec<u16>,
 }
 
 fn drawn_input(random: &mut Random) -> Input {
@@ -34,8 +42,21 @@ fn drawn_input(random: &mut Random) -> Input {
     Input {
         query,
         record: drawn::record(random, &table, query),
+        set: drawn_set(random, &table, query),
         cells: random.up_to(6),
+        room: random.up_to(24),
         table,
+    }
+}
+
+/// A set: one of the list most of the time, if there is one, or any number.
+fn drawn_set(random: &mut Random, table: &[u16], query: Query) -> u32 {
+    let sets = drawn::listed(table, query);
+    match random.up_to(8) {
+        0 => u32::from(random.between(0, u16::MAX)) << random.up_to(16),
+        1 | 2 => random.between(0, 255).into(),
+        _ if sets.is_empty() => 0,
+        _ => sets[random.up_to(sets.len() - 1)],
     }
 }
 
@@ -44,16 +65,26 @@ fn before(cell: usize) -> u32 {
     0xC000_0000 + cell as u32
 }
 
+/// What a cell holds before a writing: no credential and no middle, and
+/// different in each cell.
+fn unwritten(cell: usize) -> u16 {
+    0xC000 + cell as u16
+}
+
 /// The answers to the slices as they are.
 fn answers(input: &Input) -> Answers {
     let mut cells: Vec<u32> = (0..input.cells).map(before).collect();
     let list = list(&input.table, input.query, &mut cells);
+    let mut written: Vec<u16> = (0..input.room).map(unwritten).collect();
+    let write = write(&input.table, input.query, input.set, &mut written);
     Answers {
         check: check(&input.table),
         check_query: check_query(&input.table, input.query),
         verify: verify(&input.table, input.query, &input.record),
         list,
         cells,
+        write,
+        written,
     }
 }
 
@@ -64,27 +95,56 @@ fn answers_inside(input: &Input, random: &mut Random) -> Answers {
     let (table, table_at) = surrounded(&input.table, random);
     let (record, record_at) = surrounded(&input.record, random);
     let kept = (table.clone(), record.clone());
-    let front = random.up_to(5);
-    let guard = |index: usize| 0xE000_0000 + index as u32;
-    let mut cells: Vec<u32> = (0..front).map(guard).collect();
-    cells.extend((0..input.cells).map(before));
-    let behind = cells.len();
-    cells.extend((0..8).map(guard));
+    let mut cells = Guarded::new((0..input.cells).map(before), 0xE000_0000, random);
+    let mut written = Guarded::new((0..input.room).map(unwritten), 0xE000, random);
 
     let table_inside = &table[table_at..table_at + input.table.len()];
     let record_inside = &record[record_at..record_at + input.record.len()];
-    let list = list(table_inside, input.query, &mut cells[front..behind]);
+    let list = list(table_inside, input.query, cells.lent());
+    let write = write(table_inside, input.query, input.set, written.lent());
     let answers = Answers {
         check: check(table_inside),
         check_query: check_query(table_inside, input.query),
         verify: verify(table_inside, input.query, record_inside),
         list,
-        cells: cells[front..behind].to_vec(),
+        cells: cells.inside(),
+        write,
+        written: written.inside(),
     };
-    assert!(cells[..front].iter().copied().eq((0..front).map(guard)));
-    assert!(cells[behind..].iter().copied().eq((0..8).map(guard)));
     assert_eq!((table, record), kept);
     answers
+}
+
+/// Lent cells with others before and behind them, which nothing may change.
+struct Guarded<Cell> {
+    all: Vec<Cell>,
+    lent: Range<usize>,
+    guard: Cell,
+}
+
+impl<Cell: Copy + PartialEq> Guarded<Cell> {
+    /// These cells, with some others around them that all hold one number.
+    fn new(cells: impl Iterator<Item = Cell>, guard: Cell, random: &mut Random) -> Guarded<Cell> {
+        let front = random.up_to(5);
+        let mut all = vec![guard; front];
+        all.extend(cells);
+        let lent = front..all.len();
+        all.extend([guard; 8]);
+        Guarded { all, lent, guard }
+    }
+
+    fn lent(&mut self) -> &mut [Cell] {
+        &mut self.all[self.lent.clone()]
+    }
+
+    /// The lent cells, if all others are as they were.
+    fn inside(&self) -> Vec<Cell> {
+        let (front, rest) = self.all.split_at(self.lent.start);
+        let (inside, behind) = rest.split_at(self.lent.len());
+        let mut around = front.iter().chain(behind);
+        assert!(around.all(|cell| *cell == self.guard));
+        inside.to_vec()
+    }
 }
 
 /// A slice with numbers before and behind it, and where it begins.
@@ -100,7 +160,7 @@ fn surrounded(slice: &[u16], random: &mut Random) -> (Vec<u16>, usize) {
 fn is_place(refusal: Refusal, table: &[u16], nodes: usize) -> bool {
     let [credentials, cells, automata, edges] = layout::counts(table);
     let most = match refusal.number {
-        1..=3 | 9 | 10 => return refusal.position == 0,
+        1..=3 | 9 | 10 | 15 | 16 => return refusal.position == 0,
         4 | 6 => credentials,
         5 => cells,
         7 => edges,
@@ -147,14 +207,17 @@ fn judge(input: &Input, answers: &Answers) {
         assert!(place(refusal), "{refusal:?}");
         assert_eq!(answers.verify, Err(refusal));
         assert_eq!(answers.list, Err(refusal));
+        assert_eq!(answers.write, Err(refusal));
     } else {
         judge_verdict(answers.verify, table, nodes);
         if let Err(refusal) = answers.list {
             assert!([9, 10].contains(&refusal.number), "{refusal:?}");
             assert!(place(refusal), "{refusal:?}");
         }
+        judge_writing(input, answers);
     }
     judge_cells(answers, table);
+    judge_written(answers);
 }
 
 /// The number of a refusal, 0 for accepted.
@@ -174,6 +237,33 @@ fn judge_verdict(verdict: Result<u32, Refusal>, table: &[u16], nodes: usize) {
             assert!(is_place(refusal, table, nodes), "{refusal:?}");
         }
     }
+}
+
+/// A writing, with an accepted table and a valid query: it is not refused with
+/// 15 exactly for the sets of the list, and the verifier accepts what is
+/// written, with the set.
+fn judge_writing(input: &Input, answers: &Answers) {
+    let listed = drawn::listed(&input.table, input.query).contains(&input.set);
+    assert_eq!(number(answers.write) != Refusal::NOT_LISTED, listed);
+    match answers.write {
+        Ok(length) => {
+            let record = &answers.written[..length];
+            assert_eq!(verify(&input.table, input.query, record), Ok(input.set));
+        }
+        Err(refusal) => {
+            assert!([15, 16].contains(&refusal.number), "{refusal:?}");
+            assert!(is_place(refusal, &input.table, 0), "{refusal:?}");
+        }
+    }
+}
+
+/// The cells after a writing: behind the record, and on a refusal everywhere,
+/// what was there before.
+fn judge_written(answers: &Answers) {
+    let written = answers.write.unwrap_or(0);
+    let rest = answers.written[written..].iter().copied();
+    let length = rest.len();
+    assert!(rest.eq((written..).map(unwritten).take(length)));
 }
 
 /// The cells after a listing: ascending sets, none a part of another, and
@@ -200,7 +290,7 @@ fn judge_cells(answers: &Answers, table: &[u16]) {
 #[test]
 fn every_answer_is_one_that_the_definition_allows() {
     let mut random = Random::new(SEED);
-    let mut told = [[0; 15]; 3];
+    let mut told = [[0; 17]; 4];
     for _ in 0..CASES {
         let input = drawn_input(&mut random);
         let answers = answers(&input);
@@ -208,12 +298,14 @@ fn every_answer_is_one_that_the_definition_allows() {
         told[0][number(answers.check_query) as usize] += 1;
         told[1][number(answers.verify) as usize] += 1;
         told[2][number(answers.list) as usize] += 1;
+        told[3][number(answers.write) as usize] += 1;
     }
     // The draws are no use unless they reach every answer of every call.
     let reached = |call: usize, numbers: &[usize]| numbers.iter().all(|no| told[call][*no] >= 20);
     assert!(reached(0, &[0, 1, 2, 3, 4, 5, 6, 7, 8]), "{:?}", told[0]);
     assert!(reached(1, &[0, 8, 11, 12, 13, 14]), "{:?}", told[1]);
     assert!(reached(2, &[0, 8, 9, 10]), "{:?}", told[2]);
+    assert!(reached(3, &[0, 8, 15, 16]), "{:?}", told[3]);
 }
 
 #[test]
@@ -232,12 +324,9 @@ fn a_short_buffer_has_the_first_sets_of_the_whole_list() {
     let mut random = Random::new(SEED + 5);
     let mut short = 0;
     for _ in 0..3_000 {
-        let table = drawn::accepted(&mut random);
-        let query = drawn::query(&mut random, &table);
-        let mut whole = [0; 70]; // eight credentials have no longer list
-        let Ok(count) = list(&table, query, &mut whole) else {
-            continue;
-        };
+        let (table, query) = drawn::accepted_and_query(&mut random);
+        let mut whole = drawn::listed(&table, query);
+        let count = whole.len();
         for length in 0..count {
             let mut cells = vec![0; length];
             let refusal = list(&table, query, &mut cells).unwrap_err();
@@ -245,7 +334,9 @@ fn a_short_buffer_has_the_first_sets_of_the_whole_list() {
             assert_eq!(cells, whole[..length]);
             short += 1;
         }
-        assert_eq!(list(&table, query, &mut whole[..count]), Ok(count));
+        if count > 0 {
+            assert_eq!(list(&table, query, &mut whole), Ok(count));
+        }
     }
     assert!(short >= 500, "{short}");
 }
@@ -260,7 +351,9 @@ fn every_length_of_plain_slices_is_answered() {
                 table: vec![filling; length],
                 query,
                 record: vec![filling; length],
+                set: filling.into(),
                 cells: length % 3,
+                room: length % 5,
             };
             judge(&input, &answers(&input));
         }
@@ -323,10 +416,13 @@ fn full_tree() -> (Vec<u16>, Query, Vec<u16>) {
 }
 
 #[test]
-fn a_record_of_21845_nodes_is_read_to_its_end() {
+fn a_record_of_21845_nodes_is_written_and_read_to_its_end() {
     let (table, query, record) = full_tree();
     assert_eq!(record.len(), layout::NODE * 21_845);
     assert_eq!(verify(&table, query, &record), Ok(255));
+    let mut cells = vec![0; record.len()];
+    assert_eq!(write(&table, query, 255, &mut cells), Ok(record.len()));
+    assert_eq!(cells, record);
     let mut random = Random::new(SEED + 3);
     for _ in 0..100 {
         // Cut anywhere, the first node that is not whole is told.

@@ -2,7 +2,7 @@
 //! input that meets it: its number, its position, and that the message has the
 //! words for it.
 
-use bwlchareg::{check, check_query, layout, list, verify, Query, Refusal};
+use bwlchareg::{check, check_query, layout, list, verify, write, Query, Refusal};
 
 /// A table with a credential of each kind, an automaton and an edge.
 const TABLE: [u16; 48] = [
@@ -125,6 +125,7 @@ fn queries() {
         told(check_query(&TABLE, query), 8, position, &words);
         told(verify(&TABLE, query, &RECORD), 8, position, &words);
         told(list(&TABLE, query, &mut [0]), 8, position, &words);
+        told(write(&TABLE, query, 7, &mut [0; 6]), 8, position, &words);
     }
 }
 
@@ -144,6 +145,67 @@ fn lists() {
     let words = "more minimal sets than cells";
     told(list(&TABLE, QUERY, &mut []), 10, 0, words);
     told(list(&TABLE, QUERY, &mut []), Refusal::LONGER, 0, words);
+}
+
+/// Asks for the record of a set, with so many cells; tells the answer, if it
+/// leaves every cell as it was.
+fn unwritten(table: &[u16], query: Query, set: u32, cells: usize) -> Result<usize, Refusal> {
+    let before: Vec<u16> = (0..cells).map(|cell| 0xC000 + cell as u16).collect();
+    let mut after = before.clone();
+    let answer = write(table, query, set, &mut after);
+    assert_eq!(after, before);
+    answer
+}
+
+#[test]
+fn sets_that_are_not_listed() {
+    let words = "the set is not on the list of minimal sets";
+    // Nothing, a part of the listed set, more than it, credentials that the
+    // table does not have, and the greatest number.
+    for set in [0, 6, 15, 32, 1 << 20, u32::MAX] {
+        for cells in [0, 5, 6, 100] {
+            told(unwritten(&TABLE, QUERY, set, cells), 15, 0, words);
+        }
+    }
+    let nobody = Query {
+        principal: 9,
+        ..QUERY
+    };
+    let answer = unwritten(&TABLE, nobody, 7, 6);
+    told(answer, Refusal::NOT_LISTED, 0, words);
+    let shallow = Query { depth: 1, ..QUERY };
+    told(unwritten(&TABLE, shallow, 7, 6), 15, 0, words);
+}
+
+#[test]
+fn records_that_are_longer_than_the_cells() {
+    let words = "fewer cells than the record has numbers";
+    for cells in 0..RECORD.len() {
+        let answer = unwritten(&TABLE, QUERY, 7, cells);
+        told(answer, Refusal::LONGER_RECORD, 0, words);
+        told(answer, 16, 0, words);
+    }
+    for more in 0..3 {
+        let mut cells = vec![0xC000; RECORD.len() + more];
+        assert_eq!(write(&TABLE, QUERY, 7, &mut cells), Ok(RECORD.len()));
+        assert_eq!(cells[..RECORD.len()], RECORD);
+        assert!(cells[RECORD.len()..].iter().all(|&cell| cell == 0xC000));
+    }
+}
+
+#[test]
+fn the_table_and_the_query_come_before_the_set() {
+    let spoiled = with(layout::credential(&TABLE, 3).start, 65);
+    let far = Query { depth: 17, ..QUERY };
+    for (set, cells) in [(7, 6), (7, 0), (0, 6), (0, 0)] {
+        let short = unwritten(&TABLE[..3], far, set, cells);
+        told(short, 1, 0, "fewer than 4 numbers");
+        told(unwritten(&spoiled, far, set, cells), 4, 3, "credential 3");
+        told(unwritten(&TABLE, far, set, cells), 8, 4, "depth");
+    }
+    // The list comes before the cells.
+    told(unwritten(&TABLE, QUERY, 8, 0), 15, 0, "not on the list");
+    told(unwritten(&TABLE, QUERY, 7, 0), 16, 0, "fewer cells");
 }
 
 #[test]

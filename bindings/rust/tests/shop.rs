@@ -1,6 +1,6 @@
 //! The calls through the library, on the shop example.
 
-use bwlchareg::{check, check_query, layout, list, verify, Query, Refusal};
+use bwlchareg::{check, check_query, layout, list, verify, write, Query, Refusal};
 
 const T: [u16; 28] = [
     4, 0, 0, 0, //
@@ -70,6 +70,7 @@ fn each_query_field_arrives_in_its_place() {
         assert_eq!(check_query(&T, query), refused(8, position));
         assert_eq!(verify(&T, query, &R), refused(8, position));
         assert_eq!(list(&T, query, &mut [0]), refused(8, position));
+        assert_eq!(write(&T, query, 7, &mut [0; 6]), refused(8, position));
     }
 }
 
@@ -136,4 +137,65 @@ fn a_refused_listing_leaves_the_cells_but_for_10() {
     assert_eq!(listed(&T[..T.len() - 1], Q), (refused(3, 0), [BEFORE; 2]));
     let deep = Query { depth: 17, ..Q };
     assert_eq!(listed(&T, deep), (refused(8, 4), [BEFORE; 2]));
+}
+
+/// What a cell holds before a writing. No credential and no middle is so great.
+const UNWRITTEN: u16 = u16::MAX;
+
+/// The answer with room for `CELLS` numbers, and the cells after the call.
+fn written<const CELLS: usize>(
+    table: &[u16],
+    query: Query,
+    set: u32,
+) -> (Result<usize, Refusal>, [u16; CELLS]) {
+    let mut cells = [UNWRITTEN; CELLS];
+    let answer = write(table, query, set, &mut cells);
+    (answer, cells)
+}
+
+#[test]
+fn records_of_the_shop_are_written() {
+    assert_eq!(written(&T, Q, 7), (Ok(6), R));
+    let (answer, cells) = written::<8>(&T, Q, 7);
+    assert_eq!(answer, Ok(6));
+    assert_eq!(cells, [1, 2, 2, 0, 3, 0, UNWRITTEN, UNWRITTEN]);
+    assert_eq!(written(&T, Q, 8), (Ok(2), [4, 0, UNWRITTEN]));
+    assert_eq!(written(&U, Q, 8), (Ok(2), [4, 0]));
+    let student = Query {
+        owner: 2,
+        name: 2,
+        depth: 1,
+        ..Q
+    };
+    assert_eq!(written(&U, student, 4), (Ok(2), [3, 0]));
+}
+
+#[test]
+fn every_listed_set_of_the_shop_has_a_record_that_is_accepted() {
+    for (table, query) in [(&T[..], Q), (&U, Q), (&T, Query { depth: 16, ..Q })] {
+        let (count, sets) = listed::<3>(table, query);
+        for &set in &sets[..count.expect("a list")] {
+            let (length, record) = written::<10>(table, query, set);
+            let record = &record[..length.expect("a record")];
+            assert_eq!(verify(table, query, record), Ok(set));
+        }
+    }
+}
+
+#[test]
+fn a_refused_writing_leaves_the_cells() {
+    let shallow = Query { depth: 1, ..Q };
+    // The school's constraint, or a level too few, takes the set 7 away.
+    assert_eq!(written(&U, Q, 7), (refused(15, 0), [UNWRITTEN; 6]));
+    assert_eq!(written(&T, shallow, 7), (refused(15, 0), [UNWRITTEN; 6]));
+    // All four credentials prove it too, but the set is not minimal.
+    assert_eq!(written(&T, Q, 15), (refused(15, 0), [UNWRITTEN; 9]));
+    assert_eq!(written(&T, Q, 0), (refused(15, 0), []));
+    assert_eq!(written(&[0; 4], Q, 7), (refused(15, 0), [UNWRITTEN; 6]));
+    assert_eq!(written(&T, Q, 7), (refused(16, 0), [UNWRITTEN; 5]));
+    assert_eq!(written(&T, Q, 7), (refused(16, 0), []));
+    let short = &T[..T.len() - 1];
+    assert_eq!(written(short, Q, 7), (refused(3, 0), [UNWRITTEN; 6]));
+    let deep = Query { depth: 17, ..Q };
+    assert_eq!(written(&T, deep, 7), (refused(8, 4), [UNWRITTEN; 6]));
 }

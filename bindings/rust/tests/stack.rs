@@ -1,16 +1,20 @@
-//! The calls need little stack: records and lists of sixteen levels, and lists
-//! over twenty credentials, run in threads whose stacks are small.
+//! The calls need little stack: records of sixteen levels that are verified and
+//! written, and lists of sixteen levels and over twenty credentials, run in
+//! threads whose stacks are small.
 
 use std::thread;
 
-use bwlchareg::{list, verify, Query, Refusal};
+use bwlchareg::{list, verify, write, Query, Refusal};
 
 /// The stacks that the calls below must do with, in bytes; Rust gives a thread
 /// 2 MiB where nobody says otherwise.
 const VERIFYING: usize = 32 * 1024;
 const LISTING: usize = 64 * 1024;
-/// Cells for the longest list below.
+const WRITING: usize = 64 * 1024;
+/// Cells for the longest list below, and for the longest record that is written
+/// whole: sixteen levels of two premises.
 const CELLS: usize = 512;
+const RECORD: usize = 2 * ((1 << 16) - 1);
 
 /// Principal 1 in role 1.1, within sixteen levels.
 const DEEP: Query = Query {
@@ -175,4 +179,53 @@ fn lists_of_ways_that_have_nothing_in_common_need_little_stack() {
     for (number, each) in [(20, 1), (10, 2), (6, 3), (5, 4)] {
         needs_little_stack(ways(number, each), number.into());
     }
+}
+
+/// Tests that the records of the listed sets are written with a small stack, so
+/// that the verifier accepts them; tells the longest.
+#[track_caller]
+fn writes_with_little_stack(table: Vec<u16>) -> usize {
+    let (count, sets) = listed(&table);
+    let mut longest = 0;
+    for set in sets.into_iter().take(count.expect("a list")) {
+        let lent = table.clone();
+        let (length, record) = in_a_stack_of(WRITING, move || {
+            let mut record = vec![0; RECORD];
+            (write(&lent, DEEP, set, &mut record), record)
+        });
+        let length = length.expect("a record");
+        assert_eq!(verify(&table, DEEP, &record[..length]), Ok(set));
+        longest = longest.max(length);
+    }
+    longest
+}
+
+#[test]
+fn records_of_sixteen_levels_are_written_with_little_stack() {
+    assert_eq!(writes_with_little_stack(deepest()), 32);
+    assert_eq!(writes_with_little_stack(constrained()), 32);
+    assert_eq!(writes_with_little_stack(linked()), RECORD);
+}
+
+#[test]
+fn records_of_many_ways_are_written_with_little_stack() {
+    writes_with_little_stack(ladder());
+    assert_eq!(writes_with_little_stack(choices()), 10);
+    writes_with_little_stack(ways(10, 2));
+}
+
+#[test]
+fn records_that_do_not_fit_or_are_not_listed_need_little_stack() {
+    // Sixteen levels of four premises have 1,431,655,765 nodes.
+    let told = in_a_stack_of(WRITING, || {
+        let mut record = vec![0; RECORD];
+        [0xffff, 0x7fff, 0xfffff].map(|set| write(&chained(), DEEP, set, &mut record))
+    });
+    let refused = |number| {
+        Err(Refusal {
+            number,
+            position: 0,
+        })
+    };
+    assert_eq!(told, [refused(16), refused(15), refused(15)]);
 }

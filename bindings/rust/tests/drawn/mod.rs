@@ -2,7 +2,9 @@
 //! again. Most are no tables at all; some are accepted, so that every refusal
 //! is reached.
 
-use bwlchareg::{layout, Query};
+pub mod crossing;
+
+use bwlchareg::{layout, list, Query};
 
 /// SplitMix64: a counter that goes up by a fixed odd step, whose bits are then
 /// mixed.
@@ -125,6 +127,13 @@ pub fn accepted(random: &mut Random) -> Vec<u16> {
     table
 }
 
+/// Such a table with a query.
+pub fn accepted_and_query(random: &mut Random) -> (Vec<u16>, Query) {
+    let table = accepted(random);
+    let query = query(random, &table);
+    (table, query)
+}
+
 fn credential(random: &mut Random, pairs: u16, automata: u16) -> [u16; layout::CREDENTIAL] {
     let [owner, name] = role(random);
     let [first, second] = role(random);
@@ -156,6 +165,18 @@ fn edge(random: &mut Random, automata: u16) -> [u16; layout::EDGE] {
 
 fn role(random: &mut Random) -> [u16; 2] {
     [random.between(1, 2), random.between(1, 3)]
+}
+
+/// Cells for every list of a drawn table: of twelve credentials there are never
+/// more minimal sets, since none is a part of another.
+const WHOLE: usize = 924;
+
+/// The whole list of a drawn table, empty where there is none.
+pub fn listed(table: &[u16], query: Query) -> Vec<u32> {
+    let mut sets = vec![0; WHOLE];
+    let count = list(table, query, &mut sets).unwrap_or(0);
+    sets.truncate(count);
+    sets
 }
 
 /// A query, valid most of the time, for a role of the table where there is one.

@@ -1,0 +1,125 @@
+//! Tables in which a minimal set often has several accepted records, so that it
+//! matters which of them is first.
+//!
+//! The goal rests on two to four parts, and every part on one shared role, to
+//! which there are two or three ways. A part may forbid one of the ways below
+//! it. So a set with several ways is often minimal, and a part that forbids
+//! none of them may go by any.
+
+use bwlchareg::{layout, Query};
+
+use super::Random;
+
+/// The owner of the roles, who is asked about, and the first of the middles.
+const OWNER: u16 = 1;
+const MEMBER: u16 = 2;
+const MIDDLE: u16 = 3;
+/// The most ways, and the last principal that a table names.
+const WAYS: u16 = 3;
+pub const LAST_PRINCIPAL: u16 = MIDDLE + WAYS - 1;
+/// The names of the roles; parts and ways are numbered behind theirs.
+const GOAL: u16 = 1;
+const SHARED: u16 = 2;
+const LINK: u16 = 3;
+const PART: u16 = 10;
+const WAY: u16 = 20;
+
+/// The records of a table, by their sorts.
+#[derive(Default)]
+struct Records {
+    credentials: Vec<[u16; layout::CREDENTIAL]>,
+    cells: Vec<[u16; layout::CELL]>,
+    automata: Vec<[u16; layout::AUTOMATON]>,
+    edges: Vec<[u16; layout::EDGE]>,
+}
+
+impl Records {
+    fn numbers(&self) -> Vec<u16> {
+        let Records {
+            credentials,
+            cells,
+            automata,
+            edges,
+        } = self;
+        let counts = [credentials.len(), cells.len(), automata.len(), edges.len()];
+        let mut table: Vec<u16> = counts.map(|count| count as u16).to_vec();
+        table.extend(credentials.as_flattened());
+        table.extend(cells.as_flattened());
+        table.extend(automata.as_flattened());
+        table.extend(edges.as_flattened());
+        table
+    }
+}
+
+/// Such a table, with its query.
+pub fn crossing(random: &mut Random) -> (Vec<u16>, Query) {
+    let (parts, ways) = (random.between(2, 4), random.between(2, WAYS));
+    let linked = random.one_in(2);
+    let mut records = Records::default();
+    records.credentials.push([OWNER, GOAL, 4, 1, 0, 0]);
+    for part in 1..=parts {
+        let next = if part == parts { 0 } else { part + 1 };
+        records.cells.push([OWNER, PART + part, next]);
+        let forbidden = (!random.one_in(3)).then(|| way(random.between(1, ways), linked));
+        add_part(&mut records, PART + part, forbidden);
+    }
+    add_ways(&mut records, ways, linked);
+    shuffle(random, &mut records.credentials);
+    let query = Query {
+        principal: MEMBER,
+        owner: OWNER,
+        name: GOAL,
+        depth: random.between(4, 5),
+    };
+    (records.numbers(), query)
+}
+
+/// Whoever is in the shared role is in a part; unless, if one is forbidden, by
+/// this role.
+fn add_part(records: &mut Records, part: u16, forbidden: Option<[u16; 2]>) {
+    let mut credential = [OWNER, part, 2, OWNER, SHARED, 0];
+    if let Some(way) = forbidden {
+        records.automata.push([1, 3]);
+        let automaton = records.automata.len() as u16;
+        credential[5] = automaton;
+        let edge =
+            |from, label, [owner, name]: [u16; 2], to| [automaton, from, label, owner, name, to];
+        // Below the part it is in state 1, and reads every role but the way's.
+        records.edges.push(edge(0, 3, [OWNER, part], 0));
+        records.edges.push(edge(0, 1, [OWNER, part], 1));
+        records.edges.push(edge(1, 3, way, 1));
+    }
+    records.credentials.push(credential);
+}
+
+/// So many ways to the shared role: by one link with several middles, or by a
+/// containment for each.
+fn add_ways(records: &mut Records, ways: u16, linked: bool) {
+    let credentials = &mut records.credentials;
+    if linked {
+        credentials.push([OWNER, SHARED, 3, LINK, WAY, 0]);
+    }
+    for number in 1..=ways {
+        let [owner, name] = way(number, linked);
+        credentials.push(match linked {
+            true => [OWNER, LINK, 1, owner, 0, 0],
+            false => [OWNER, SHARED, 2, owner, name, 0],
+        });
+        credentials.push([owner, name, 1, MEMBER, 0, 0]);
+    }
+}
+
+/// The role by which a way goes: one of a middle's, or one of the owner's.
+fn way(number: u16, linked: bool) -> [u16; 2] {
+    match linked {
+        true => [MIDDLE + number - 1, WAY],
+        false => [OWNER, WAY + number],
+    }
+}
+
+/// Puts items into any order.
+fn shuffle<Item>(random: &mut Random, items: &mut [Item]) {
+    for last in (1..items.len()).rev() {
+        items.swap(last, random.up_to(last));
+    }
+}
