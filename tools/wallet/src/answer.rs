@@ -3,8 +3,8 @@
 
 use bwlchareg::{Query, Refusal};
 
+use crate::decimal::decimal;
 use crate::mistake::quoted;
-use crate::record::decimal;
 use crate::Wallet;
 
 /// The cells that the listing program has.

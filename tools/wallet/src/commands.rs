@@ -3,29 +3,48 @@
 use std::fmt::Display;
 use std::fs::File;
 use std::io::{self, Read};
+use std::iter;
 
 use bwlchareg::{Query, Refusal};
 use wallet::answer::{listed, printed, Answer};
 use wallet::derivation::{judge, Judged};
-use wallet::explain::explain;
+use wallet::explain::{explain, heading};
 use wallet::mistake::Mistake;
-use wallet::parse::{parse, query};
+use wallet::parse::{parse, query, record};
 use wallet::print::print;
 use wallet::table::Table;
-use wallet::{program, refusal, svg, tree, Wallet};
+use wallet::{program, proof, refusal, svg, tree, Wallet};
 
-use crate::arguments::{Asked, Command, Source, USAGE};
+use crate::arguments::{Asked, Command, Given, Source, Wanted, USAGE};
 
 /// The most bytes of a text that are read.
 const MOST_BYTES: u64 = 1 << 20;
+/// The most bytes of a record's text: enough for every record that is written,
+/// whose numbers have two digits at most.
+const MOST_RECORD_BYTES: u64 = 4 * proof::MOST_CELLS as u64;
 
-/// What a command writes, and whether the checker has refused.
-pub struct Written {
+/// A piece of what a command writes, and whether the checker has refused what
+/// it is about.
+pub struct Piece {
     /// The bytes.
     pub bytes: Vec<u8>,
-    /// Whether the checker has refused what they are about.
+    /// Whether the checker has refused.
     pub refused: bool,
 }
+
+impl Piece {
+    /// A text about something that the checker has refused, or has not.
+    fn new(text: impl Into<Vec<u8>>, refused: bool) -> Piece {
+        Piece {
+            bytes: text.into(),
+            refused,
+        }
+    }
+}
+
+/// What a command writes, piece by piece: the records of a list can be long, and
+/// are made when they are to be written.
+pub type Pieces = Box<dyn Iterator<Item = Piece>>;
 
 /// Why a command writes nothing.
 pub enum Failure {
@@ -36,65 +55,116 @@ pub enum Failure {
 }
 
 /// Runs a command.
-pub fn run(command: &Command) -> Result<Written, Failure> {
-    match command {
+pub fn run(command: &Command) -> Result<Pieces, Failure> {
+    let piece = match command {
         Command::Encode(asked) => {
             let (wallet, query) = read_asked(asked)?;
-            accepted(program::input(query, &wallet.table.numbers()))
+            let input = program::input(query, &wallet.table.numbers());
+            Piece::new(input, false)
         }
         Command::List(asked) => {
             let (wallet, query) = read_asked(asked)?;
-            Ok(answered(&wallet, query, &listed(&wallet, query)))
+            answered(&wallet, query, &listed(&wallet, query))
         }
         Command::Explain(asked) => {
             let (wallet, query) = read_asked(asked)?;
-            let output = text(&Source::Standard)?;
+            let output = text(&Source::Standard, MOST_BYTES)?;
             let answer = printed(&wallet, &String::from_utf8_lossy(&output));
-            Ok(answered(&wallet, query, &answer.map_err(Failure::Wrong)?))
+            answered(&wallet, query, &answer.map_err(Failure::Wrong)?)
         }
-        Command::Decode(names) => decode(names.as_ref()),
-        Command::Verify(asked, record) => judged(asked, record, |wallet, judged| {
+        Command::Decode(names) => decode(names.as_ref())?,
+        Command::Prove(asked, wanted) => return prove(asked, *wanted),
+        Command::Verify(asked, given) => in_its_place(judged(asked, given, |wallet, judged| {
             Ok(tree::text(wallet, judged))
-        }),
-        Command::Draw(asked, record) => judged(asked, record, svg::picture),
-        Command::Help => accepted(USAGE.as_bytes().to_vec()),
-    }
-}
-
-/// Writes bytes that are about nothing refused.
-fn accepted(bytes: Vec<u8>) -> Result<Written, Failure> {
-    Ok(Written {
-        bytes,
-        refused: false,
-    })
+        }))?,
+        Command::Draw(asked, given) => judged(asked, given, svg::picture)?,
+        Command::Help => Piece::new(USAGE, false),
+    };
+    Ok(Box::new(iter::once(piece)))
 }
 
 /// Writes an answer in words.
-fn answered(wallet: &Wallet, query: Query, answer: &Answer) -> Written {
-    Written {
-        bytes: explain(wallet, query, answer).into_bytes(),
-        refused: matches!(answer, Answer::Refused(_)),
+fn answered(wallet: &Wallet, query: Query, answer: &Answer) -> Piece {
+    let refused = matches!(answer, Answer::Refused(_));
+    Piece::new(explain(wallet, query, answer), refused)
+}
+
+/// A refusal that is said in the place of the answer.
+fn in_its_place(piece: Result<Piece, Failure>) -> Result<Piece, Failure> {
+    match piece {
+        Err(Failure::Refused(words)) => Ok(Piece::new(words + "\n", true)),
+        other => other,
     }
+}
+
+/// Writes the record of a set, or of every listed set.
+fn prove(asked: &Asked, wanted: Wanted) -> Result<Pieces, Failure> {
+    let (wallet, query) = read_asked(asked)?;
+    let piece = match wanted {
+        Wanted::Every => return Ok(prove_every(wallet, query)),
+        Wanted::One(set) => in_its_place(prove_one(&wallet, query, set)),
+        Wanted::Numbers(set) => first_record(&wallet, query, set)
+            .map(|record| Piece::new(proof::numbers(&record), false)),
+    };
+    Ok(Box::new(iter::once(piece?)))
+}
+
+/// Writes the record of a set below the query.
+fn prove_one(wallet: &Wallet, query: Query, set: u32) -> Result<Piece, Failure> {
+    let record = first_record(wallet, query, set)?;
+    let block = proof::proved(wallet, query, set, &record);
+    let text = format!("{}\n{}", wallet.names.query(query), block.text);
+    Ok(Piece::new(text, block.refused))
+}
+
+/// Writes the record of every listed set, or why there is no list.
+fn prove_every(wallet: Wallet, query: Query) -> Pieces {
+    let sets = match listed(&wallet, query) {
+        Answer::Sets(sets) => sets,
+        refused => return Box::new(iter::once(answered(&wallet, query, &refused))),
+    };
+    let heading = Piece::new(heading(&wallet, query, sets.len()), false);
+    let blocks = sets.into_iter().map(move |set| {
+        let block = proof::block(&wallet, query, set);
+        Piece::new(block.text, block.refused)
+    });
+    Box::new(iter::once(heading).chain(blocks))
+}
+
+/// The first record of a set, as the library writes it.
+fn first_record(wallet: &Wallet, query: Query, set: u32) -> Result<Vec<u16>, Failure> {
+    let refused = |refusal| Failure::Refused(proof::refused(wallet, query, set, refusal));
+    proof::first_record(wallet, query, set).map_err(refused)
 }
 
 /// Writes what is shown of a record that is judged.
 fn judged(
     asked: &Asked,
-    record: &[u16],
+    given: &Given,
     shown: impl Fn(&Wallet, &Judged) -> Result<String, String>,
-) -> Result<Written, Failure> {
+) -> Result<Piece, Failure> {
     let (wallet, query) = read_asked(asked)?;
-    let judged = judge(&wallet, query, record);
-    Ok(Written {
-        bytes: shown(&wallet, &judged)
-            .map_err(Failure::Wrong)?
-            .into_bytes(),
-        refused: judged.refusal().is_some(),
-    })
+    let record = read_record(&wallet, query, given)?;
+    let judged = judge(&wallet, query, &record);
+    let text = shown(&wallet, &judged).map_err(Failure::Wrong)?;
+    Ok(Piece::new(text, judged.refusal().is_some()))
+}
+
+/// The record that is given, in the names of the wallet.
+fn read_record(wallet: &Wallet, query: Query, given: &Given) -> Result<Vec<u16>, Failure> {
+    match given {
+        // Words on the command line have no lines and columns to tell.
+        Given::Words(words) => {
+            record(wallet, words.as_bytes()).map_err(|mistake| Failure::Wrong(mistake.message))
+        }
+        Given::Text(source) => record(wallet, &text(source, MOST_RECORD_BYTES)?)
+            .map_err(|mistake| wrong(source, mistake)),
+        Given::Set(set) => first_record(wallet, query, *set),
+    }
 }
 
 /// Writes the text of the input on standard input.
-fn decode(names: Option<&Source>) -> Result<Written, Failure> {
+fn decode(names: Option<&Source>) -> Result<Piece, Failure> {
     let names = match names {
         None => Default::default(),
         Some(source) => read(source)?.names,
@@ -114,7 +184,7 @@ fn decode(names: Option<&Source>) -> Result<Written, Failure> {
         names,
         ..Wallet::default()
     };
-    accepted(print(&wallet).into_bytes())
+    Ok(Piece::new(print(&wallet), false))
 }
 
 /// The wallet of a text, and what is asked about it: the query that is given
@@ -139,22 +209,22 @@ fn read_asked(asked: &Asked) -> Result<(Wallet, Query), Failure> {
 
 /// The wallet of a text.
 fn read(source: &Source) -> Result<Wallet, Failure> {
-    parse(&text(source)?).map_err(|mistake| wrong(source, mistake))
+    parse(&text(source, MOST_BYTES)?).map_err(|mistake| wrong(source, mistake))
 }
 
-/// A text's bytes.
-fn text(source: &Source) -> Result<Vec<u8>, Failure> {
+/// The bytes of a text that has no more than so many.
+fn text(source: &Source, most: u64) -> Result<Vec<u8>, Failure> {
     let mut bytes = Vec::new();
     let read = match source {
-        Source::Standard => io::stdin().take(MOST_BYTES + 1).read_to_end(&mut bytes),
+        Source::Standard => io::stdin().take(most + 1).read_to_end(&mut bytes),
         Source::File(path) => {
-            File::open(path).and_then(|file| file.take(MOST_BYTES + 1).read_to_end(&mut bytes))
+            File::open(path).and_then(|file| file.take(most + 1).read_to_end(&mut bytes))
         }
     };
     match read {
         Err(error) => Err(wrong(source, error)),
-        Ok(_) if bytes.len() as u64 > MOST_BYTES => {
-            let message = format!("the text is longer than {MOST_BYTES} bytes");
+        Ok(_) if bytes.len() as u64 > most => {
+            let message = format!("the text is longer than {most} bytes");
             Err(wrong(source, message))
         }
         Ok(_) => Ok(bytes),

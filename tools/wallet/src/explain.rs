@@ -29,7 +29,7 @@ pub fn explain(wallet: &Wallet, query: Query, answer: &Answer) -> String {
 }
 
 /// How many sets there are, and of what.
-fn heading(wallet: &Wallet, query: Query, count: usize) -> String {
+pub fn heading(wallet: &Wallet, query: Query, count: usize) -> String {
     let sets = if count == 1 {
         "set proves"
     } else {

@@ -9,6 +9,7 @@
 #![warn(missing_docs)]
 
 pub mod answer;
+pub mod decimal;
 pub mod derivation;
 pub mod explain;
 pub mod limits;
@@ -17,7 +18,7 @@ pub mod names;
 pub mod parse;
 pub mod print;
 pub mod program;
-pub mod record;
+pub mod proof;
 pub mod refusal;
 mod rows;
 pub mod svg;

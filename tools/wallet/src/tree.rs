@@ -48,6 +48,15 @@ pub fn text(wallet: &Wallet, judged: &Judged) -> String {
     lines.join("\n")
 }
 
+/// The tree of a judged record and the verdict, without its words and runs.
+pub fn short(wallet: &Wallet, judged: &Judged) -> String {
+    let mut lines = Vec::new();
+    tree(wallet, judged, &mut lines);
+    lines.push(verdict(wallet, judged, &words(wallet, judged)));
+    lines.push(String::new());
+    lines.join("\n")
+}
+
 /// The verdict: `accepted: used set 7 = credentials 1, 2, 3`, or `refused 14
 /// at 1` and why.
 pub fn verdict(wallet: &Wallet, judged: &Judged, words: &Words) -> String {

@@ -1,89 +1,13 @@
 //! The tool as it is called: exit codes, what is written where, and that
 //! nothing is written when something is wrong.
 
+mod tool;
+
 use std::fs;
 use std::io::Write;
-use std::path::{Path, PathBuf};
 use std::process::{Command, Stdio};
 
-const SHOP: &str = concat!(env!("CARGO_MANIFEST_DIR"), "/../../examples/shop.wallet");
-const CONSTRAINED: &str = concat!(
-    env!("CARGO_MANIFEST_DIR"),
-    "/../../examples/shop-constrained.wallet"
-);
-const PROGRAM: &str = concat!(env!("CARGO_MANIFEST_DIR"), "/../../target/bin/minimal_sets");
-
-/// What a program did.
-struct Done {
-    code: Option<i32>,
-    out: Vec<u8>,
-    err: String,
-}
-
-impl Done {
-    fn text(&self) -> String {
-        String::from_utf8(self.out.clone()).expect("text")
-    }
-}
-
-/// Runs a program on some input.
-fn run_program(program: &str, arguments: &[&str], input: &[u8]) -> Done {
-    let mut child = Command::new(program)
-        .args(arguments)
-        .stdin(Stdio::piped())
-        .stdout(Stdio::piped())
-        .stderr(Stdio::piped())
-        .spawn()
-        .expect("the program");
-    let mut stdin = child.stdin.take().expect("its standard input");
-    // It may end before it has read everything.
-    let _ = stdin.write_all(input);
-    drop(stdin);
-    let output = child.wait_with_output().expect("its output");
-    Done {
-        code: output.status.code(),
-        out: output.stdout,
-        err: String::from_utf8(output.stderr).expect("text"),
-    }
-}
-
-fn run(arguments: &[&str], input: &[u8]) -> Done {
-    run_program(env!("CARGO_BIN_EXE_wallet"), arguments, input)
-}
-
-/// A file for a test to write, which is not there yet.
-fn fresh(name: &str) -> PathBuf {
-    let path = Path::new(env!("CARGO_TARGET_TMPDIR")).join(name);
-    let _ = fs::remove_file(&path);
-    path
-}
-
-/// A file with a text.
-fn file(name: &str, text: &[u8]) -> String {
-    let path = fresh(name);
-    fs::write(&path, text).expect("a file is written");
-    path.to_str().expect("a path in text").to_string()
-}
-
-/// A call that is wrong: code 2, a message, nothing on standard output, and no
-/// file. Tells the message.
-fn wrong(arguments: &[&str], input: &[u8]) -> String {
-    let path = fresh(&format!("wrong-{}", std::process::id()));
-    let path_text = path.to_str().expect("a path in text");
-    let with_file = [arguments, &["-o", path_text]].concat();
-    for arguments in [arguments, &with_file] {
-        let done = run(arguments, input);
-        assert_eq!(done.code, Some(2), "{arguments:?} {}", done.err);
-        assert!(done.out.is_empty(), "{arguments:?}");
-        assert!(
-            done.err.starts_with("wallet: "),
-            "{arguments:?} {}",
-            done.err
-        );
-        assert!(!path.exists(), "{arguments:?}");
-    }
-    run(arguments, input).err
-}
+use tool::{file, fresh, run, run_program, wrong, CONSTRAINED, PROGRAM, SHOP};
 
 const LISTED: &str = "\
 2 minimal sets prove Ann in Shop.discount within 2
@@ -230,7 +154,7 @@ fn a_file_instead_of_standard_output() {
 #[test]
 fn texts_with_a_mistake() {
     let name = file("mistake.wallet", b"A.r <- B\nA.r <-\n");
-    for command in ["encode", "list", "explain", "verify", "draw"] {
+    for command in ["encode", "list", "explain", "prove", "verify", "draw"] {
         let told = wrong(&[command, &name], b"7\n8\nsets 2\n");
         let expected = format!("wallet: {name}: line 2, column 7: the line ends where ");
         assert!(told.starts_with(&expected), "{told}");
@@ -251,7 +175,7 @@ fn texts_with_a_mistake() {
 #[test]
 fn wallets_without_a_query() {
     let name = file("unasked.wallet", b"A.r <- B\n");
-    for command in ["encode", "list", "explain", "verify", "draw"] {
+    for command in ["encode", "list", "explain", "prove", "verify", "draw"] {
         let told = wrong(&[command, &name], b"");
         assert!(
             told.ends_with(
@@ -325,7 +249,7 @@ fn a_query_for_a_wallet_without_one() {
 fn queries_with_a_mistake() {
     let name = file("unasked-shop.wallet", UNASKED);
     for wallet in [SHOP, &name] {
-        for command in ["encode", "list", "explain", "verify", "draw"] {
+        for command in ["encode", "list", "explain", "prove", "verify", "draw"] {
             let told = |query| wrong(&[command, wallet, "--query", query], b"8\nsets 1\n");
             let unknown = told("Bob in Shop.discount within 2");
             let words = "wallet: --query: column 1: `Bob` is not a principal of the wallet; ";
@@ -395,7 +319,7 @@ fn files_that_cannot_be_read() {
 
 #[test]
 fn calls_that_are_wrong() {
-    let calls: [&[&str]; 15] = [
+    let calls: [&[&str]; 27] = [
         &[],
         &["lists", SHOP],
         &["list"],
@@ -411,6 +335,18 @@ fn calls_that_are_wrong() {
         &["list", SHOP, "--query"],
         &["list", SHOP, "--query", "", "--query", ""],
         &["decode", "--query", "Ann in Shop.discount within 2"],
+        &["prove"],
+        &["prove", SHOP, "1,2,3"],
+        &["prove", SHOP, "7", "8"],
+        &["prove", SHOP, "--numbers"],
+        &["prove", SHOP, "--set", "7"],
+        &["list", SHOP, "--record", SHOP],
+        &["verify", SHOP, "1", "2", "--set", "7"],
+        &["verify", SHOP, "1", "2", "--record", "-"],
+        &["draw", SHOP, "--record", "-", "--set", "7"],
+        &["draw", "-", "--record", "-"],
+        &["verify", SHOP, "--set"],
+        &["verify", SHOP, "--sets", "7"],
     ];
     for arguments in calls {
         let done = run(arguments, b"");
@@ -432,22 +368,24 @@ fn calls_that_are_wrong() {
 
 #[test]
 fn a_reader_that_has_enough() {
-    let mut child = Command::new(env!("CARGO_BIN_EXE_wallet"))
-        .args(["list", "-"])
-        .stdin(Stdio::piped())
-        .stdout(Stdio::piped())
-        .stderr(Stdio::piped())
-        .spawn()
-        .expect("the tool");
-    // It writes only when it has read everything, and nobody reads by then.
-    drop(child.stdout.take());
-    let mut stdin = child.stdin.take().expect("its standard input");
-    let text = fs::read(SHOP).expect("the example");
-    stdin.write_all(&text).expect("it reads its input");
-    drop(stdin);
-    let output = child.wait_with_output().expect("its end");
-    assert_eq!(output.status.code(), Some(0));
-    assert!(output.stderr.is_empty());
+    for command in ["list", "prove"] {
+        let mut child = Command::new(env!("CARGO_BIN_EXE_wallet"))
+            .args([command, "-"])
+            .stdin(Stdio::piped())
+            .stdout(Stdio::piped())
+            .stderr(Stdio::piped())
+            .spawn()
+            .expect("the tool");
+        // It writes only when it has read everything, and nobody reads by then.
+        drop(child.stdout.take());
+        let mut stdin = child.stdin.take().expect("its standard input");
+        let text = fs::read(SHOP).expect("the example");
+        stdin.write_all(&text).expect("it reads its input");
+        drop(stdin);
+        let output = child.wait_with_output().expect("its end");
+        assert_eq!(output.status.code(), Some(0));
+        assert!(output.stderr.is_empty());
+    }
 }
 
 #[cfg(target_os = "linux")]
@@ -462,7 +400,9 @@ fn an_output_that_is_full() {
     assert_eq!(output.status.code(), Some(2));
     let told = String::from_utf8_lossy(&output.stderr);
     assert!(told.starts_with("wallet: standard output: "), "{told}");
-    let done = run(&["list", SHOP, "-o", "/dev/full"], b"");
-    assert_eq!(done.code, Some(2));
-    assert!(done.err.starts_with("wallet: /dev/full: "), "{}", done.err);
+    for command in ["list", "prove"] {
+        let done = run(&[command, SHOP, "-o", "/dev/full"], b"");
+        assert_eq!(done.code, Some(2));
+        assert!(done.err.starts_with("wallet: /dev/full: "), "{}", done.err);
+    }
 }

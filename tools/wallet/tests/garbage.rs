@@ -1,13 +1,18 @@
 //! Anything may be given as a text: it is read, or its mistake is told at a
-//! place that it has; and what is read, the checker accepts.
+//! place that it has; and what is read, the checker accepts. The same holds of
+//! a record's text, which the checker then judges.
 
 mod common;
 
 use common::{assert_same, made_up, nameless};
 use reference::random::Random;
-use wallet::parse::parse;
+use wallet::derivation::judge;
+use wallet::mistake::Mistake;
+use wallet::parse::{parse, record};
 use wallet::print::print;
+use wallet::proof::numbers;
 use wallet::tokens::KEPT;
+use wallet::tree::text;
 
 /// Reads bytes as a text, and tells whether there was no mistake.
 fn read(bytes: &[u8]) -> bool {
@@ -25,17 +30,22 @@ fn read(bytes: &[u8]) -> bool {
             true
         }
         Err(mistake) => {
-            let lines: Vec<&[u8]> = bytes.split(|byte| *byte == b'\n').collect();
-            let line = mistake
-                .line
-                .checked_sub(1)
-                .and_then(|index| lines.get(index));
-            let line = line.unwrap_or_else(|| panic!("{mistake}"));
-            assert!((1..=line.len() + 1).contains(&mistake.column), "{mistake}");
-            assert!(mistake.message.contains("; "), "{mistake}");
+            assert_placed(&mistake, bytes);
             false
         }
     }
+}
+
+/// A mistake is at a place that the text has, and says what to write instead.
+fn assert_placed(mistake: &Mistake, bytes: &[u8]) {
+    let lines: Vec<&[u8]> = bytes.split(|byte| *byte == b'\n').collect();
+    let line = mistake
+        .line
+        .checked_sub(1)
+        .and_then(|index| lines.get(index));
+    let line = line.unwrap_or_else(|| panic!("{mistake}"));
+    assert!((1..=line.len() + 1).contains(&mistake.column), "{mistake}");
+    assert!(mistake.message.contains("; "), "{mistake}");
 }
 
 const SHOP: &[u8] = include_bytes!("../../../examples/shop-constrained.wallet");
@@ -178,4 +188,68 @@ fn very_long_lines_and_texts() {
     read(&[b"constraint c\nstart".to_vec(), b" 1".repeat(500_000)].concat());
     read(&[b"principals A = 1".to_vec(), b", A = 1".repeat(100_000)].concat());
     assert!(read("# A.r\n".repeat(150_000).as_bytes()));
+}
+
+/// Reads bytes as a record about the shop, and tells whether there was no
+/// mistake. What is read is the same in numbers again, and is judged.
+fn read_record(bytes: &[u8]) -> bool {
+    let shop = parse(SHOP).expect("the example");
+    match record(&shop, bytes) {
+        Ok(read) => {
+            let again = record(&shop, numbers(&read).as_bytes());
+            assert_eq!(again.as_ref(), Ok(&read));
+            let judged = judge(&shop, shop.query.expect("a query"), &read);
+            assert!(text(&shop, &judged).contains("\n\n"));
+            true
+        }
+        Err(mistake) => {
+            assert_placed(&mistake, bytes);
+            false
+        }
+    }
+}
+
+#[test]
+fn random_bytes_as_a_record() {
+    let mut random = Random::new(5);
+    for _ in 0..4000 {
+        let length = random.below(40);
+        let bytes: Vec<u8> = (0..length).map(|_| random.bits() as u8).collect();
+        read_record(&bytes);
+    }
+    let signs = b"0123456789, \t\n\r-A";
+    let mut right = 0;
+    for _ in 0..4000 {
+        let length = random.below(20);
+        let bytes: Vec<u8> = (0..length).map(|_| *random.pick(signs)).collect();
+        right += usize::from(read_record(&bytes));
+    }
+    assert!(right > 200, "{right}");
+}
+
+#[test]
+fn random_words_as_a_record() {
+    let words = [
+        "0", "1", "2", "3", "65535", "65536", "School", "Shop", "Ann", "student", "any", ",", "\n",
+        "\u{FEFF}", "\u{e9}",
+    ];
+    let mut random = Random::new(6);
+    let mut right = 0;
+    for _ in 0..10_000 {
+        let length = random.below(8);
+        let soup: Vec<&str> = (0..length).map(|_| *random.pick(&words)).collect();
+        right += usize::from(read_record(soup.join(" ").as_bytes()));
+    }
+    assert!(right > 500, "{right}");
+}
+
+#[test]
+fn very_long_records() {
+    let million = 1 << 20;
+    assert!(read_record("1 School ".repeat(million / 8).as_bytes()));
+    assert!(read_record("1\n0\n".repeat(million / 4).as_bytes()));
+    assert!(!read_record("1".repeat(million).as_bytes()));
+    assert!(!read_record(",".repeat(million).as_bytes()));
+    assert!(!read_record("Ann ".repeat(million / 4).as_bytes()));
+    assert!(read_record("\n".repeat(million).as_bytes()));
 }

@@ -3,7 +3,8 @@
 //! Each line is read by itself first (`line`, `credential`), then added to what
 //! the lines above say (`draft`, `constraints`, `states`, `numbering`). What may
 //! stand further below, and the numbers, are found at the end (`finish`). A
-//! query may also be given apart from the text (`query`).
+//! query may also be given apart from the text (`query`), and a proof record is
+//! (`record`).
 
 mod constraints;
 mod credential;
@@ -13,6 +14,7 @@ mod line;
 mod numbering;
 mod query;
 mod reader;
+mod record;
 mod statement;
 mod states;
 
@@ -21,6 +23,7 @@ use crate::tokens::tokens;
 use crate::Wallet;
 
 pub use query::query;
+pub use record::record;
 
 /// Reads a wallet's text, or tells its first mistake.
 pub fn parse(text: &[u8]) -> Result<Wallet, Mistake> {

@@ -30,6 +30,11 @@ pub fn query(wallet: &Wallet, text: &[u8]) -> Result<Query, Mistake> {
     })
 }
 
+/// The number of the principal that a wallet calls so.
+pub fn principal(wallet: &Wallet, word: &Word) -> Result<u16, Mistake> {
+    number(wallet, Sort::Principal, word)
+}
+
 /// The number that a wallet has for a word of this sort.
 fn number(wallet: &Wallet, sort: Sort, word: &Word) -> Result<u16, Mistake> {
     let mut known = names(wallet, sort).iter();
