@@ -411,3 +411,38 @@ fn one_record_that_is_too_long_does_not_hide_the_others() {
     assert!(text.contains(short), "{text}");
     assert!(text.ends_with("\naccepted: used set 2048 = credential 12\n"));
 }
+
+/// A text as the pages have it below their prose.
+fn indented(text: &str) -> String {
+    let lines = text.lines().map(|line| match line {
+        "" => "\n".to_string(),
+        line => format!("    {line}\n"),
+    });
+    lines.collect()
+}
+
+#[test]
+fn the_document_shows_what_is_printed() {
+    let document = include_str!("../../../docs/WALLET.md");
+    let shown = |text: &str| assert!(document.contains(&indented(text)), "{text}");
+    shown(&accepted(&["prove", SHOP, "7"], b""));
+    shown(&run(&["prove", SHOP, "15"], b"").text());
+    let path = file("ann.record", b"1 Schol\n");
+    let told = wrong(&["verify", SHOP, "--record", &path], b"");
+    shown(&told.replace(&path, "ann.record"));
+    // The four calls that it says are the same.
+    let numbers = run(&["prove", SHOP, "7", "--numbers"], b"").out;
+    let calls: [(&[&str], &[u8]); 4] = [
+        (&["1", "2", "2", "0", "3", "0"], b""),
+        (&["1, School, 2, 0, 3, 0"], b""),
+        (&["--set", "7"], b""),
+        (&["--record", "-"], &numbers),
+    ];
+    for (given, input) in calls {
+        let verified = accepted(&[&["verify", SHOP], given].concat(), input);
+        assert_eq!(verified, accepted(&["verify", SHOP, "--set", "7"], b""));
+        let call = format!("wallet verify examples/shop.wallet {}", given.join(" "));
+        let call = call.replace("1, School, 2, 0, 3, 0", "\"1, School, 2, 0, 3, 0\"");
+        assert!(document.contains(&format!("{call}\n")), "{call}");
+    }
+}
