@@ -35,7 +35,7 @@ use Rattle.listing.proofs.Stopping.{passes-or-stops, request-stage, tab
 
 module _ (t : List ℕ) (wf : WellFormed t) (q : Query) (valid : Valid q) where
   -- rows 1 to 8 find nothing: the count of minimal sets is told, and they are laid into the buffer
-  passes : requestOutcome t q ≡ accepted 0
+  pub passes : requestOutcome t q ≡ accepted 0
   unfolding requestOutcome _andThen_
   passes = rw (wf .accepted, valid)
 
@@ -47,7 +47,7 @@ module _ (t : List ℕ) (wf : WellFormed t) (q : Query) (valid : Valid q) where
   buffer-laid buffer = buffer-accepted t q buffer passes
 
   -- an accepted record is that of a derivation, within the query's depth
-  accepted-holdable : (rec : List ℕ) (S : ℕ) → verdict t q rec ≡ accepted S → Holdable rec
+  pub accepted-holdable : (rec : List ℕ) (S : ℕ) → verdict t q rec ≡ accepted S → Holdable rec
   accepted-holdable rec S e =
       let a = demand-two t q rec S (wf .accepted) valid .0 e in
       rw (a .whole) at (none-excluded t (q .depth) [] (goalOf q) (a .forest) (wf .accepted) (depth-fits q valid) (a .derives))

@@ -43,18 +43,18 @@ automata-mono t S S′ more =
 
 module _ (t : List ℕ) {l : ℕ} {b gs : List Goal} {f : Forest} (d : Derives t l b gs f) where
   -- a credential of the used set is named
-  used-shows : (i : ℕ) → inSet (usedSet f) i ≡ true → names f (suc i) ≡ true
+  pub used-shows : (i : ℕ) → inSet (usedSet f) i ≡ true → names f (suc i) ≡ true
   used-shows i h = sym (used-at t l b gs f d i) ∙ h
 
   -- a forest uses only credentials of a set exactly where its used set is a part of it
-  used-part : (S : ℕ) → UsesOnly f S → part (usedSet f) S ≡ true
+  pub used-part : (S : ℕ) → UsesOnly f S → part (usedSet f) S ≡ true
   used-part S only = part-shown (usedSet f) S (λ i h. rw sub-one at (only (suc i) (used-shows i h)))
 
-  part-used : (S : ℕ) → part (usedSet f) S ≡ true → UsesOnly f S
+  pub part-used : (S : ℕ) → part (usedSet f) S ≡ true → UsesOnly f S
   part-used S among c named = part-member (usedSet f) S (c - 1) among (used-named t l b gs f d c named)
 
   -- a forest within a set that meets every automaton of the set complies
-  accepts-complies : (S : ℕ) → UsesOnly f S → AllAccept t (automataOf t S) (words t [] f) → Complies t f
+  pub accepts-complies : (S : ℕ) → UsesOnly f S → AllAccept t (automataOf t S) (words t [] f) → Complies t f
   accepts-complies S only all c named constrained =
       let k = credential t c .automaton in
       let next : suc (k - 1) ≡ k = omega arith in

@@ -68,10 +68,10 @@ abbrev pub AllAccept : List ℕ → ℕ → List (List Role) → Type 0
 AllAccept t A ws = (k : ℕ) → inSet A k ≡ true → acceptsAll t (suc k) ws ≡ true
 
 -- where automata are imposed, they have come to the state sets s along the word
-abbrev Led : List ℕ → ℕ → StateSets → List Role → Type 0
+abbrev pub Led : List ℕ → ℕ → StateSets → List Role → Type 0
 Led t A s word = (A ≡ 0 → ⊥) → s ≡ setsAfter t word
 
-led-on : (t : List ℕ) (A : ℕ) (s : StateSets) (w : List Role) (r : Role) → Led t A s w
+pub led-on : (t : List ℕ) (A : ℕ) (s : StateSets) (w : List Role) (r : Role) → Led t A s w
     → Led t A (stepped t A r s) (w ++ (r ∷ []))
 unfolding stepped pick
 led-on t A s w r led asked = rw (ne-eqb A 0 asked, led asked) (sets-after-next t w r)
@@ -85,7 +85,7 @@ module _ (t : List ℕ) (wf : WellFormed t) (A : ℕ) (s : StateSets) (word : Li
   unfolding acceptsAll
   led-accepts k h = rw (led (imposed A k h)) (accepting-exact t wf word k ∙ sym (and-true _))
 
-  one-word : part A (acceptingSet t s) ≡ true → AllAccept t A (word ∷ [])
+  pub one-word : part A (acceptingSet t s) ≡ true → AllAccept t A (word ∷ [])
   one-word all k h = sym (led-accepts k h) ∙ part-member A _ k all h
 
   one-word-demanded : AllAccept t A (word ∷ []) → part A (acceptingSet t s) ≡ true
@@ -96,7 +96,7 @@ abbrev pub OnBranch : List ℕ → List Goal → ℕ → Type 0
 OnBranch t branch above =
     (g : Goal) → roleAt t (g .role) < credentials t → fresh branch g ≡ not (inSet above (roleAt t (g .role)))
 
-on-none : (t : List ℕ) → OnBranch t [] 0
+pub on-none : (t : List ℕ) → OnBranch t [] 0
 unfolding fresh
 on-none t g there = rw (inSet-zero (roleAt t (g .role)))
 
@@ -110,7 +110,7 @@ same-eqb t r s there =
     let same = place-same t r s at (rw at there) in
     rw same (and-both (eq-eqb (s .owner .0) (s .owner .0) refl) (eq-eqb (s .name .0) (s .name .0) refl)))
 
-on-next : (t : List ℕ) (branch : List Goal) (above : ℕ) (g : Goal) → OnBranch t branch above
+pub on-next : (t : List ℕ) (branch : List Goal) (above : ℕ) (g : Goal) → OnBranch t branch above
     → OnBranch t (g ∷ branch) (bitOr above (2 ^ roleAt t (g .role)))
 unfolding fresh _and_ _or_
 on-next t branch above g on h there =
@@ -135,7 +135,7 @@ unfolding mayUse
 used-defined t S g c there h = role-defined t (g .role) c there (and-second _ _ h)
 
 module _ (t : List ℕ) (A : ℕ) (ws more : List (List Role)) where
-  accept-both : AllAccept t A ws → AllAccept t A more → AllAccept t A (ws ++ more)
+  pub accept-both : AllAccept t A ws → AllAccept t A more → AllAccept t A (ws ++ more)
   accept-both here later k h = accepts-all-append t (suc k) ws more ∙ and-both (here k h) (later k h)
 
   accept-first : AllAccept t A (ws ++ more) → AllAccept t A ws
@@ -145,10 +145,10 @@ module _ (t : List ℕ) (A : ℕ) (ws more : List (List Role)) where
   accept-second all k h = and-second _ _ (sym (accepts-all-append t (suc k) ws more) ∙ all k h)
 
 -- the words of a node: its own where it asks nothing, and otherwise those of its children
-unfoldable nodeWords : List ℕ → List Goal → List Role → Forest → List (List Role)
+unfoldable pub nodeWords : List ℕ → List Goal → List Role → Forest → List (List Role)
 nodeWords t goals word children = pick (eqb (length goals) 0) (word ∷ []) (words t word children)
 
-node-words : (t : List ℕ) → WellFormed t → (g : Goal) (c m : ℕ) (goals : List Goal) → premises t g c m ≡ some goals
+pub node-words : (t : List ℕ) → WellFormed t → (g : Goal) (c m : ℕ) (goals : List Goal) → premises t g c m ≡ some goals
     → (w : List Role) (children siblings : Forest)
     → words t w (node c m children siblings) ≡ (nodeWords t goals (w ++ (g .role ∷ [])) children ++ words t w siblings)
 unfolding words nodeWords pick
@@ -161,7 +161,7 @@ node-words t wf g c m (h ∷ goals) applies w children siblings =
       ne-eqb (suc (length goals)) 0 (λ e. omega arith),
     )
 
-words-split : (t : List ℕ) → WellFormed t → (A : ℕ) (g : Goal) (c m : ℕ) (goals : List Goal) → premises t g c m ≡ some goals
+pub words-split : (t : List ℕ) → WellFormed t → (A : ℕ) (g : Goal) (c m : ℕ) (goals : List Goal) → premises t g c m ≡ some goals
     → (w : List Role) (children siblings : Forest) → AllAccept t A (words t w (node c m children siblings))
     → AllAccept t A (nodeWords t goals (w ++ (g .role ∷ [])) children) × AllAccept t A (words t w siblings)
 words-split t wf A g c m goals applies w children siblings all =
@@ -286,7 +286,7 @@ module _ (t : List ℕ) (wf : WellFormed t) (S A : ℕ) where
       (rw (at .1) (and-both (and-both own defines) (tried-proves t _ _ g c m tried (rw applies below)))))
 
   -- where every automaton of A accepts a node's words, the search accepts what the node asks
-  node-accepted : (goals : List Goal) (one : Goal → Bool) (s : StateSets) (word : List Role) (f : Forest) → Led t A s word
+  pub node-accepted : (goals : List Goal) (one : Goal → Bool) (s : StateSets) (word : List Role) (f : Forest) → Led t A s word
       → AllAccept t A (nodeWords t goals word f) → (AllAccept t A (words t word f) → everyGoal one goals ≡ true)
       → pick (eqb (length goals) 0) (part A (acceptingSet t s)) (everyGoal one goals) ≡ true
   unfolding nodeWords pick
@@ -296,7 +296,7 @@ module _ (t : List ℕ) (wf : WellFormed t) (S A : ℕ) where
       rw nonzero (below (rw nonzero at all))
 
   -- the role of a goal to which a credential applies is defined
-  applies-defined : (g : Goal) (c m : ℕ) (goals : List Goal) → premises t g c m ≡ some goals → roleAt t (g .role) < credentials t
+  pub applies-defined : (g : Goal) (c m : ℕ) (goals : List Goal) → premises t g c m ≡ some goals → roleAt t (g .role) < credentials t
   unfolding premises
   applies-defined g c m goals applies =
       let at = placed (applies-numbered t g c m goals applies) in
@@ -325,7 +325,7 @@ module _ (t : List ℕ) (wf : WellFormed t) (S A : ℕ) where
       (node-accepted goals _ below word f after all (each deeper (on-next t branch above g on) word below after))
 
   -- what is derived is found
-  derived-proves : {levels : ℕ} {branch goals : List Goal} {f : Forest} → Derives t levels branch goals f → UsesOnly f S
+  pub derived-proves : {levels : ℕ} {branch goals : List Goal} {f : Forest} → Derives t levels branch goals f → UsesOnly f S
       → Found levels branch goals f
   unfolding everyGoal
   derived-proves done only above on w s led all = refl

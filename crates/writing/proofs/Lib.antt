@@ -1,1 +1,10 @@
 -- Laws that belong to no one function; crates above cite those marked `pub mod`.
+pub mod Choosing
+pub mod FirstNode
+pub mod FirstShown
+pub mod Ordering
+pub mod FirstBefore
+pub mod Firsts
+pub mod Fitting
+pub mod Walking
+pub mod WritesFirst
