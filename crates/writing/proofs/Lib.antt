@@ -7,4 +7,6 @@ pub mod FirstBefore
 pub mod Firsts
 pub mod Fitting
 pub mod Walking
+pub mod Nodes
+pub mod Listed
 pub mod WritesFirst
