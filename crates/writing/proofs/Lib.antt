@@ -9,4 +9,6 @@ pub mod Fitting
 pub mod Walking
 pub mod Nodes
 pub mod Listed
+pub mod Beginning
+pub mod Passes
 pub mod WritesFirst

@@ -1,4 +1,10 @@
-use borrow.Author.Needs.{needs}
+-- `writing::write` meets its contract: rows 1 to 8 are those of the request, then the record is written. Assumes nothing.
+use mathlib.Core.Path.{sym, ap, _∙_}
+use Rattle.table.specs.Checks.{told}
+use Rattle.checks.specs.Told.{queryTold}
+use Rattle.table.proofs.WellFormed.{request-accepted}
+use Rattle.writing.specs.Writing.{writtenTold}
+use Rattle.writing.proofs.Passes.{written-past, written-stopped}
 use borrow.Author.Needs.{needs}
 use Rattle.writing.proofs.write.Statement.{statement}
 use Rattle.writing.proofs.write.Tie as tie
@@ -7,33 +13,33 @@ use Rattle.writing.proofs.write.Lts as lts
 use Rattle.checks.proofs.check_request.Reads as check-request-reads
 use Rattle.writing.proofs.write_checked.Reads as write-checked-reads
 
--- src/lib.rt:36:11
 check-request-requires : tie.Need-check-request-requires
 check-request-requires c κs = search needs
 
--- src/lib.rt:37:63
 enum-told : tie.Need-enum-told
 enum-told c = search needs
 
--- src/lib.rt:37:30
 write-checked-requires : tie.Need-write-checked-requires
-write-checked-requires c κs = search needs
+unfolding queryTold
+write-checked-requires c κs =
+    let both = request-accepted _ _ (sym (c .before .before .before .check-request .ensures) ∙ ap queryTold (c .before .enum-told .given .1)) in
+    (both .0, both .1)
 
--- src/lib.rt:38:29
 enum-known-why : tie.Need-enum-known-why
 enum-known-why c = search needs
 
--- src/lib.rt:32:1
 same-length : tie.Need-same-length
 same-length c = search needs
 
--- src/lib.rt:32:1
 returns : tie.Need-returns
-returns c = search needs
+unfolding queryTold
+returns c =
+    let accepts = sym (c .before .before .before .before .before .before .check-request .ensures) ∙ ap queryTold (c .before .before .before .before .enum-told .given .1) in
+    written-past _ _ _ _ accepts (c .before .before .write-checked .ensures)
 
--- src/lib.rt:32:1
 returns-2 : tie.Need-returns-2
-returns-2 c = search needs
+unfolding queryTold writtenTold told
+returns-2 c = written-stopped _ _ _ _ (ap queryTold (sym (c .before .why .given .1)) ∙ c .before .before .before .check-request .ensures)
 
 pub write-spec : {M : Type 1} → statement M
 write-spec =

@@ -1,4 +1,9 @@
-use borrow.Author.Needs.{needs}
+-- `writing::write_checked` meets its contract: 15 where the set is not on the list. Assumes nothing.
+use mathlib.Core.Path.{refl}
+use Rattle.sets.proofs.Tests.{failed, passed}
+use Rattle.table.specs.Checks.{numberOf}
+use Rattle.writing.proofs.Fitting.{tells-unlisted}
+use Rattle.writing.proofs.Passes.{tells-instead}
 use borrow.Author.Needs.{needs}
 use Rattle.writing.proofs.write_checked.Statement.{statement}
 use Rattle.writing.proofs.write_checked.Tie as tie
@@ -9,39 +14,37 @@ use Rattle.writing.proofs.is_listed.Reads as is-listed-reads
 use Rattle.writing.proofs.refused.Reads as refused-reads
 use Rattle.writing.proofs.write_listed.Reads as write-listed-reads
 
--- src/lib.rt:48:17
 index-requires : tie.Need-index-requires
 index-requires c κs = search needs
 
--- src/lib.rt:49:33
 slice-aggregate-is-listed : tie.Need-slice-aggregate-is-listed
 slice-aggregate-is-listed c = search needs
 
--- src/lib.rt:49:9
 is-listed-requires : tie.Need-is-listed-requires
 is-listed-requires c κs = search needs
 
--- src/lib.rt:50:9
 refused-requires : tie.Need-refused-requires
 refused-requires c κs = search needs
 
--- src/lib.rt:50:9
 returns : tie.Need-returns
-returns c = search needs
+unfolding numberOf
+returns c =
+    tells-instead _ _ _ _ (c .refused .ensures) refl (tells-unlisted _ _ _ _ (failed (c .before .before .is-listed .ensures) (c .before .if1 .taken)))
 
--- src/lib.rt:52:32
 slice-aggregate-write-listed : tie.Need-slice-aggregate-write-listed
 slice-aggregate-write-listed c = search needs
 
--- src/lib.rt:52:5
 write-listed-requires : tie.Need-write-listed-requires
-write-listed-requires c κs = search needs
+write-listed-requires c κs =
+    let pre = c .before .before .before .before .before .before .before .before .pre in
+    let index = c .before .before .before .before .before .index .ensures in (
+      record { wellFormed = pre .0; valid = pre .1; indexed = index .0; aimed = index .1 },
+      passed (c .before .before .before .is-listed .ensures) (c .before .before .if1 .left),
+    )
 
--- src/lib.rt:43:1
 same-length : tie.Need-same-length
 same-length c = search needs
 
--- src/lib.rt:43:1
 returns-2 : tie.Need-returns-2
 returns-2 c = search needs
 

@@ -1,4 +1,14 @@
-use borrow.Author.Needs.{needs}
+-- `writing::write_listed` meets its contract: the record is walked without cells, and written where it fits. Assumes nothing.
+use mathlib.Core.Path.{refl, ap, _∙_}
+use Prim.Native.Nat.{_^_, _<_}
+use native.Mathlib.Omega.{arith}
+use lib.ListN.{length}
+use denote.Ref.{now}
+use Rattle.derivation.proofs.Above.{depth-fits, depth-some}
+use Rattle.table.specs.Checks.{numberOf}
+use Rattle.writing.specs.Writing.{writtenTold}
+use Rattle.writing.proofs.Firsts.{minimal-provable}
+use Rattle.writing.proofs.Passes.{counted-longer, counted-written, passed-by, tells-instead}
 use borrow.Author.Needs.{needs}
 use Rattle.writing.proofs.write_listed.Statement.{statement}
 use Rattle.writing.proofs.write_listed.Tie as tie
@@ -10,65 +20,86 @@ use Rattle.table.proofs.layout.wide.Reads as wide-reads
 use Rattle.writing.proofs.refused.Reads as refused-reads
 use Rattle.writing.proofs.walk.from_goal.Reads as from-goal-reads
 
--- src/lib.rt:83:49
 wide-requires : tie.Need-wide-requires
 wide-requires c κs = search needs
 
--- src/lib.rt:83:76
 slice-aggregate-fill : tie.Need-slice-aggregate-fill
 slice-aggregate-fill c = search needs
 
--- src/lib.rt:83:9
 fill-requires : tie.Need-fill-requires
-fill-requires c κs = search needs
+fill-requires c κs =
+    let pre = c .before .before .before .before .before .pre in
+    let wide = c .before .wide .ensures .0 in (
+      pre .0 .wellFormed,
+      (
+        pre .0 .indexed,
+        ((omega (arith, depth-some _ (pre .0 .valid), wide), omega (arith, depth-fits _ (pre .0 .valid), wide)), refl),
+      ),
+    )
 
--- src/lib.rt:86:22
 automata-of-requires : tie.Need-automata-of-requires
 automata-of-requires c κs = search needs
 
--- src/lib.rt:90:52
 slice-aggregate-from-goal : tie.Need-slice-aggregate-from-goal
 slice-aggregate-from-goal c = search needs
 
--- src/lib.rt:90:73
 slice-relend-prefix-from-goal : tie.Need-slice-relend-prefix-from-goal
 slice-relend-prefix-from-goal c = search needs
 
--- src/lib.rt:90:73
 slice-aggregate-from-goal-2 : tie.Need-slice-aggregate-from-goal-2
 slice-aggregate-from-goal-2 c = search needs
 
--- src/lib.rt:90:9
-from-goal-requires : tie.Need-from-goal-requires
-from-goal-requires c κs = search needs
+-- a slice is no longer than this
+room : (c : tie.After-from-goal-arg) → length (now (c .before .before .before .before .before .before .before .before .before .before .args .rec)) < 2 ^ 63
+room c = search needs
 
--- src/lib.rt:92:9
+from-goal-requires : tie.Need-from-goal-requires
+from-goal-requires c κs =
+    let pre = c .before .before .before .before .before .before .before .before .before .before .pre in (
+      pre .0,
+      (
+        rw (c .before .before .before .before .before .before .wide .ensures .0) at (c .before .before .before .before .fill .ensures),
+        (rw (c .before .before .automata-of .ensures) (minimal-provable _ (pre .0 .wellFormed) _ (pre .0 .valid) _ (pre .1)), room c),
+      ),
+    )
+
 refused-requires : tie.Need-refused-requires
 refused-requires c κs = search needs
 
--- src/lib.rt:92:9
 same-length : tie.Need-same-length
-same-length c = search needs
+same-length c = ap length (passed-by (c .before .before .before .before .from-goal .ensures) (now (c .before .before .before .before .before .before .before .before .before .before .before .before .before .before .before .args .rec)))
 
--- src/lib.rt:92:9
 returns : tie.Need-returns
-returns c = search needs
+unfolding numberOf
+returns c =
+    let pre = c .before .before .before .before .before .before .before .before .before .before .before .before .before .before .before .pre in
+    let counted = c .before .before .before .before .from-goal .ensures in
+    tells-instead _ _ _ _ (c .refused .ensures) (passed-by counted _)
+    (counted-longer _ _ _ _ (c .before .before .before .before .before .before .before .automata-of .ensures) _ (pre .1) refl counted (c .before .if1 .taken))
 
--- src/lib.rt:94:42
 slice-aggregate-from-goal-3 : tie.Need-slice-aggregate-from-goal-3
 slice-aggregate-from-goal-3 c = search needs
 
--- src/lib.rt:94:5
 from-goal-requires-2 : tie.Need-from-goal-requires-2
-from-goal-requires-2 c κs = search needs
+from-goal-requires-2 c κs =
+    let pre = c .before .before .before .before .before .before .before .before .before .before .before .before .before .before .before .before .pre in (
+      pre .0,
+      (
+        rw (c .before .before .before .before .before .before .before .before .before .before .before .before .wide .ensures .0) at (c .before .before .before .before .before .before .before .before .before .before .fill .ensures),
+        (rw (c .before .before .before .before .before .before .before .before .automata-of .ensures) (minimal-provable _ (pre .0 .wellFormed) _ (pre .0 .valid) _ (pre .1)), room (c .before .before .before .before .before .before)),
+      ),
+    )
 
--- src/lib.rt:71:1
 same-length-2 : tie.Need-same-length-2
-same-length-2 c = search needs
+same-length-2 c = c .before .before .from-goal2 .ensures .size ∙ ap length (passed-by (c .before .before .before .before .before .before .before .before .from-goal .ensures) (now (c .before .before .before .before .before .before .before .before .before .before .before .before .before .before .before .before .before .before .before .args .rec)))
 
--- src/lib.rt:71:1
 returns-2 : tie.Need-returns-2
-returns-2 c = search needs
+unfolding writtenTold
+returns-2 c =
+    let pre = c .before .before .before .before .before .before .before .before .before .before .before .before .before .before .before .before .before .before .before .pre in
+    let counted = c .before .before .before .before .before .before .before .before .from-goal .ensures in
+    counted-written _ _ _ _ (c .before .before .before .before .before .before .before .before .before .before .before .automata-of .ensures) _ (pre .1) refl counted (c .before .before .before .before .before .if1 .left)
+    (rw (passed-by counted (now (c .before .before .before .before .before .before .before .before .before .before .before .before .before .before .before .before .before .before .before .args .rec))) at (c .before .before .from-goal2 .ensures))
 
 pub write-listed-spec : {M : Type 1} → statement M
 write-listed-spec =

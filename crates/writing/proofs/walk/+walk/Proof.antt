@@ -188,10 +188,12 @@ walk-loop-again t c =
     let chosen = at .before .before .before .before .before .before .choose .ensures in
     let next = c .before .before .before .before .before .loop-test .taken in
     let asks = chosen-asks (walk-entered t (walk-with t at)) chosen in
-    let goal-is = chosen .children .goals-are _ next ∙ ap (λ goals. getD goals (loop .k) noGoal) asks in
-    (omega (arith, next), child-next _ _ _ _ _ _ _ (loop .k) (loop .inv .1) _
-    (omega (arith, next, chosen .children .count ∙ ap length asks)) goal-is (c .before .before .before .before .if1 .left)
-    (c .before .before .walk .ensures))
+    let goal-is = chosen .children .goals-are _ next ∙ ap (λ goals. getD goals (loop .k) noGoal) asks in (
+      omega (arith, next),
+      child-next _ _ _ _ _ _ _ (loop .k) (loop .inv .1) _
+          (omega (arith, next, chosen .children .count ∙ ap length asks)) goal-is (c .before .before .before .before .if1 .left)
+          (c .before .before .walk .ensures),
+    )
 
 walk-same-length-2 : walk-needs walk-lts.Need-same-length-2
 walk-same-length-2 t c =

@@ -1,4 +1,6 @@
-use borrow.Author.Needs.{needs}
+-- `writing::walk::from_goal` meets its contract. Assumes nothing.
+use native.Mathlib.Omega.{arith}
+use Rattle.writing.proofs.Beginning.{begins-proved, begins-stands, begins-walked}
 use borrow.Author.Needs.{needs}
 use Rattle.writing.proofs.walk.from_goal.Statement.{statement}
 use Rattle.writing.proofs.walk.from_goal.Tie as tie
@@ -10,33 +12,41 @@ use Rattle.members.proofs.goal_role.Reads as goal-role-reads
 use Rattle.table.proofs.layout.wide.Reads as wide-reads
 use Rattle.writing.proofs.walk.walk.Reads as walk-reads
 
--- src/walk.rt:43:9
 goal-person-requires : tie.Need-goal-person-requires
 goal-person-requires c κs = search needs
 
--- src/walk.rt:44:9
 goal-role-requires : tie.Need-goal-role-requires
 goal-role-requires c κs = search needs
 
--- src/walk.rt:45:9
 wide-requires : tie.Need-wide-requires
 wide-requires c κs = search needs
 
--- src/walk.rt:46:9
 start-requires : tie.Need-start-requires
 start-requires c κs = search needs
 
--- src/walk.rt:38:5
 walk-requires : tie.Need-walk-requires
-walk-requires c κs = search needs
+walk-requires c κs =
+    let pre = c .before .before .before .before .before .before .before .before .before .pre in
+    let who = c .before .before .before .before .goal-person .ensures .0 in
+    let place = c .before .before .before .goal-role .ensures .0 in (
+      record { wellFormed = pre .0 .wellFormed; indexed = pre .0 .indexed; members = rw (c .before .before .wide .ensures .0) (pre .1 .0) },
+      (
+        begins-stands (pre .0) (pre .1 .0) _ (pre .1 .1 .0) who place,
+        (
+          begins-proved (pre .0) (pre .1 .0) _ (pre .1 .1 .0) who place _ _ (c .before .before .wide .ensures .0) (c .before .start .ensures),
+          (omega arith, pre .1 .1 .1),
+        ),
+      ),
+    )
 
--- src/walk.rt:22:1
 same-length : tie.Need-same-length
 same-length c = search needs
 
--- src/walk.rt:22:1
 returns : tie.Need-returns
-returns c = search needs
+returns c =
+    let pre = c .before .before .before .before .before .before .before .before .before .before .before .before .pre in
+    begins-walked (pre .0) (pre .1 .0) _ (pre .1 .1 .0) (c .before .before .before .before .before .before .before .goal-person .ensures .0) (c .before .before .before .before .before .before .goal-role .ensures .0) _ _ (c .before .before .before .before .before .wide .ensures .0)
+    (c .before .before .before .before .start .ensures) _ _ _ _ (c .before .before .walk .ensures)
 
 pub from-goal-spec : {M : Type 1} → statement M
 from-goal-spec =
