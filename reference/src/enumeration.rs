@@ -53,12 +53,12 @@ pub fn pairs(table: &Table, asked: Asked, patience: Patience) -> Option<Rc<Pairs
     enumeration.goal(asked.goal, &[], &Standing::start(table))
 }
 
-/// The principals of kind 1 credentials, each once.
+/// The principals of kind 1 credentials, each once, ascending.
 ///
 /// No other principal is in any role, so no other can be a middle: some child
 /// of a node that is not of kind 1 is about the node's own principal, hence
 /// below every node there is a kind 1 node about its principal.
-fn middles(table: &Table) -> Vec<Principal> {
+pub fn middles(table: &Table) -> Vec<Principal> {
     let credentials = table.credentials.iter();
     let members = credentials.filter_map(|credential| match credential.members {
         Members::One(member) => Some(member),
@@ -138,7 +138,7 @@ impl Enumeration<'_> {
 }
 
 /// The same roles in ascending order.
-fn in_order(roles: &[Role]) -> Vec<Role> {
+pub fn in_order(roles: &[Role]) -> Vec<Role> {
     let mut roles = roles.to_vec();
     roles.sort();
     roles

@@ -18,6 +18,8 @@
 //! - [`pairs`], [`enumeration`]: what all derivations of a goal amount to
 //! - [`patience`]: how long they are looked for
 //! - [`listing`]: the minimal sets among that (refusals 9 and 10)
+//! - [`ascending`]: the derivations from a set, in the order of their records
+//! - [`writing`]: the first record of a minimal set (refusals 15 and 16)
 //! - [`shop`]: the worked example
 //! - [`random`] and [`generate`]: made-up inputs, valid and damaged
 //! - [`stored`], [`blocks`]: the cases of the test program `crates/rows`
@@ -25,6 +27,7 @@
 #![forbid(unsafe_code)]
 #![warn(missing_docs)]
 
+pub mod ascending;
 pub mod blocks;
 pub mod derivation;
 pub mod enumeration;
@@ -41,6 +44,7 @@ pub mod sorts;
 pub mod stored;
 pub mod table;
 pub mod words;
+pub mod writing;
 
 pub use query::Query;
 pub use refusal::Refusal;
@@ -74,4 +78,14 @@ pub fn list(table: &[u16], query: Query, cells: &mut [u32]) -> Result<usize, Ref
     let table = table::Table::read(table)?;
     let asked = query.read()?;
     listing::write(&listing::minimal_sets(&table, asked), cells)
+}
+
+/// Writes the first record of a minimal set into the first cells: refusals 1 to
+/// 8, then 15 and 16. A record that is written is answered with its length.
+pub fn write(table: &[u16], query: Query, set: u32, cells: &mut [u16]) -> Result<usize, Refusal> {
+    let table = table::Table::read(table)?;
+    let asked = query.read()?;
+    let sets = listing::minimal_sets(&table, asked);
+    let first = writing::first(&table, asked, &sets, set);
+    writing::write(first.as_ref(), cells)
 }

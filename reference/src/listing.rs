@@ -7,7 +7,7 @@
 use std::rc::Rc;
 
 use crate::enumeration;
-use crate::pairs::{is_part, Pair, Witness};
+use crate::pairs::{is_in, is_part, Pair, Witness};
 use crate::patience::Patience;
 use crate::query::Asked;
 use crate::refusal::Refusal;
@@ -64,11 +64,10 @@ pub fn write(sets: &[Minimal], cells: &mut [u32]) -> Result<usize, Refusal> {
 
 /// Whether no automaton that is attached to a used credential rejects a word.
 fn is_accepted(table: &Table, pair: Pair) -> bool {
-    let in_set = |set: u32, number: u16| (set >> (number - 1)) & 1 == 1;
     let numbered = (1u16..).zip(&table.credentials);
-    let mut used = numbered.filter(|(number, _)| in_set(pair.used, *number));
+    let mut used = numbered.filter(|(number, _)| is_in(*number, pair.used));
     used.all(|(_, credential)| match credential.automaton {
-        Some(automaton) => !in_set(pair.rejecting, automaton),
+        Some(automaton) => !is_in(automaton, pair.rejecting),
         None => true,
     })
 }

@@ -18,14 +18,15 @@ pub struct Pair {
     pub rejecting: u32,
 }
 
-/// A derivation that has a certain pair. Parts that occur more than once are
-/// shared, so it takes little room however many nodes it has.
+/// A derivation, or a part of one. Parts that occur more than once are shared,
+/// so it takes little room however many nodes it has.
 #[derive(Debug)]
 pub struct Witness {
     credential: u16,
     middle: u16,
     premises: Vec<Rc<Witness>>,
     nodes: u64,
+    used: u32,
 }
 
 /// Pairs of which none dominates another, each with a derivation.
@@ -61,32 +62,46 @@ pub fn is_part(part: u32, whole: u32) -> bool {
     part & whole == part
 }
 
+/// Whether the credential or automaton with this number is in a set.
+pub fn is_in(number: u16, set: u32) -> bool {
+    (set >> (number - 1)) & 1 == 1
+}
+
 impl Witness {
     /// A node without its premises.
     pub fn node(credential: u16, middle: u16) -> Witness {
+        Witness::over(credential, middle, Vec::new())
+    }
+
+    /// A node over these premises. The number of nodes is at most that of four
+    /// premises at each of sixteen levels.
+    pub fn over(credential: u16, middle: u16, premises: Vec<Rc<Witness>>) -> Witness {
+        let nodes = premises.iter().map(|premise| premise.nodes).sum::<u64>();
+        let used = premises.iter().map(|premise| premise.used);
         Witness {
             credential,
             middle,
-            premises: Vec::new(),
-            nodes: 1,
+            nodes: 1 + nodes,
+            used: used.fold(1 << (credential - 1), |one, other| one | other),
+            premises,
         }
     }
 
-    /// The same node with one premise more. The number of nodes is at most
-    /// that of four premises at each of sixteen levels.
+    /// The same node with one premise more.
     fn with(&self, premise: &Rc<Witness>) -> Witness {
         let mut premises = self.premises.clone();
         premises.push(Rc::clone(premise));
-        Witness {
-            premises,
-            nodes: self.nodes + premise.nodes,
-            ..*self
-        }
+        Witness::over(self.credential, self.middle, premises)
     }
 
     /// How many nodes it has.
     pub fn nodes(&self) -> u64 {
         self.nodes
+    }
+
+    /// Its used set: credential i counts 2^(i-1).
+    pub fn used_set(&self) -> u32 {
+        self.used
     }
 
     /// The proof record of the derivation: its nodes in preorder.

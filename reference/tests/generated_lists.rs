@@ -1,8 +1,11 @@
 //! The lists of made-up tables, compared with what verifying every record of
 //! such a table gives; and what the made-up tables are like.
 
+mod every_record;
+
 use std::collections::BTreeSet;
 
+use every_record::records;
 use reference::derivation::NODE;
 use reference::generate::families::{self, Family};
 use reference::generate::listings::{self, Listing};
@@ -13,72 +16,10 @@ use reference::pairs::is_part;
 use reference::patience::Patience;
 use reference::query::DEEPEST;
 use reference::random::Random;
-use reference::sorts::{Goal, Role};
 use reference::table::Table;
 use reference::{check, check_query, list, verify, Query, Refusal};
 
 const SEED: u64 = 7;
-/// A table is left aside if it takes more steps to find all records.
-const STEPS: usize = 400;
-
-/// A search for every record, by trying every credential and every middle.
-struct Search<'a> {
-    table: &'a Table,
-    depth: usize,
-    steps: usize,
-}
-
-impl Search<'_> {
-    /// Every record for a goal below these roles, unless it takes too long.
-    fn records(&mut self, goal: Goal, above: &[Role]) -> Option<Vec<Vec<u16>>> {
-        if above.len() >= self.depth || above.contains(&goal.role) {
-            return Some(Vec::new());
-        }
-        self.steps = self.steps.checked_sub(1)?;
-        let branch = [above, &[goal.role]].concat();
-        let mut all = Vec::new();
-        for credential in 1..=self.table.credentials.len() as u16 {
-            for middle in 0..=64 {
-                if let Some(premises) = self.table.premises(goal, credential, middle) {
-                    all.extend(self.through(vec![credential, middle], &premises, &branch)?);
-                }
-            }
-        }
-        Some(all)
-    }
-
-    /// Every record that begins with a node that has these premises.
-    fn through(
-        &mut self,
-        node: Vec<u16>,
-        premises: &[Goal],
-        branch: &[Role],
-    ) -> Option<Vec<Vec<u16>>> {
-        let mut begun = vec![node];
-        for &premise in premises {
-            let below = self.records(premise, branch)?;
-            self.steps = self.steps.checked_sub(begun.len() * below.len())?;
-            let mut joined = Vec::new();
-            for one in &begun {
-                joined.extend(below.iter().map(|other| [&one[..], other].concat()));
-            }
-            begun = joined;
-        }
-        Some(begun)
-    }
-}
-
-/// Every record for a query, unless it takes too long.
-fn records(table: &[u16], query: Query) -> Option<Vec<Vec<u16>>> {
-    let table = Table::read(table).ok()?;
-    let asked = query.read().ok()?;
-    let mut search = Search {
-        table: &table,
-        depth: usize::from(asked.depth),
-        steps: STEPS,
-    };
-    search.records(asked.goal, &[])
-}
 
 /// The list by its definition: the used sets of accepted records, but for those
 /// that have another one as a proper part.
@@ -108,7 +49,7 @@ fn lists_are_what_the_definition_says() {
     let mut lengths = BTreeSet::new();
     let mut compared = 0;
     for _ in 0..800 {
-        let listing = listings::made_up(&mut random);
+        let listing = listings::any(&mut random);
         let Some(expected) = by_definition(&listing) else {
             continue;
         };

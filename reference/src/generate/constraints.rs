@@ -81,6 +81,17 @@ impl Constraint {
         Constraint::new(2 + 4, edges)
     }
 
+    /// The second role of the word is one of these, at most 13, and the last is
+    /// one of those that are given with it.
+    pub fn last_by_second(ways: &[(Role, Vec<Role>)]) -> Constraint {
+        let mut edges = vec![every(0, 1)];
+        for (state, (second, lasts)) in (2..).zip(ways) {
+            edges.extend([exactly(1, *second, state), every(state, state)]);
+            edges.extend(lasts.iter().map(|&last| exactly(state, last, LAST_STATE)));
+        }
+        Constraint::new(1 << LAST_STATE, edges)
+    }
+
     /// Somewhere in the word a role comes right after another.
     pub fn right_after(role: Role, next: Role) -> Constraint {
         let found = [exactly(0, role, 1), exactly(1, next, 2)];

@@ -162,8 +162,8 @@ fn constrained(random: &mut Random, most: u16) -> Wallet {
     wallet
 }
 
-/// Gives principals other numbers, and names too.
-fn rename(random: &mut Random, wallet: &mut Wallet) {
+/// Gives the principals of a wallet other numbers, and its names too.
+pub fn rename(random: &mut Random, wallet: &mut Wallet) {
     let [principals, names] = [0; 2].map(|_| {
         let mut numbers: Vec<u16> = (1..=HIGHEST).collect();
         random.shuffle(&mut numbers);

@@ -6,7 +6,7 @@ use crate::generate::claims::query;
 use crate::generate::families::{self, Family};
 use crate::generate::growth::Policy;
 use crate::generate::wallets::Wallet;
-use crate::generate::{crossed, damage, policies, queries, wallets};
+use crate::generate::{crossed, damage, detours, policies, queries, valid, wallets};
 use crate::query::{Query, DEEPEST};
 use crate::random::Random;
 use crate::records::{Head, Records};
@@ -31,12 +31,16 @@ pub enum Source {
     Wallet,
     /// A wallet with ways from part to part.
     Crossed,
+    /// A wallet in which what comes first is often not what will do.
+    Detour,
     /// A wallet of a family.
     Shaped(Family),
     /// A table in which many goals can be derived, and one of these goals.
     Policy,
     /// Such a table, and any query.
     AnyQuery,
+    /// Any valid table, and a query for a role of it.
+    Valid,
     /// A damaged table.
     Table,
     /// A damaged query.
@@ -49,14 +53,25 @@ impl Source {
     /// Every source that there is.
     pub fn all() -> Vec<Source> {
         let mut sources = vec![Source::Fixed, Source::Wallet, Source::Crossed];
+        sources.push(Source::Detour);
         sources.extend(Family::ALL.map(Source::Shaped));
-        sources.extend([Source::Policy, Source::AnyQuery]);
+        sources.extend([Source::Policy, Source::AnyQuery, Source::Valid]);
         sources.extend([Source::Table, Source::Query, Source::Both]);
         sources
     }
 }
 
-/// A listing made up at random.
+/// A listing made up at random from any source.
+pub fn any(random: &mut Random) -> Listing {
+    match random.below(20) {
+        0 => from_source(random, Source::Valid),
+        1 | 2 => from_source(random, Source::Detour),
+        _ => made_up(random),
+    }
+}
+
+/// A listing made up at random from the sources that the samples of `bench` are
+/// drawn from.
 pub fn made_up(random: &mut Random) -> Listing {
     let source = match random.below(20) {
         0..=5 => Source::Wallet,
@@ -76,6 +91,8 @@ fn from_source(random: &mut Random, source: Source) -> Listing {
     let (records, mut query) = match source {
         Source::Policy => goal_of_policy(random),
         Source::AnyQuery => (policies::records(random), queries::valid(random)),
+        Source::Valid => role_of_any(random),
+        Source::Detour => with_query(detours::made_up(random)),
         Source::Crossed => with_query(crossed::made_up(random)),
         Source::Shaped(family) => {
             let most = Head::LIMITS.credentials;
@@ -116,15 +133,34 @@ fn goal_of_policy(random: &mut Random) -> (Records, Query) {
     (policy.records, query(goal, depth))
 }
 
+/// A valid table, and a query for a role that it defines; and for a principal
+/// whom it puts into some role, if there are any.
+fn role_of_any(random: &mut Random) -> (Records, Query) {
+    let head = valid::head(random);
+    let records = valid::records(random, head);
+    let mut query = queries::valid(random);
+    if !records.credentials.is_empty() {
+        [query.owner, query.name, ..] = *random.pick(&records.credentials);
+    }
+    let members = records.credentials.iter().filter(|record| record[2] == 1);
+    let members: Vec<u16> = members.map(|record| record[3]).collect();
+    if !members.is_empty() {
+        query.principal = *random.pick(&members);
+    }
+    (records, query)
+}
+
 impl fmt::Display for Source {
     fn fmt(&self, out: &mut fmt::Formatter<'_>) -> fmt::Result {
         out.pad(match self {
             Source::Fixed => "the same in every run",
             Source::Wallet => "grown wallet",
             Source::Crossed => "wallet with ways from part to part",
+            Source::Detour => "wallet with detours",
             Source::Shaped(family) => return family.fmt(out),
             Source::Policy => "goal of a table with many",
             Source::AnyQuery => "any query",
+            Source::Valid => "role of any valid table",
             Source::Table => "damaged table",
             Source::Query => "damaged query",
             Source::Both => "damaged table and query",

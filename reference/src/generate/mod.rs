@@ -3,8 +3,8 @@
 //! - [`valid`], [`damage`], [`noise`]: tables, valid, damaged and blind
 //! - [`queries`]: queries, valid and damaged
 //! - [`policies`], [`constraints`]: tables in which goals can be derived
-//! - [`wallets`], [`crossed`], [`shapes`], [`families`], [`listings`]: tables with
-//!   queries that have minimal sets
+//! - [`wallets`], [`crossed`], [`detours`], [`shapes`], [`families`],
+//!   [`listings`]: tables with queries that have minimal sets
 //! - [`growth`], [`claims`]: right records, grown from such tables
 //! - [`wrongs`], [`spoil`], [`misfits`], [`every`]: wrong ones
 //! - [`wide`]: records of very many nodes
@@ -15,6 +15,7 @@ pub mod claims;
 pub mod constraints;
 pub mod crossed;
 pub mod damage;
+pub mod detours;
 pub mod every;
 pub mod families;
 pub mod growth;

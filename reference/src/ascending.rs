@@ -1,0 +1,194 @@
+//! All derivations of a goal from the credentials of a set, in the order of
+//! their records.
+//!
+//! Two records are compared number by number, the smaller first. A node says
+//! by itself how many premises follow, so of one goal's records none is the
+//! beginning of another. That is why they come in this order: by the credential
+//! of the first node, then by its middle, then by the record of the first
+//! premise, then by that of the second, and so on; and the records of a premise
+//! come in this order too.
+//!
+//! Nothing is judged here. Which record is accepted is asked of whole records,
+//! one after the other.
+
+use std::collections::HashMap;
+use std::rc::Rc;
+
+use crate::enumeration::{in_order, middles};
+use crate::pairs::{is_in, Witness};
+use crate::patience::Patience;
+use crate::query::Asked;
+use crate::sorts::{Goal, Principal, Role};
+use crate::table::{Members, Table};
+
+/// The derivations of what is asked, made one at a time as they are called for.
+pub struct Ascending<'a> {
+    table: &'a Table,
+    /// The credentials that may be used: credential i counts 2^(i-1).
+    set: u32,
+    /// The highest level that a node may have.
+    depth: usize,
+    /// The middles that are tried, ascending.
+    middles: Vec<Principal>,
+    /// A row for each place that has been come to, the top goal's first.
+    rows: Vec<Row>,
+    /// Where the row of a place stands.
+    places: HashMap<Place, usize>,
+    /// How long it may go on.
+    patience: Patience,
+}
+
+/// What the derivations of a goal depend on: the roles above it, by which its
+/// level is known too. In which order they come does not matter.
+#[derive(PartialEq, Eq, Hash)]
+struct Place {
+    goal: Goal,
+    above: Vec<Role>,
+}
+
+/// The derivations of a goal at a place.
+struct Row {
+    /// The roles from the top goal down to this one, both included.
+    branch: Vec<Role>,
+    /// The first ones, ascending.
+    found: Vec<Rc<Witness>>,
+    /// The ways by which the others go, the next one last.
+    ways: Vec<Way>,
+}
+
+/// A credential and a middle through which a goal can be proved, and how far
+/// its derivations have been gone through.
+struct Way {
+    credential: u16,
+    middle: u16,
+    premises: Vec<Goal>,
+    /// Which derivation of each premise is the next to be taken, from 0. The
+    /// last premise turns fastest.
+    turn: Vec<usize>,
+}
+
+impl Way {
+    /// The same way at its next turn: one derivation further at this premise,
+    /// and at the first of each premise behind it.
+    fn turned(mut self, premise: usize) -> Way {
+        self.turn[premise] += 1;
+        self.turn[premise + 1..].fill(0);
+        self
+    }
+}
+
+/// Where the top goal's row stands.
+const TOP: usize = 0;
+
+impl<'a> Ascending<'a> {
+    /// The derivations of what is asked from the credentials of a set.
+    pub fn new(table: &'a Table, asked: Asked, set: u32, patience: Patience) -> Ascending<'a> {
+        let mut ascending = Ascending {
+            table,
+            set,
+            depth: usize::from(asked.depth),
+            middles: middles(table),
+            rows: Vec::new(),
+            places: HashMap::new(),
+            patience,
+        };
+        ascending.row(asked.goal, &[]);
+        ascending
+    }
+
+    /// The derivation with this index, from 0, or nothing if there are no more
+    /// than so many; if there is patience for it.
+    pub fn derivation(&mut self, index: usize) -> Option<Option<Rc<Witness>>> {
+        self.look_up(TOP, index)
+    }
+
+    /// Makes so many steps, if so many may still be made: for what a caller does
+    /// with the derivations.
+    pub fn spend(&mut self, steps: u64) -> Option<()> {
+        self.patience.spend(usize::try_from(steps).ok()?)
+    }
+
+    /// The derivation of a row with this index, or nothing if there are no more
+    /// than so many; if there is patience for it.
+    fn look_up(&mut self, row: usize, index: usize) -> Option<Option<Rc<Witness>>> {
+        while self.rows[row].found.len() <= index {
+            let Some(way) = self.rows[row].ways.pop() else {
+                return Some(None);
+            };
+            if let Some(way) = self.step(row, way)? {
+                self.rows[row].ways.push(way);
+            }
+        }
+        Some(Some(Rc::clone(&self.rows[row].found[index])))
+    }
+
+    /// Finds the derivation at a way's turn, or that a premise lacks it. Tells
+    /// where the way goes on; nothing if it has been gone through.
+    fn step(&mut self, row: usize, way: Way) -> Option<Option<Way>> {
+        self.patience.spend(1)?;
+        let mut premises = Vec::new();
+        for (index, &premise) in way.premises.iter().enumerate() {
+            let below = self.row_below(row, premise);
+            match self.look_up(below, way.turn[index])? {
+                Some(witness) => premises.push(witness),
+                // A premise without any derivation: the way leads nowhere.
+                None if way.turn[index] == 0 => return Some(None),
+                None => return Some(index.checked_sub(1).map(|before| way.turned(before))),
+            }
+        }
+        let last = premises.len().checked_sub(1);
+        let witness = Witness::over(way.credential, way.middle, premises);
+        self.rows[row].found.push(Rc::new(witness));
+        Some(last.map(|last| way.turned(last)))
+    }
+
+    /// The row of a premise, which stands below the branch of a row.
+    fn row_below(&mut self, row: usize, premise: Goal) -> usize {
+        let branch = self.rows[row].branch.clone();
+        self.row(premise, &branch)
+    }
+
+    /// The row of a goal below these roles.
+    fn row(&mut self, goal: Goal, above: &[Role]) -> usize {
+        let place = Place {
+            goal,
+            above: in_order(above),
+        };
+        if let Some(&row) = self.places.get(&place) {
+            return row;
+        }
+        let excluded = above.len() >= self.depth || above.contains(&goal.role);
+        let row = self.rows.len();
+        self.rows.push(Row {
+            branch: [above, &[goal.role]].concat(),
+            found: Vec::new(),
+            ways: if excluded { vec![] } else { self.ways(goal) },
+        });
+        self.places.insert(place, row);
+        row
+    }
+
+    /// Every way to a goal, the least credential and middle last.
+    fn ways(&self, goal: Goal) -> Vec<Way> {
+        let mut ways = Vec::new();
+        let numbered = (1u16..).zip(&self.table.credentials);
+        for (credential, of_table) in numbered.filter(|(number, _)| is_in(*number, self.set)) {
+            let middles = match of_table.members {
+                Members::Linked(..) => self.middles.iter().map(|m| m.number()).collect(),
+                _ => vec![0],
+            };
+            for middle in middles {
+                if let Some(premises) = self.table.premises(goal, credential, middle) {
+                    ways.push(Way {
+                        credential,
+                        middle,
+                        turn: vec![0; premises.len()],
+                        premises,
+                    });
+                }
+            }
+        }
+        ways.reverse();
+        ways
+    }
+}
