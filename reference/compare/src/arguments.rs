@@ -9,6 +9,9 @@ const RECORDS: u64 = 100_000;
 /// The number of made-up listings if none is given.
 const LISTS: u64 = 105_000;
 
+/// The number of made-up writings if none is given.
+const WRITINGS: u64 = 40_000;
+
 /// The seed of the made-up inputs, and how many there are.
 #[derive(Debug, PartialEq, Eq)]
 pub struct Arguments {
@@ -21,6 +24,8 @@ pub struct Arguments {
     pub records: u64,
     /// How many listings are made up, beside the fixed ones.
     pub lists: u64,
+    /// How many writings are made up, beside the fixed ones.
+    pub writings: u64,
 }
 
 impl Arguments {
@@ -31,6 +36,7 @@ impl Arguments {
             count: COUNT,
             records: RECORDS,
             lists: LISTS,
+            writings: WRITINGS,
         };
         while let Some(word) = words.next() {
             let field = match word.as_str() {
@@ -38,6 +44,7 @@ impl Arguments {
                 "--count" => &mut arguments.count,
                 "--records" => &mut arguments.records,
                 "--lists" => &mut arguments.lists,
+                "--writings" => &mut arguments.writings,
                 _ => return Err(format!("unknown argument {word}")),
             };
             let number = words.next().ok_or(format!("{word} lacks its number"))?;
@@ -51,29 +58,39 @@ impl Arguments {
 
 #[cfg(test)]
 mod tests {
-    use super::{Arguments, COUNT, LISTS, RECORDS, SEED};
+    use super::{Arguments, COUNT, LISTS, RECORDS, SEED, WRITINGS};
 
     fn read(line: &str) -> Result<Arguments, String> {
         Arguments::read(line.split_whitespace().map(String::from))
     }
 
-    fn arguments([seed, count, records, lists]: [u64; 4]) -> Result<Arguments, String> {
+    fn arguments([seed, count, records, lists, writings]: [u64; 5]) -> Result<Arguments, String> {
         Ok(Arguments {
             seed,
             count,
             records,
             lists,
+            writings,
         })
     }
 
     #[test]
     fn arguments_are_read() {
-        assert_eq!(read(""), arguments([SEED, COUNT, RECORDS, LISTS]));
-        assert_eq!(read("--seed 3"), arguments([3, COUNT, RECORDS, LISTS]));
+        let defaults = [SEED, COUNT, RECORDS, LISTS, WRITINGS];
+        assert_eq!(read(""), arguments(defaults));
+        let with = |index: usize, number: u64| {
+            let mut numbers = defaults;
+            numbers[index] = number;
+            arguments(numbers)
+        };
+        for (index, name) in ["seed", "count", "records", "lists", "writings"]
+            .into_iter()
+            .enumerate()
+        {
+            assert_eq!(read(&format!("--{name} 9")), with(index, 9));
+        }
         let several = read("--count 9 --seed 3");
-        assert_eq!(several, arguments([3, 9, RECORDS, LISTS]));
-        assert_eq!(read("--records 9"), arguments([SEED, COUNT, 9, LISTS]));
-        assert_eq!(read("--lists 9"), arguments([SEED, COUNT, RECORDS, 9]));
+        assert_eq!(several, arguments([3, 9, RECORDS, LISTS, WRITINGS]));
     }
 
     #[test]

@@ -1,8 +1,8 @@
-//! The buffers that are lent to a listing.
+//! The buffers that are lent to a listing or a writing.
 //!
 //! A buffer lies inside a longer row of cells, and every cell of the row holds
-//! a number of its own beforehand that is no set. So it shows which cells were
-//! written, inside the buffer and next to it.
+//! a number of its own beforehand that is no set, or no number of a record. So
+//! it shows which cells were written, inside the buffer and next to it.
 
 use std::fmt;
 use std::ops::Range;
@@ -11,19 +11,22 @@ use reference::random::Random;
 
 /// So many cells lie before the buffer, and so many behind it.
 const MARGIN: usize = 2;
+/// So many cells of a row are printed: all, unless it is far too long.
+const CELLS_PRINTED: usize = 2_000;
 
-/// How many cells a buffer has, compared with the number of minimal sets.
+/// How many cells a buffer has, compared with how many are needed: for each
+/// minimal set one, or for each number of the record.
 #[derive(Clone, Copy, Debug, PartialEq, Eq, PartialOrd, Ord)]
 pub enum Size {
     /// None at all.
     Empty,
     /// One.
     One,
-    /// One fewer than there are sets.
+    /// One fewer than are needed.
     OneTooFew,
-    /// As many as there are sets.
+    /// As many as are needed.
     JustEnough,
-    /// Some more than there are sets.
+    /// Some more than are needed.
     More,
 }
 
@@ -37,51 +40,61 @@ impl Size {
         Size::More,
     ];
 
-    /// The number of cells for so many sets. If there is no set, nothing is
+    /// The number of cells where so many are needed. Where none is, nothing is
     /// one too few, and just enough is none at all.
-    pub fn cells(self, random: &mut Random, sets: usize) -> usize {
+    pub fn cells(self, random: &mut Random, needed: usize) -> usize {
         match self {
             Size::Empty => 0,
             Size::One => 1,
-            Size::OneTooFew => sets.saturating_sub(1),
-            Size::JustEnough => sets,
-            Size::More => sets + 1 + random.below(6),
+            Size::OneTooFew => needed.saturating_sub(1),
+            Size::JustEnough => needed,
+            Size::More => needed + 1 + random.below(6),
         }
     }
+}
 
-    /// The answers that must have come with such a buffer; 0 stands for an
-    /// accepted list.
-    pub fn expected(self) -> &'static [u32] {
-        match self {
-            Size::Empty => &[9, 10],
-            Size::One => &[0, 9, 10],
-            Size::OneTooFew => &[10],
-            Size::JustEnough => &[0],
-            Size::More => &[0, 1, 2, 3, 4, 5, 6, 7, 8, 9],
-        }
+/// What a cell holds.
+pub trait Cell: Copy {
+    /// What the cell at an index of a row holds beforehand.
+    fn before(index: u32) -> Self;
+}
+
+/// The cell of a list. No set is so great.
+impl Cell for u32 {
+    fn before(index: u32) -> u32 {
+        let pattern = 0xA5A5_0000 ^ index.wrapping_mul(0x9E37_79B1);
+        pattern | 0x8000_0000
+    }
+}
+
+/// The cell of a record. No credential and no middle has so great a number. The
+/// same number comes again after 32,768 cells.
+impl Cell for u16 {
+    fn before(index: u32) -> u16 {
+        let pattern = index.wrapping_mul(0x9E37) as u16;
+        pattern | 0x8000
     }
 }
 
 /// A row of cells, in which the buffer lies.
 #[derive(Clone, Debug, PartialEq, Eq)]
-pub struct Row {
-    cells: Vec<u32>,
+pub struct Row<Held> {
+    cells: Vec<Held>,
     buffer: Range<usize>,
 }
 
-impl Row {
+impl<Held: Cell> Row<Held> {
     /// A row in which nothing has been written, for a buffer of so many cells.
-    pub fn new(cells: usize) -> Row {
-        let pattern = (0..).map(|index: u32| 0xA5A5_0000 ^ index.wrapping_mul(0x9E37_79B1));
-        let no_set = pattern.map(|number| number | 0x8000_0000);
+    pub fn new(cells: usize) -> Row<Held> {
+        let before = (0..).map(Held::before);
         Row {
-            cells: no_set.take(cells + 2 * MARGIN).collect(),
+            cells: before.take(cells + 2 * MARGIN).collect(),
             buffer: MARGIN..MARGIN + cells,
         }
     }
 
     /// The buffer.
-    pub fn buffer(&mut self) -> &mut [u32] {
+    pub fn buffer(&mut self) -> &mut [Held] {
         &mut self.cells[self.buffer.clone()]
     }
 
@@ -91,10 +104,10 @@ impl Row {
     }
 }
 
-impl fmt::Display for Row {
+impl<Held: fmt::Display> fmt::Display for Row<Held> {
     /// The cells from the first to the last, the buffer between bars.
     fn fmt(&self, out: &mut fmt::Formatter<'_>) -> fmt::Result {
-        for (index, cell) in self.cells.iter().enumerate() {
+        for (index, cell) in self.cells.iter().enumerate().take(CELLS_PRINTED) {
             if index == self.buffer.start || index == self.buffer.end {
                 write!(out, "| ")?;
             }
@@ -120,19 +133,24 @@ impl fmt::Display for Size {
 mod tests {
     use super::Row;
 
-    #[test]
-    fn cells_differ_from_each_other_and_from_every_set() {
-        let row = Row::new(4_096);
-        let mut cells = row.cells.clone();
-        assert!(cells.iter().all(|&cell| cell >= 1 << 20));
+    /// Whether no two of some cells hold the same, and none less than this.
+    fn differ(mut cells: Vec<u32>, least: u32) -> bool {
+        let count = cells.len();
         cells.sort();
         cells.dedup();
-        assert_eq!(cells.len(), row.cells.len());
+        cells.len() == count && cells[0] >= least
+    }
+
+    #[test]
+    fn cells_differ_from_each_other_and_from_what_is_written() {
+        assert!(differ(Row::<u32>::new(4_096).cells, 1 << 20));
+        let numbers = Row::<u16>::new(32_768 - 4).cells;
+        assert!(differ(numbers.into_iter().map(u32::from).collect(), 65));
     }
 
     #[test]
     fn a_write_shows() {
-        let mut row = Row::new(3);
+        let mut row = Row::<u32>::new(3);
         row.buffer()[2] = 7;
         assert_ne!(row, Row::new(3));
         assert_eq!((row.cells[4], row.size()), (7, 3));

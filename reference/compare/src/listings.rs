@@ -11,6 +11,8 @@ use reference::shop;
 
 /// So many wallets are listed with every buffer.
 const WALLETS: usize = 200;
+/// The most rungs of a ladder for which there is room.
+const MOST_RUNGS: u16 = 15;
 
 /// A listing that is the same in every run.
 fn listing(table: &[u16], query: Query) -> Listing {
@@ -23,6 +25,13 @@ fn listing(table: &[u16], query: Query) -> Listing {
 
 /// Hands over the fixed listings, which are the same for every seed.
 pub fn fixed(judge: &mut impl FnMut(Listing)) {
+    fixed_inputs(judge);
+    fixed_shapes(MOST_RUNGS, judge);
+}
+
+/// Hands over the fixed listings but for the shapes: the shop's, whole and with
+/// every field damaged, derivations of very many nodes, and wallets.
+pub fn fixed_inputs(judge: &mut impl FnMut(Listing)) {
     let student = Query {
         owner: 2,
         name: 2,
@@ -48,9 +57,6 @@ pub fn fixed(judge: &mut impl FnMut(Listing)) {
         ));
     }
     fixed_wallets(judge);
-    for wallet in fixed_shapes() {
-        judge(listing(&wallet.records.numbers(), wallet.query));
-    }
 }
 
 /// Hands over wallets of every size and arrangement.
@@ -68,12 +74,14 @@ fn fixed_wallets(judge: &mut impl FnMut(Listing)) {
     }
 }
 
-/// Wallets of every shape, up to the largest.
-fn fixed_shapes() -> Vec<Wallet> {
+/// Hands over wallets of every shape, up to the largest, but with at most so
+/// many rungs. Each rung doubles the record.
+pub fn fixed_shapes(most_rungs: u16, judge: &mut impl FnMut(Listing)) {
     let mut wallets: Vec<Wallet> = (2..=5).map(shapes::ladder).collect();
-    wallets.extend((1..=15).map(|rungs| shapes::rungs(rungs, 2)));
-    wallets.extend((2..=10).map(|people| shapes::rungs(10, people)));
-    wallets.push(shapes::rungs(15, 5));
+    wallets.extend((1..=most_rungs).map(|rungs| shapes::rungs(rungs, 2)));
+    let rungs = most_rungs.min(10);
+    wallets.extend((2..=10).map(|people| shapes::rungs(rungs, people)));
+    wallets.push(shapes::rungs(most_rungs, 5));
     wallets.extend((3..=9).map(shapes::containments));
     wallets.extend((1..=4).map(shapes::layers));
     for definers in [[1; 4], [2; 4], [3; 4], [4; 4], [1, 3, 6, 9], [4, 5, 5, 5]] {
@@ -85,16 +93,19 @@ fn fixed_shapes() -> Vec<Wallet> {
         &[3; 6],
         &[4; 5],
         &[3, 3, 3, 3, 3, 3, 2],
+        &[16],
     ] {
         wallets.extend(Way::ALL.map(|way| shapes::ways(each, way)));
     }
-    wallets
+    for wallet in wallets {
+        judge(listing(&wallet.records.numbers(), wallet.query));
+    }
 }
 
 /// Hands over so many listings made up at random.
 pub fn made_up(random: &mut Random, count: u64, judge: &mut impl FnMut(&mut Random, Listing)) {
     for _ in 0..count {
-        let listing = listings::made_up(random);
+        let listing = listings::any(random);
         judge(random, listing);
     }
 }

@@ -33,9 +33,9 @@ const STEPS: u64 = 1_000_000;
 const MARKED: u64 = 4;
 
 /// What a listing call gives back: its answer, and the cells after it.
-type Answered = (Result<usize, Refusal>, Row);
+type Answered = (Result<usize, Refusal>, Row<u32>);
 /// All minimal sets as the reference has them, or why it refuses the input.
-type Expected = Result<Vec<Minimal>, Refusal>;
+pub type Expected = Result<Vec<Minimal>, Refusal>;
 
 /// How long the reference may look for minimal sets.
 pub fn patience() -> Patience {
@@ -172,7 +172,7 @@ impl Lists {
             lines.push((what.into(), count, 1));
         }
         for size in Size::ALL {
-            for &number in size.expected() {
+            for &number in answers(size) {
                 let count = self.sizes.get(&(size, number)).copied();
                 lines.push((format!("{size}: {}", outcome(number)), count, 1));
             }
@@ -232,6 +232,18 @@ fn together<Key: Ord>(
     one
 }
 
+/// The answers that must have come with such a buffer; 0 stands for an accepted
+/// list.
+fn answers(size: Size) -> &'static [u32] {
+    match size {
+        Size::Empty => &[9, 10],
+        Size::One => &[0, 9, 10],
+        Size::OneTooFew => &[10],
+        Size::JustEnough => &[0],
+        Size::More => &[0, 1, 2, 3, 4, 5, 6, 7, 8, 9],
+    }
+}
+
 /// The class of a list with so many sets, at least one.
 fn length(count: usize) -> &'static str {
     let classes = LENGTHS.into_iter().rev();
@@ -240,7 +252,7 @@ fn length(count: usize) -> &'static str {
 }
 
 /// What the reference has to say, unless it takes too long.
-fn expected(listing: &Listing) -> Option<Expected> {
+pub fn expected(listing: &Listing) -> Option<Expected> {
     let table = match Table::read(&listing.table) {
         Ok(table) => table,
         Err(refusal) => return Some(Err(refusal)),

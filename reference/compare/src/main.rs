@@ -1,14 +1,16 @@
 //! Compares the library with the reference on fixed and on made-up inputs.
 //!
-//! `compare [--seed N] [--count N] [--records N] [--lists N]`: the seed of the
-//! made-up inputs, how many tables are made up, how many records, and how many
-//! listings, beside the fixed ones. Every table is given to the table call, and
-//! with a query to the query call. Every record, and several spoiled forms of
-//! it, is given to the verifying call. Every listing is given to the listing
-//! call with a buffer, and the verifier is asked about what it lists. Tables,
-//! records and two strands of listings are compared at the same time. The last
-//! line printed is `N passed, M failed`; the exit status tells whether any
-//! failed.
+//! `compare [--seed N] [--count N] [--records N] [--lists N] [--writings N]`:
+//! the seed of the made-up inputs, how many tables are made up, how many
+//! records, how many listings, and how many writings, beside the fixed ones.
+//! Every table is given to the table call, and with a query to the query call.
+//! Every record, and several spoiled forms of it, is given to the verifying
+//! call. Every listing is given to the listing call with a buffer, and the
+//! verifier is asked about what it lists. Sets of further listings, and others,
+//! are given to the writing call with a buffer, and the verifier is asked about
+//! what it writes. Tables and records, two strands of listings, and writings are
+//! compared at the same time. The last line printed is `N passed, M failed`; the
+//! exit status tells whether any failed.
 
 #![forbid(unsafe_code)]
 
@@ -20,10 +22,13 @@ mod features;
 mod listings;
 mod lists;
 mod marks;
+mod relations;
 mod report;
 mod tally;
+mod traits;
 mod verdicts;
 mod word;
+mod writings;
 
 use std::process::ExitCode;
 use std::thread;
@@ -33,35 +38,44 @@ use buffers::Size;
 use cases::Case;
 use claims::Submitted;
 use lists::Lists;
+use reference::generate::listings as made_up;
 use reference::random::Random;
 use reference::Refusal;
 use tally::{Call, Tally};
 use verdicts::Verdicts;
+use writings::Writings;
 
 /// What the table call and the query call give back.
 type Answer = Result<(), Refusal>;
 /// What the verifying call gives back.
 type Verdict = Result<u32, Refusal>;
 
+/// The record of a ladder with more rungs is not asked for: it is long in the
+/// writing.
+const WRITTEN_RUNGS: u16 = 10;
+/// How the program is called.
+const USAGE: &str = "compare [--seed N] [--count N] [--records N] [--lists N] [--writings N]";
+
 fn main() -> ExitCode {
     let arguments = match Arguments::read(std::env::args().skip(1)) {
         Ok(arguments) => arguments,
         Err(message) => {
-            let usage = "compare [--seed N] [--count N] [--records N] [--lists N]";
-            eprintln!("{message}\nusage: {usage}");
+            eprintln!("{message}\nusage: {USAGE}");
             return ExitCode::from(2);
         }
     };
     println!("seed {}", arguments.seed);
     let arguments = &arguments;
-    let (tally, verdicts, lists) = thread::scope(|scope| {
+    let (tally, verdicts, lists, writings) = thread::scope(|scope| {
         let strands = [0, 1].map(|strand| scope.spawn(move || compare_lists(arguments, strand)));
+        let writings = scope.spawn(|| compare_writings(arguments));
         let tally = compare_tables(arguments);
         let verdicts = compare_records(arguments);
         let [first, second] = strands.map(|strand| strand.join().expect("a strand that ends"));
-        (tally, verdicts, first + second)
+        let writings = writings.join().expect("writings that end");
+        (tally, verdicts, first + second, writings)
     });
-    let outcome = tally.report() + verdicts.report() + lists.report();
+    let outcome = tally.report() + verdicts.report() + lists.report() + writings.report();
     println!("{} passed, {} failed", outcome.passed, outcome.failed);
     if outcome.failed == 0 {
         ExitCode::SUCCESS
@@ -108,6 +122,24 @@ fn compare_lists(arguments: &Arguments, strand: u64) -> Lists {
         lists.compare(random, &listing, &[size])
     });
     lists
+}
+
+/// Compares the writing call: on the fixed listings, most of them with every
+/// size of buffer; on others with one for each set, which the seed determines.
+fn compare_writings(arguments: &Arguments) -> Writings {
+    let mut writings = Writings::new(arguments.seed);
+    let mut random = Random::new(0);
+    listings::fixed_inputs(&mut |listing| writings.compare(&mut random, &listing, true));
+    listings::fixed_shapes(WRITTEN_RUNGS, &mut |listing| {
+        writings.compare(&mut random, &listing, false)
+    });
+    let fixed = writings.made();
+    let mut random = Random::new(!arguments.seed);
+    while writings.made() - fixed < arguments.writings {
+        let listing = made_up::any(&mut random);
+        writings.compare(&mut random, &listing, false);
+    }
+    writings
 }
 
 /// Makes the table call and the query call on both sides.
