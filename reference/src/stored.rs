@@ -4,7 +4,8 @@
 //! programs which the kit's interpreter and its compiler make of the proved code
 //! give the right answers. So they are few and small: all rows of the shop
 //! example, then every refusal, kind, label and size of buffer. Each list is
-//! made with little room for cuts too, which no call of the bindings does.
+//! made with little room for cuts too, which no call of the bindings does, and
+//! after it records are written for the first sets of the list and for others.
 //!
 //! To add a case, add a line to [`cases`], at the end of its part, and make the
 //! program's two files anew, which the module [`blocks`](crate::blocks) lays

@@ -3,26 +3,47 @@
 
 use std::collections::BTreeSet;
 
-use reference::blocks::{self, LISTS};
+use reference::blocks::{self, LISTS, UNLISTED};
+use reference::list;
 use reference::records::Records;
 use reference::stored::{cases, Case, Given};
 
 const STDOUT: &str = include_str!("../../crates/rows/stdout");
 
-/// The numbers of the first line that the program prints for each case. A list
-/// has several lines, which are the same.
-fn lines() -> Vec<Vec<u32>> {
+/// The numbers of a line.
+fn numbers(line: &str) -> Vec<u32> {
     let number = |word: &str| word.parse().expect("a number");
-    let mut printed = STDOUT.lines();
-    let mut line = |case: &Case| {
-        let first = printed.next().expect("a line for each case");
+    line.split(' ').map(number).collect()
+}
+
+/// The lines that the program prints for each case, the same line of several
+/// lists once, and then those of the writings.
+fn printed() -> Vec<Vec<&'static str>> {
+    let mut all = STDOUT.lines();
+    let mut of_case = |case: &Case| {
+        let count = blocks::lines(case).lines().count();
+        let mut lines: Vec<&str> = all.by_ref().take(count).collect();
         if let Given::Cells(_) = case.given {
-            let others = printed.by_ref().take(LISTS - 1);
-            assert!(others.eq([first; LISTS - 1]), "{case:?}");
+            let lists: Vec<&str> = lines.drain(1..LISTS).collect();
+            assert!(lists.iter().all(|&line| line == lines[0]), "{case:?}");
         }
-        first.split(' ').map(number).collect()
+        lines
     };
-    cases().iter().map(&mut line).collect()
+    cases().iter().map(&mut of_case).collect()
+}
+
+/// The numbers of the first line that the program prints for each case.
+fn lines() -> Vec<Vec<u32>> {
+    printed().iter().map(|lines| numbers(lines[0])).collect()
+}
+
+/// The numbers of the lines of all writings, by case.
+fn writings() -> Vec<Vec<Vec<u32>>> {
+    let printed = printed();
+    let behind = printed.iter().map(|lines| &lines[1..]);
+    behind
+        .map(|lines| lines.iter().map(|line| numbers(line)).collect())
+        .collect()
 }
 
 #[test]
@@ -50,9 +71,51 @@ fn the_first_lines_are_the_shop_example() {
 }
 
 #[test]
+fn the_first_writings_are_the_shop_s() {
+    let expected = [
+        format!("0 6 1 2 2 0 3 0{}", " 43690".repeat(12 - 6)),
+        format!("16 0{}", " 43690".repeat(5)),
+        format!("0 2 4 0{}", " 43690".repeat(12 - 2)),
+        "15 0 43690".to_string(),
+        "15 0 43690".to_string(),
+    ];
+    assert_eq!(printed()[0][1..], expected);
+}
+
+#[test]
 fn every_answer_is_among_them() {
     let told: BTreeSet<u32> = lines().iter().map(|line| line[0]).collect();
     assert_eq!(told, (0..=14).collect());
+    let lines = writings().concat();
+    let told: BTreeSet<u32> = lines.iter().map(|line| line[0]).collect();
+    assert_eq!(told, (0..=8).chain([15, 16]).collect());
+}
+
+/// The whole list of a case; there may be none.
+fn listed(case: &Case) -> Vec<u32> {
+    let mut cells = vec![0; 64];
+    let count = list(&case.table, case.query, &mut cells);
+    cells.truncate(count.unwrap_or(0));
+    cells
+}
+
+#[test]
+fn records_are_written_for_listed_sets_alone() {
+    let answers = lines().into_iter().zip(writings());
+    for (case, (line, writings)) in cases().iter().zip(answers) {
+        let Given::Cells(_) = case.given else {
+            assert_eq!(writings.len(), 0, "{case:?}");
+            continue;
+        };
+        let (sets, asked) = (listed(case), blocks::writings(&line[2..]));
+        assert_eq!(writings.len(), asked.len(), "{case:?}");
+        for (written, (set, cells)) in writings.iter().zip(asked) {
+            let is_written = [0, 16].contains(&written[0]);
+            assert_eq!(is_written, sets.contains(&set), "{case:?}, set {set}");
+            assert_eq!(written.len(), 2 + cells);
+        }
+        assert!(!UNLISTED.iter().any(|set| sets.contains(set)), "{case:?}");
+    }
 }
 
 #[test]
