@@ -5,25 +5,29 @@ use std::path::PathBuf;
 use std::str::FromStr;
 use std::time::Duration;
 
-use crate::climb::Climb;
+use crate::climb::{Call, Climb};
 
 /// How the program is called.
 pub const USAGE: &str = "\
 usage: bench
+       bench writing
        bench peers [--limit SECONDS] [--plot FILE]
        bench page [--limit SECONDS] [--plot FILE]
-       bench climb [--steps NUMBER] [--seed NUMBER] [--limit SECONDS]
+       bench climb [--writing] [--steps NUMBER] [--seed NUMBER] [--limit SECONDS]
 
-Without a word the calls of the library and of the reference are timed, and the
-lines are in columns. With `peers` several ways of listing are timed on the same
-wallets, and the tables are Markdown. With `page` both are done, all tables are
-Markdown, and a table about the machine comes first. With `climb` tables on which
-the library's list takes long are looked for, and the slowest ones printed.
+Without a word the calls of the library and of the reference are timed, then the
+writing of records, and the lines are in columns. With `writing` the latter is
+timed alone, and the tables are Markdown. With `peers` several ways of listing
+are timed on the same wallets, and the tables are Markdown. With `page` all this
+is done, all tables are Markdown, and a table about the machine comes first. With
+`climb` tables on which the library's list takes long are looked for, and the
+slowest ones printed.
 
---limit SECONDS   how long a list may take for one wallet, 1 if not given
+--limit SECONDS   how long a call may take for one wallet, 1 if not given
 --plot FILE       where a plot of the ways is written, as SVG
 --steps NUMBER    how many steps a climb has, 1000 if not given
---seed NUMBER     where the climbs begin, 2015 if not given";
+--seed NUMBER     where the climbs begin, 2015 if not given
+--writing         climb on the time of writing a record for each of its cells";
 
 /// The steps of a climb and its seed if none are given.
 const STEPS: usize = 1_000;
@@ -39,13 +43,15 @@ const LONGEST: f64 = 3_600.0;
 pub enum Task {
     /// Say how the program is called.
     Help,
-    /// Time the calls of the library and of the reference.
+    /// Time the calls of the library and of the reference, then writing.
     Calls,
+    /// Time the writing of records.
+    Writing,
     /// Time several ways of listing.
     Peers(Options),
-    /// Both, as tables for the page.
+    /// All of this, as tables for the page.
     Page(Options),
-    /// Look for tables on which a list takes long.
+    /// Look for tables on which a call takes long.
     Climb(Climb),
 }
 
@@ -65,12 +71,19 @@ pub fn task(arguments: impl IntoIterator<Item = OsString>) -> Result<Task, Strin
         return Ok(Task::Calls);
     };
     match first.to_str() {
+        Some("writing") => alone(arguments, Task::Writing),
         Some("peers") => Ok(Task::Peers(options(arguments)?)),
         Some("page") => Ok(Task::Page(options(arguments)?)),
         Some("climb") => Ok(Task::Climb(climb(arguments)?)),
         Some("--help") => Ok(Task::Help),
         _ => Err(unknown(&first)),
     }
+}
+
+/// A task after which no argument comes.
+fn alone(mut rest: impl Iterator<Item = OsString>, task: Task) -> Result<Task, String> {
+    rest.next()
+        .map_or(Ok(task), |argument| Err(unknown(&argument)))
 }
 
 /// The options that the rest of the arguments give, each at most once.
@@ -95,10 +108,11 @@ fn options(mut arguments: impl Iterator<Item = OsString>) -> Result<Options, Str
 
 /// The climb that the rest of the arguments ask for, each at most once.
 fn climb(mut arguments: impl Iterator<Item = OsString>) -> Result<Climb, String> {
-    let (mut steps, mut seed, mut limit_given) = (None, None, None);
+    let (mut call, mut steps, mut seed, mut limit_given) = (None, None, None, None);
     while let Some(argument) = arguments.next() {
         let mut value = || arguments.next().ok_or(missing(&argument));
         let again = match argument.to_str() {
+            Some("--writing") => call.replace(Call::Write).is_some(),
             Some("--steps") => steps.replace(number(&value()?)?).is_some(),
             Some("--seed") => seed.replace(number(&value()?)?).is_some(),
             Some("--limit") => limit_given.replace(limit(&value()?)?).is_some(),
@@ -109,6 +123,7 @@ fn climb(mut arguments: impl Iterator<Item = OsString>) -> Result<Climb, String>
         }
     }
     Ok(Climb {
+        call: call.unwrap_or(Call::List),
         steps: steps.unwrap_or(STEPS),
         seed: seed.unwrap_or(SEED),
         limit: limit_given.unwrap_or(LIMIT),
@@ -144,7 +159,7 @@ fn missing(argument: &OsString) -> String {
 
 #[cfg(test)]
 mod tests {
-    use super::{task, Climb, Options, Task};
+    use super::{task, Call, Climb, Options, Task};
     use std::ffi::OsString;
     use std::time::Duration;
 
@@ -159,8 +174,9 @@ mod tests {
         }
     }
 
-    fn climb(steps: usize, seed: u64, milliseconds: u64) -> Task {
+    fn climb(call: Call, steps: usize, seed: u64, milliseconds: u64) -> Task {
         Task::Climb(Climb {
+            call,
             steps,
             seed,
             limit: Duration::from_millis(milliseconds),
@@ -172,12 +188,17 @@ mod tests {
         let right = [
             ("", Task::Calls),
             ("--help", Task::Help),
+            ("writing", Task::Writing),
             ("peers", Task::Peers(options(1_000, None))),
             ("peers --limit 2", Task::Peers(options(2_000, None))),
             ("page --limit 0.25", Task::Page(options(250, None))),
-            ("climb", climb(1_000, 2015, 1_000)),
-            ("climb --steps 0 --seed 7", climb(0, 7, 1_000)),
-            ("climb --limit 2 --steps 50", climb(50, 2015, 2_000)),
+            ("climb", climb(Call::List, 1_000, 2015, 1_000)),
+            ("climb --writing", climb(Call::Write, 1_000, 2015, 1_000)),
+            ("climb --steps 0 --seed 7", climb(Call::List, 0, 7, 1_000)),
+            (
+                "climb --limit 2 --writing --steps 50",
+                climb(Call::Write, 50, 2015, 2_000),
+            ),
             (
                 "peers --plot a.svg",
                 Task::Peers(options(1_000, Some("a.svg"))),
@@ -198,6 +219,7 @@ mod tests {
             ("peer", "unknown argument peer"),
             ("--limit 1", "unknown argument --limit"),
             ("peers 5", "unknown argument 5"),
+            ("writing --limit 1", "unknown argument --limit"),
             ("page --plots a", "unknown argument --plots"),
             ("peers --limit", "something is missing after --limit"),
             ("peers --plot", "something is missing after --plot"),
@@ -207,6 +229,8 @@ mod tests {
             ("climb --steps", "something is missing after --steps"),
             ("climb --seed -1", "-1 is no number"),
             ("climb --seed 1 --seed 1", "--seed is given twice"),
+            ("climb --writing --writing", "--writing is given twice"),
+            ("climb --writing 1", "unknown argument 1"),
         ];
         for (words, message) in wrong {
             assert_eq!(asked(words), Err(message.to_string()), "{words}");

@@ -1,5 +1,5 @@
-//! A table with a query as each side is given it, and what the library and the
-//! reference list for it.
+//! A table with a query as each side is given it, what the library and the
+//! reference list for it, and what the library writes and verifies.
 
 use std::time::Duration;
 
@@ -17,6 +17,7 @@ const NONE: u32 = 9;
 const STEPS_PER_SECOND: f64 = 1e9;
 
 /// A table's numbers with a query.
+#[derive(Clone, Debug)]
 pub struct Listing {
     /// The table.
     pub table: Vec<u16>,
@@ -53,6 +54,16 @@ impl Listing {
             Err(refusal) if refusal.number == NONE => Ok(Vec::new()),
             Err(refusal) => Err(refusal),
         }
+    }
+
+    /// The library's answer for a set, with the record in the first cells.
+    pub fn write(&self, set: u32, cells: &mut [u16]) -> Result<usize, bwlchareg::Refusal> {
+        bwlchareg::write(&self.table, library_query(self.query), set, cells)
+    }
+
+    /// The library's verdict on a record.
+    pub fn verify(&self, record: &[u16]) -> Result<u32, bwlchareg::Refusal> {
+        bwlchareg::verify(&self.table, library_query(self.query), record)
     }
 
     /// The reference's list, unless it gives up after so many steps.

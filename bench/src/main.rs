@@ -10,11 +10,12 @@
 //! the reference takes too long it gives up. It says how long things take and
 //! judges nothing.
 //!
-//! With `peers` it times the library's list, the reference's, an enumeration of
-//! proofs and an answer set solver on the same wallets, and compares what they
-//! list. With `page` it does all this, and its tables are those of
-//! docs/PERFORMANCE.md. With `climb` it looks for tables on which one list of the
-//! library takes long.
+//! With `writing` it times the writing of records beside verifying and listing,
+//! and the refusals of writing. With `peers` it times the library's list, the
+//! reference's, an enumeration of proofs and an answer set solver on the same
+//! wallets, and compares what they list. With `page` it does all this, and its
+//! tables are those of docs/PERFORMANCE.md. With `climb` it looks for tables on
+//! which one list of the library, or the writing of a record, takes long.
 
 #![forbid(unsafe_code)]
 #![warn(missing_docs)]
@@ -31,6 +32,7 @@ mod plot;
 mod sheet;
 mod timing;
 mod words;
+mod writing;
 
 use std::env;
 use std::fs::{self, File};
@@ -64,7 +66,11 @@ fn main() -> ExitCode {
 fn done(task: Task) -> ExitCode {
     match task {
         Task::Help => println!("{}", arguments::USAGE),
-        Task::Calls => time_calls(Form::Columns),
+        Task::Calls => {
+            time_calls(Form::Columns);
+            writing::time(Form::Columns);
+        }
+        Task::Writing => print_writing(),
         Task::Peers(options) => return time_peers(&options, false),
         Task::Page(options) => return time_peers(&options, true),
         Task::Climb(climb) => climb::run(climb),
@@ -82,7 +88,7 @@ fn time_calls(form: Form) {
 }
 
 /// Times the ways of listing, prints the tables and writes the plot. For the
-/// page there are tables of the machine and of the calls beside them. It fails
+/// page there are tables of the machine, of the calls and of writing beside them. It fails
 /// if two ways list different sets, or if the plot cannot be written.
 fn time_peers(options: &Options, page: bool) -> ExitCode {
     let plot = options.plot.as_deref();
@@ -98,12 +104,20 @@ fn time_peers(options: &Options, page: bool) -> ExitCode {
     if page {
         println!("\n### Calls of the library and of the reference");
         time_calls(Form::Markdown);
+        println!();
+        print_writing();
     }
     match drawn {
         Some(Err(error)) => unwritten(&error),
         _ if comparison.faults > 0 => ExitCode::FAILURE,
         _ => ExitCode::SUCCESS,
     }
+}
+
+/// Prints the page's section about writing.
+fn print_writing() {
+    println!("### Writing records");
+    writing::time(Form::Markdown);
 }
 
 /// Prints what comes first on the page: the command and the machine.

@@ -62,24 +62,62 @@ const LONG: Duration = Duration::from_millis(300);
 /// counts only if it takes very long.
 pub fn alone<Value, Failure>(
     round: Duration,
-    call: impl Fn() -> Result<Value, Failure>,
+    mut call: impl FnMut() -> Result<Value, Failure>,
 ) -> Result<(Value, f64), Failure> {
     let start = Instant::now();
     let value = black_box(call()?);
-    let first = start.elapsed();
-    let passes = round.as_nanos() / first.as_nanos().max(1) + 1;
+    let first = start.elapsed().as_nanos() as f64;
+    let passes = filling(round, first);
     let mut times = Vec::new();
     while times.len() < ROUNDS_ALONE && start.elapsed() < LONG {
-        let start = Instant::now();
-        for _ in 0..passes {
-            let _ = black_box(call());
-        }
-        times.push(start.elapsed().as_nanos() as f64 / passes as f64);
+        times.push(repeated(passes, &mut call));
     }
     if times.is_empty() {
-        times.push(first.as_nanos() as f64);
+        times.push(first);
     }
     Ok((value, median(times)))
+}
+
+/// So many rounds at most are made of two calls that take turns.
+const ROUNDS_IN_TURNS: usize = 15;
+/// No further turns are taken once they have lasted so long.
+const LONG_TURNS: Duration = Duration::from_secs(1);
+
+/// The times of two calls in nanoseconds, each the median of some rounds that
+/// last so long at the least. The rounds take turns, so that whatever slows the
+/// machine slows both. The first turns show how many calls there can be in a
+/// round, and count only if they take very long.
+pub fn in_turns<One, Other>(
+    round: Duration,
+    mut one: impl FnMut() -> One,
+    mut other: impl FnMut() -> Other,
+) -> [f64; 2] {
+    let start = Instant::now();
+    let firsts = [repeated(1, &mut one), repeated(1, &mut other)];
+    let passes = firsts.map(|first| filling(round, first));
+    let mut times = [Vec::new(), Vec::new()];
+    while times[0].len() < ROUNDS_IN_TURNS && start.elapsed() < LONG_TURNS {
+        times[0].push(repeated(passes[0], &mut one));
+        times[1].push(repeated(passes[1], &mut other));
+    }
+    if times[0].is_empty() {
+        return firsts;
+    }
+    times.map(median)
+}
+
+/// How many calls fill a round, if one takes so many nanoseconds.
+fn filling(round: Duration, one: f64) -> u32 {
+    (round.as_nanos() as f64 / one.max(1.0)) as u32 + 1
+}
+
+/// The time of one call, in nanoseconds, over so many calls.
+fn repeated<Value>(calls: u32, call: &mut impl FnMut() -> Value) -> f64 {
+    let start = Instant::now();
+    for _ in 0..calls {
+        black_box(call());
+    }
+    start.elapsed().as_nanos() as f64 / f64::from(calls)
 }
 
 /// The times of a call on each of some inputs, in nanoseconds, ascending. There
@@ -107,4 +145,34 @@ pub fn each<Input>(
 fn median(mut values: Vec<f64>) -> f64 {
     values.sort_by(f64::total_cmp);
     values[values.len() / 2]
+}
+
+#[cfg(test)]
+mod tests {
+    use super::{filling, in_turns, median};
+    use std::cell::RefCell;
+    use std::time::Duration;
+
+    #[test]
+    fn two_calls_take_turns() {
+        let made = RefCell::new(Vec::new());
+        let one = || made.borrow_mut().push("one");
+        let other = || made.borrow_mut().push("other");
+        in_turns(Duration::ZERO, one, other);
+        let made = made.into_inner();
+        assert!(made.chunks(2).all(|turn| turn == ["one", "other"]));
+    }
+
+    #[test]
+    fn short_calls_fill_a_round_and_a_long_one_is_a_round() {
+        let round = Duration::from_micros(1);
+        let calls = [0.0, 1.0, 300.0, 5e9].map(|one| filling(round, one));
+        assert_eq!(calls, [1_001, 1_001, 4, 1]);
+    }
+
+    #[test]
+    fn the_median_is_the_higher_of_two() {
+        assert_eq!(median(vec![3.0, 1.0, 2.0]), 2.0);
+        assert_eq!(median(vec![3.0, 1.0]), 3.0);
+    }
 }

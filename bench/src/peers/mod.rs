@@ -21,7 +21,7 @@ mod samples;
 mod solver;
 mod store;
 pub mod tables;
-mod wallets;
+pub mod wallets;
 
 use std::time::Duration;
 

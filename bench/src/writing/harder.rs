@@ -1,0 +1,199 @@
+//! Tables in which what comes first does not do: a role has several definers, or
+//! a link several middles, of which those with the least numbers fail at some
+//! places of the derivation and are needed at others.
+
+use reference::generate::shapes::{self, MEMBER, OWNER};
+use reference::generate::wallets::Wallet;
+use reference::query::Query;
+use reference::records::CredentialRecord;
+
+use super::parts::{add_tree, chain, wallet, Tree, GOAL};
+use crate::families::{growing, Named};
+
+/// Of the tables on which the list is timed, those of which a record is written
+/// too.
+const LISTED: [&str; 6] = [
+    "ladder of 5 of kind 3, people 5",
+    "ladder of 10 of kind 3, people 5",
+    "ladder of 15 of kind 3, people 5",
+    "ladder of 10 of kind 3",
+    "6 ways of 3, 1 of 2",
+    "6 ways of 3, 1 of 2, constraints on 7",
+];
+
+/// Two roles that the goal's chain asks for, and one that both of them need.
+const LEFT: u16 = 2;
+const RIGHT: u16 = 3;
+const SHARED: u16 = 4;
+/// Who is in the shared role, and has the member in roles of its own.
+const MIDDLE: u16 = 2;
+
+/// All tables.
+pub fn tables() -> Vec<Named> {
+    let mut tables = growing();
+    tables.retain(|(what, _)| LISTED.contains(&what.as_str()));
+    tables.extend(own());
+    tables
+}
+
+/// The tables that are made here. Each has one minimal set, of all its
+/// credentials.
+pub fn own() -> Vec<Named> {
+    let ladder = |rungs| format!("ladder of {rungs} of kind 3, middles 4");
+    let words = |choices| format!("two definers by words, choices {choices}");
+    let branch = |levels| format!("two definers by branch, levels {levels}");
+    let depth = |levels| format!("two definers by depth, levels {levels}");
+    vec![
+        (ladder(3), middles(3)),
+        (ladder(6), middles(6)),
+        (ladder(9), middles(9)),
+        (words(1), by_words(1)),
+        (words(3), by_words(3)),
+        (words(5), by_words(5)),
+        (branch(1), by_branch(1)),
+        (branch(6), by_branch(6)),
+        (depth(2), by_depth(2)),
+        (depth(6), by_depth(6)),
+    ]
+}
+
+/// A ladder of 1 to 9 rungs with four people who are tried as middles on every
+/// rung, of whom only the last leads on; and the other three are needed. The
+/// goal is a chain of three roles, each linked by the top rung's role, and for
+/// each another one of the three is the middle that leads on.
+fn middles(rungs: u16) -> Wallet {
+    const LAST: u16 = 4;
+    const ASKED: u16 = 20;
+    let mut wallet = shapes::rungs(rungs, LAST);
+    let (top, records) = (wallet.query.name, &mut wallet.records);
+    for person in 1..LAST {
+        let name = ASKED + person;
+        records.credentials.push([LAST, name, 3, top, name, 0]);
+        records.credentials.push([person, name, 1, MEMBER, 0, 0]);
+        let next = if person + 1 == LAST { 0 } else { person + 1 };
+        records.cells.push([LAST, name, next]);
+    }
+    records.credentials.push([LAST, ASKED, 4, 1, 0, 0]);
+    wallet.query = Query {
+        principal: MEMBER,
+        name: ASKED,
+        ..wallet.query
+    };
+    wallet
+}
+
+/// Two definers of a role are needed because of a constraint. The goal is a chain
+/// of two roles, and the same ways lead on from both: at each of 1 to 5 roles in
+/// a line either straight to the next, which comes first, or round by another.
+/// An automaton counts the roles, and lets pass nothing but the straight way
+/// below the one and the longest below the other.
+fn by_words(choices: u16) -> Wallet {
+    let (straight, round) = (|choice: u16| 10 + choice, |choice: u16| 30 + choice);
+    let contains = |name: u16, next: u16| [OWNER, name, 2, OWNER, next, 0];
+    let mut credentials = vec![
+        [OWNER, GOAL, 4, 1, 0, 1],
+        contains(LEFT, straight(1)),
+        contains(RIGHT, straight(1)),
+    ];
+    for choice in 1..=choices {
+        let next = straight(choice + 1);
+        credentials.push(contains(straight(choice), next));
+        credentials.push(contains(straight(choice), round(choice)));
+        credentials.push(contains(round(choice), next));
+    }
+    credentials.push([OWNER, straight(choices + 1), 1, MEMBER, 0, 0]);
+    let mut wallet = wallet(credentials, chain(1, &[LEFT, RIGHT]));
+    // Below the right role, state 2, there are choices more roles than below
+    // the left one.
+    let accepting = 2 * choices + 3;
+    wallet.records.automata.push([1, 1 << accepting]);
+    wallet.records.edges.extend([
+        [1, 0, 1, OWNER, GOAL, 1],
+        [1, 1, 1, OWNER, LEFT, 2 + choices],
+        [1, 1, 1, OWNER, RIGHT, 2],
+    ]);
+    let counted = (2..accepting).map(|state| [1, state, 2, 0, 0, state + 1]);
+    wallet.records.edges.extend(counted);
+    wallet
+}
+
+/// Two definers of a role are needed because no role comes twice on a branch. The
+/// shared role is needed below the left role and below the right one. Each of
+/// its definers is a chain of a tree of 1 to 6 levels, and then of one of the two
+/// roles: so it fails below that role, when the tree is done.
+fn by_branch(levels: u16) -> Wallet {
+    const TREE: u16 = 10;
+    let mut credentials = vec![
+        [OWNER, GOAL, 4, 1, 0, 0],
+        [OWNER, SHARED, 4, 3, 0, 0],
+        [OWNER, SHARED, 4, 5, 0, 0],
+    ];
+    credentials.extend(linked(LEFT, LEFT));
+    credentials.extend(linked(RIGHT, RIGHT));
+    credentials.extend([LEFT, RIGHT].map(|name| [OWNER, name, 1, MIDDLE, 0, 0]));
+    let mut cells = chain(1, &[LEFT, RIGHT]);
+    cells.extend(chain(3, &[TREE, LEFT]));
+    cells.extend(chain(5, &[TREE, RIGHT]));
+    let mut wallet = wallet(credentials, cells);
+    let tree = Tree {
+        levels,
+        roles: 2,
+        times: 1,
+    };
+    add_tree(&mut wallet.records, TREE, tree, MIDDLE);
+    wallet
+}
+
+/// Two definers of a role are needed because of the depth limit. The shared role
+/// is needed right below the left role, and 2 to 6 levels below the right one.
+/// Its first definer leads down as many levels, which are too many where the role
+/// is deep already; its second is the left role, and fails below that one.
+fn by_depth(levels: u16) -> Wallet {
+    const DOWN: u16 = 10;
+    const DEEP: u16 = 30;
+    let contains = |name: u16, next: u16| [OWNER, name, 2, OWNER, next, 0];
+    let mut credentials = vec![
+        [OWNER, GOAL, 4, 1, 0, 0],
+        contains(SHARED, DEEP),
+        contains(SHARED, LEFT),
+        [OWNER, LEFT, 1, MIDDLE, 0, 0],
+        contains(RIGHT, DOWN),
+    ];
+    credentials.extend((2..levels).map(|level| contains(DOWN + level - 2, DOWN + level - 1)));
+    credentials.extend(linked(LEFT, LEFT));
+    credentials.extend(linked(DOWN + levels - 2, RIGHT));
+    credentials.extend((1..levels).map(|level| contains(DEEP + level - 1, DEEP + level)));
+    credentials.push([OWNER, DEEP + levels - 1, 1, MIDDLE, 0, 0]);
+    let mut wallet = wallet(credentials, chain(1, &[LEFT, RIGHT]));
+    wallet.query.depth = levels + 3;
+    wallet
+}
+
+/// A role whose members the shared role links: the member, who is in the
+/// middle's role with this name.
+fn linked(role: u16, name: u16) -> [CredentialRecord; 2] {
+    [
+        [OWNER, role, 3, SHARED, name, 0],
+        [MIDDLE, name, 1, MEMBER, 0, 0],
+    ]
+}
+
+#[cfg(test)]
+mod tests {
+    use super::{own, tables, LISTED};
+    use crate::listing::Listing;
+
+    #[test]
+    fn every_credential_is_needed() {
+        for (what, wallet) in own() {
+            let all = (1 << wallet.records.credentials.len()) - 1;
+            let list = Listing::of(&wallet).library_list();
+            assert_eq!(list, Ok(vec![all]), "{what}");
+        }
+    }
+
+    #[test]
+    fn no_table_is_left_out() {
+        assert_eq!(tables().len(), LISTED.len() + own().len());
+    }
+}

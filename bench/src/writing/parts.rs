@@ -1,0 +1,69 @@
+//! What the tables of this part of the benchmark are made of.
+
+use reference::generate::shapes::{MEMBER, OWNER};
+use reference::generate::wallets::Wallet;
+use reference::query::{Query, DEEPEST};
+use reference::records::{CellRecord, CredentialRecord, Records};
+
+/// The name of the role that is asked about.
+pub const GOAL: u16 = 1;
+
+/// How many roles each level of a tree has below the first, and how many times
+/// a chain names each of the next level's.
+#[derive(Clone, Copy)]
+pub struct Tree {
+    /// The number of levels.
+    pub levels: u16,
+    /// The roles of a level.
+    pub roles: u16,
+    /// How many times each is named.
+    pub times: usize,
+}
+
+/// Adds a tree below the owner's role with this name: all roles but those of the
+/// last level are chains of the next level's roles, and this principal is in
+/// those of the last. The chains of one level share their cells.
+pub fn add_tree(records: &mut Records, top: u16, tree: Tree, principal: u16) {
+    let mut roles = vec![top];
+    for level in 1..tree.levels {
+        let first = records.cells.len() as u16 + 1;
+        let definers = roles.iter().map(|&role| [OWNER, role, 4, first, 0, 0]);
+        records.credentials.extend(definers);
+        let name = top + tree.roles * level;
+        roles = (name..name + tree.roles).collect();
+        let named = roles.iter().flat_map(|&role| vec![role; tree.times]);
+        let named: Vec<u16> = named.collect();
+        records.cells.extend(chain(first, &named));
+    }
+    let members = roles.iter().map(|&role| [OWNER, role, 1, principal, 0, 0]);
+    records.credentials.extend(members);
+}
+
+/// The cells of a chain of the owner's roles with these names, one after the
+/// other from this cell on.
+pub fn chain(cell: u16, names: &[u16]) -> Vec<CellRecord> {
+    let last = cell + names.len() as u16 - 1;
+    let next = |cell: u16| if cell == last { 0 } else { cell + 1 };
+    let cells = names.iter().zip(cell..);
+    cells
+        .map(|(&name, cell)| [OWNER, name, next(cell)])
+        .collect()
+}
+
+/// The table with these records and no automata, and the query for the member
+/// in the owner's first role.
+pub fn wallet(credentials: Vec<CredentialRecord>, cells: Vec<CellRecord>) -> Wallet {
+    let records = Records {
+        credentials,
+        cells,
+        automata: Vec::new(),
+        edges: Vec::new(),
+    };
+    let query = Query {
+        principal: MEMBER,
+        owner: OWNER,
+        name: GOAL,
+        depth: DEEPEST,
+    };
+    Wallet { records, query }
+}

@@ -1,0 +1,96 @@
+//! Tables with one derivation each, of 1, about 10, about 1,000 and about
+//! 100,000 nodes: each role has one definer, and each link one middle.
+
+use reference::generate::shapes::{self, Way, MEMBER};
+use reference::generate::wallets::Wallet;
+use reference::records::{EdgeRecord, Head};
+use reference::table::LAST_STATE;
+
+use super::parts::{add_tree, wallet, Tree, GOAL};
+use crate::families::Named;
+
+/// The tables, the shortest records first.
+pub fn tables() -> Vec<Named> {
+    let few = [line(1), line(10), chains(3, 3), ladder(3)];
+    let thousand = [
+        chains(2, 10),
+        chains(3, 7),
+        chains(4, 6),
+        twice(6),
+        ladder(9),
+    ];
+    let many = [
+        chains(2, 16),
+        chains(3, 11),
+        chains(4, 9),
+        twice(9),
+        ladder(15),
+    ];
+    [&few[..], &thousand, &many].concat()
+}
+
+/// So many credentials, each but the last of which contains the next one's
+/// role. A line of one is a membership.
+fn line(credentials: u16) -> Named {
+    let what = format!("line of {credentials}");
+    (what, shapes::ways(&[credentials], Way::Line))
+}
+
+/// A ladder on which there is nobody else to be tried as a middle than the one
+/// who leads on.
+fn ladder(rungs: u16) -> Named {
+    let what = format!("ladder of {rungs} of kind 3, people 1");
+    (what, shapes::rungs(rungs, 1))
+}
+
+/// A role on each of so many levels, of which each but the last is a chain of so
+/// many times the next.
+fn chains(times: usize, levels: u16) -> Named {
+    let what = format!("chains of one role {times} times, levels {levels}");
+    let tree = Tree {
+        levels,
+        roles: 1,
+        times,
+    };
+    (what, only(tree))
+}
+
+/// The goal, and two roles on each level below it; all but the last level's are
+/// chains of the next level's two roles, each named twice.
+fn twice(levels: u16) -> Named {
+    let what = format!("chains of two roles twice, levels {levels}");
+    let tree = Tree {
+        levels,
+        roles: 2,
+        times: 2,
+    };
+    (what, only(tree))
+}
+
+/// The table of one tree, with the goal on top.
+fn only(tree: Tree) -> Wallet {
+    let mut wallet = wallet(Vec::new(), Vec::new());
+    add_tree(&mut wallet.records, GOAL, tree, MEMBER);
+    wallet
+}
+
+/// The same table with all automata and edges for which there is room, on its
+/// first credentials. Each automaton is always in all of its states, by as many
+/// edges, and accepts every word: so the derivations are the same, and at every
+/// node every edge is taken.
+pub fn constrained(mut wallet: Wallet) -> Wallet {
+    let states = LAST_STATE + 1;
+    let around = |automaton: u16, state: u16| -> EdgeRecord {
+        [automaton, state, 2, 0, 0, (state + 1) % states]
+    };
+    let automata = 1..=Head::LIMITS.automata;
+    for automaton in automata.clone() {
+        wallet.records.automata.push([u16::MAX, u16::MAX]);
+        let edges = (0..states).map(|state| around(automaton, state));
+        wallet.records.edges.extend(edges);
+    }
+    for (credential, automaton) in wallet.records.credentials.iter_mut().zip(automata) {
+        credential[5] = automaton;
+    }
+    wallet
+}
