@@ -19,8 +19,9 @@ use std::time::Duration;
 
 use reference::generate::wallets::Wallet;
 
-use crate::listing::Listing;
+use crate::listing::{Listing, CELLS};
 use crate::sheet::{Form, Lines};
+use crate::timing::alone;
 use record::Written;
 
 /// How long a round of one call lasts at the least.
@@ -60,6 +61,7 @@ fn begin(form: Form, records: &str) -> Lines {
         "records",
         "automata, edges",
         "nodes",
+        "list",
         "write",
         "verify",
         "write / verify",
@@ -68,10 +70,13 @@ fn begin(form: Form, records: &str) -> Lines {
     Lines::begin(form, &form.timed(&title), &heads)
 }
 
-/// Times a record of a table, the longest that a set of its list has, and prints
-/// a line.
+/// Times the list of a table and a record, the longest that a set of the list
+/// has, and prints a line.
 fn report(form: Form, lines: &Lines, what: &str, wallet: &Wallet) {
-    let records = Written::all(&Listing::of(wallet)).into_iter();
+    let listing = Listing::of(wallet);
+    let mut sets = [0; CELLS];
+    let (_, list) = alone(ROUND, || listing.library(&mut sets)).expect("a list");
+    let records = Written::all(&listing).into_iter();
     let longest = records.max_by_key(Written::nodes).expect("a minimal set");
     let [write, verify] = longest.times(ROUND);
     let (head, nodes) = (wallet.records.head(), longest.nodes());
@@ -79,6 +84,7 @@ fn report(form: Form, lines: &Lines, what: &str, wallet: &Wallet) {
         what.to_string(),
         format!("{}, {}", head.automata, head.edges),
         nodes.to_string(),
+        form.time(list, 0),
         form.time(write, 0),
         form.time(verify, 0),
         form.ratio(write / verify),
