@@ -9,12 +9,14 @@ use table::Principal;
 use table::Query;
 use table::Refusal;
 use verifier::Verdict;
+use writing::Written;
 ghost use mathlib.Core.Path.{_≡_};
 ghost use lib.ListN.{length};
 ghost use Rattle.table.specs.Outcome.{Outcome};
 ghost use Rattle.table.specs.Checks.{asQuery, requestOutcome, tableOutcome, told};
 ghost use Rattle.verifier.specs.Verdict.{verdict};
 ghost use Rattle.listing.specs.Minimal.{bufferAfter, listing};
+ghost use Rattle.writing.specs.Writing.{recordAfter, writing};
 ghost use Rattle.bwlchareg.specs.Answer.{answered};
 
 // Rows 1 to 7: whether the table is accepted.
@@ -88,6 +90,29 @@ pub extern "C" fn bwlchareg_verify(
     match verifier::verify(table, query, rec) {
         Verdict::Accepted(used) => accept(used as u64, value),
         Verdict::Refused(why) => refuse(why, value),
+    }
+}
+
+// The holder's end, after the list: the first record of a listed set, in the buffer's first cells. The value is its length.
+#[no_mangle]
+pub extern "C" fn bwlchareg_write(
+    table: &[u16],
+    principal: u16,
+    owner: u16,
+    name: u16,
+    depth: u16,
+    set: u32,
+    rec: &mut [u16],
+    value: &mut u64,
+) -> u32
+    ensures { λ r. ⌜ (answered r (now (value .exit))
+        ≡ writing (now (table .entry)) (asQuery principal owner name depth) set (length (now (rec .entry))))
+        × (now (rec .exit) ≡ recordAfter (now (table .entry)) (asQuery principal owner name depth) set (now (rec .entry))) ⌝ }
+{
+    let query = query_of(principal, owner, name, depth);
+    match writing::write(table, query, set, rec) {
+        Written::Length(len) => accept(len as u64, value),
+        Written::Refused(why) => refuse(why, value),
     }
 }
 

@@ -1,6 +1,7 @@
 // A test: runs stored cases and prints a line for each call, which the gate compares with stored answers. A case is a block of 512
 // numbers of 16 bits, low byte first: kind (1 list, 2 verify), the query's four, cells of the buffer, length of the table, length
-// of the record; then the table, the record, and zeros. Each cell holds a pattern beforehand, so that an untouched one shows.
+// of the record; then the table, the record, and zeros. Each cell holds a pattern beforehand, so that an untouched one shows. What
+// was listed is written as records, too.
 use libc::STDIN_FILENO;
 use libc::STDOUT_FILENO;
 use listing::Listing;
@@ -11,6 +12,7 @@ use table::Query;
 use table::Refusal;
 use table::layout;
 use verifier::Verdict;
+use writing::Written;
 ghost use Prim.Native.Nat.{_≤_};
 ghost use mathlib.Core.Path.{_≡_};
 ghost use lib.ListN.{length};
@@ -26,6 +28,10 @@ const MOST_CELLS: usize = 64;
 const ROOMS: usize = 3;
 
 const UNTOUCHED: u32 = 2863311530;
+
+const MOST_NUMBERS: usize = 12;
+
+const UNTOUCHED_NUMBER: Number = 43690;
 
 const LIST: Number = 1;
 
@@ -78,17 +84,25 @@ fn run(case: &[Number])
     }
 }
 
-// As users list, and then with room for 0, 1 and 2 cuts, which is soon full: the same line each time.
 fn run_list(table: &[Number], query: Query, cells: usize)
     requires { ⌜ cells ≤ 64 ⌝ }
 {
     let mut sets = [UNTOUCHED; MOST_CELLS];
-    run_list_into(table, query, &mut sets[..cells]);
+    run_lists(table, query, &mut sets[..cells]);
+}
+
+// As users list, and then with room for 0, 1 and 2 cuts, which is soon full: the same line each time.
+fn run_lists(table: &[Number], query: Query, sets: &mut [u32])
+    requires { ⌜ length (now sets) ≤ 64 ⌝ }
+{
+    let cells = sets.len();
+    run_list_into(table, query, sets);
     let mut room = 0;
     while room < ROOMS {
         run_list_with(table, query, room, cells);
         room += 1;
     }
+    run_writes(table, query, sets);
 }
 
 fn run_list_into(table: &[Number], query: Query, sets: &mut [u32]) {
@@ -110,6 +124,48 @@ fn run_list_with_into(table: &[Number], query: Query, room: usize, sets: &mut [u
         Listing::Listed(count) => print_row(0, count, sets),
         Listing::Refused(why) => print_refused(why, sets),
     }
+}
+
+// Records of the first two cells of the list, with room for 12 numbers and for 5, and of two sets that may not be on it.
+fn run_writes(table: &[Number], query: Query, sets: &[u32]) {
+    if 1 <= sets.len() {
+        run_write(table, query, sets[0], MOST_NUMBERS);
+        run_write(table, query, sets[0], 5);
+    }
+    if 2 <= sets.len() {
+        run_write(table, query, sets[1], MOST_NUMBERS);
+    }
+    run_write(table, query, 0, 1);
+    run_write(table, query, 15, 1);
+}
+
+fn run_write(table: &[Number], query: Query, set: u32, cells: usize)
+    requires { ⌜ cells ≤ 12 ⌝ }
+{
+    let mut rec = [UNTOUCHED_NUMBER; MOST_NUMBERS];
+    run_write_into(table, query, set, &mut rec[..cells]);
+}
+
+fn run_write_into(table: &[Number], query: Query, set: u32, rec: &mut [Number]) {
+    match writing::write(table, query, set, rec) {
+        Written::Length(len) => print_record(0, len, rec),
+        Written::Refused(why) => print_unwritten(why, rec),
+    }
+}
+
+fn print_unwritten(why: Refusal, rec: &[Number]) {
+    let reason = why.reason;
+    print_record(reason.number(), why.position, rec);
+}
+
+// As `print_row`, with the cells of a record.
+fn print_record(number: u32, value: usize, rec: &[Number]) {
+    io::print_decimal(STDOUT_FILENO, number as u64);
+    print_next(value as u64);
+    for i in 0..rec.len() {
+        print_next(layout::wide(rec[i]) as u64);
+    }
+    io::write_all(STDOUT_FILENO, b"\n");
 }
 
 fn run_verify(table: &[Number], query: Query, rec: &[Number]) {

@@ -11,14 +11,6 @@ use Rattle.choice.proofs.Choosing.{chosen-plain, chosen-with, least-pro
 use borrow.Author.Needs.{needs}
 use Rattle.choice.proofs.choose.Statement.{statement}
 use Rattle.choice.proofs.choose.Tie as tie
-use Rattle.choice.proofs.choose.Reads as reads
-use Rattle.choice.proofs.choose.Lts as lts
-use Rattle.choice.proofs.least_credential.Reads as least-credential-reads
-use Rattle.choice.proofs.linked.Reads as linked-reads
-use Rattle.choice.proofs.middles.least_middle.Reads as least-middle-reads
-use Rattle.choice.proofs.parts_asked.Reads as parts-asked-reads
-use Rattle.choice.proofs.unlinked.Reads as unlinked-reads
-use Rattle.table.proofs.layout.credential.Reads as credential-reads
 
 least-credential-requires : tie.Need-least-credential-requires
 least-credential-requires c κs = search needs

@@ -8,9 +8,6 @@ use Rattle.choice.proofs.Candidates.{NoneBehind, none-first, none-next,
 use borrow.Author.Needs.{needs}
 use Rattle.choice.proofs.last_usable.Statement.{statement}
 use Rattle.choice.proofs.last_usable.Tie as tie
-use Rattle.choice.proofs.last_usable.Reads as reads
-use Rattle.choice.proofs.last_usable.Lts as lts
-use Rattle.search.proofs.may_use.Reads as may-use-reads
 
 abbrev Inv-loop : tie.InvT-loop
 Inv-loop index allowed place n last₀ i₀ last i = (i ≤ n) × (last < n) × NoneBehind index allowed place last i

@@ -15,12 +15,6 @@ use Rattle.choice.proofs.Candidates.{chosen-here, chosen-last, tried-at
 use borrow.Author.Needs.{needs}
 use Rattle.choice.proofs.least_credential.Statement.{statement}
 use Rattle.choice.proofs.least_credential.Tie as tie
-use Rattle.choice.proofs.least_credential.Reads as reads
-use Rattle.choice.proofs.least_credential.Lts as lts
-use Rattle.choice.proofs.last_usable.Reads as last-usable-reads
-use Rattle.search.proofs.credential_search.Reads as credential-search-reads
-use Rattle.search.proofs.may_use.Reads as may-use-reads
-use Rattle.table.proofs.layout.credentials.Reads as credentials-reads
 
 abbrev Inv-loop : tie.InvT-loop
 Inv-loop table index rows terms person place levels states above last i₀ i =

@@ -1,11 +1,7 @@
 -- `choice::parts_asked` meets its contract, by the credential's kind. Assumes nothing.
 use Rattle.choice.proofs.Nodes.{asks-none, asks-one, asks-parts}
-use borrow.Author.Needs.{needs}
 use Rattle.choice.proofs.parts_asked.Statement.{statement}
 use Rattle.choice.proofs.parts_asked.Tie as tie
-use Rattle.choice.proofs.parts_asked.Reads as reads
-use Rattle.choice.proofs.parts_asked.Lts as lts
-use Rattle.table.proofs.layout.chain.Reads as chain-reads
 
 chain-requires : tie.Need-chain-requires
 chain-requires c κs =

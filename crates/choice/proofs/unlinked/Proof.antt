@@ -8,9 +8,6 @@ use Rattle.choice.proofs.Nodes.{CellsTo, cells-next, cells-none, unlink
 use borrow.Author.Needs.{needs}
 use Rattle.choice.proofs.unlinked.Statement.{statement}
 use Rattle.choice.proofs.unlinked.Tie as tie
-use Rattle.choice.proofs.unlinked.Reads as reads
-use Rattle.choice.proofs.unlinked.Lts as lts
-use Rattle.members.proofs.asked_cell.Reads as asked-cell-reads
 
 abbrev Inv-loop : tie.InvT-loop
 Inv-loop index person i len places₀ k₀ places k = (k ≤ mostParts) × CellsTo index i k places

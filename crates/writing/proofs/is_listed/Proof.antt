@@ -7,11 +7,6 @@ use Rattle.writing.proofs.Listed.{below-all, beyond-unlisted}
 use borrow.Author.Needs.{needs}
 use Rattle.writing.proofs.is_listed.Statement.{statement}
 use Rattle.writing.proofs.is_listed.Tie as tie
-use Rattle.writing.proofs.is_listed.Reads as reads
-use Rattle.writing.proofs.is_listed.Lts as lts
-use Rattle.listing.proofs.is_minimal.Reads as is-minimal-reads
-use Rattle.search.proofs.admits.Reads as admits-reads
-use Rattle.table.proofs.layout.credentials.Reads as credentials-reads
 
 credentials-requires : tie.Need-credentials-requires
 credentials-requires c κs = search needs

@@ -8,10 +8,6 @@ use Rattle.writing.proofs.Passes.{written-past, written-stopped}
 use borrow.Author.Needs.{needs}
 use Rattle.writing.proofs.write.Statement.{statement}
 use Rattle.writing.proofs.write.Tie as tie
-use Rattle.writing.proofs.write.Reads as reads
-use Rattle.writing.proofs.write.Lts as lts
-use Rattle.checks.proofs.check_request.Reads as check-request-reads
-use Rattle.writing.proofs.write_checked.Reads as write-checked-reads
 
 check-request-requires : tie.Need-check-request-requires
 check-request-requires c κs = search needs

@@ -7,12 +7,6 @@ use Rattle.writing.proofs.Passes.{tells-instead}
 use borrow.Author.Needs.{needs}
 use Rattle.writing.proofs.write_checked.Statement.{statement}
 use Rattle.writing.proofs.write_checked.Tie as tie
-use Rattle.writing.proofs.write_checked.Reads as reads
-use Rattle.writing.proofs.write_checked.Lts as lts
-use Rattle.members.proofs.index.Reads as index-reads
-use Rattle.writing.proofs.is_listed.Reads as is-listed-reads
-use Rattle.writing.proofs.refused.Reads as refused-reads
-use Rattle.writing.proofs.write_listed.Reads as write-listed-reads
 
 index-requires : tie.Need-index-requires
 index-requires c κs = search needs

@@ -12,13 +12,6 @@ use Rattle.writing.proofs.Passes.{counted-longer, counted-written, pass
 use borrow.Author.Needs.{needs}
 use Rattle.writing.proofs.write_listed.Statement.{statement}
 use Rattle.writing.proofs.write_listed.Tie as tie
-use Rattle.writing.proofs.write_listed.Reads as reads
-use Rattle.writing.proofs.write_listed.Lts as lts
-use Rattle.derivation.proofs.automata_of.Reads as automata-of-reads
-use Rattle.members.proofs.fill.Reads as fill-reads
-use Rattle.table.proofs.layout.wide.Reads as wide-reads
-use Rattle.writing.proofs.refused.Reads as refused-reads
-use Rattle.writing.proofs.walk.from_goal.Reads as from-goal-reads
 
 wide-requires : tie.Need-wide-requires
 wide-requires c κs = search needs

@@ -4,10 +4,6 @@ use Rattle.choice.proofs.Linking.{before-none, before-told}
 use borrow.Author.Needs.{needs}
 use Rattle.choice.proofs.middles.comes_before.Statement.{statement}
 use Rattle.choice.proofs.middles.comes_before.Tie as tie
-use Rattle.choice.proofs.middles.comes_before.Reads as reads
-use Rattle.choice.proofs.middles.comes_before.Lts as lts
-use Rattle.table.proofs.layout.credential.Reads as credential-reads
-use Rattle.table.proofs.layout.credentials.Reads as credentials-reads
 
 credentials-requires : tie.Need-credentials-requires
 credentials-requires c κs = search needs

@@ -3,11 +3,6 @@ use Rattle.choice.proofs.Linking.{first-stands, leads-not, leads-told, 
 use borrow.Author.Needs.{needs}
 use Rattle.choice.proofs.middles.leads_on.Statement.{statement}
 use Rattle.choice.proofs.middles.leads_on.Tie as tie
-use Rattle.choice.proofs.middles.leads_on.Reads as reads
-use Rattle.choice.proofs.middles.leads_on.Lts as lts
-use Rattle.members.proofs.asked_cell.Reads as asked-cell-reads
-use Rattle.members.proofs.link_cell.Reads as link-cell-reads
-use Rattle.search.proofs.goal_search.Reads as goal-search-reads
 
 asked-cell-requires : tie.Need-asked-cell-requires
 asked-cell-requires c κs = search needs

@@ -9,12 +9,6 @@ use Rattle.choice.proofs.Linking.{MiddlesLeft, least-leads, left-first,
 use borrow.Author.Needs.{needs}
 use Rattle.choice.proofs.middles.least_middle.Statement.{statement}
 use Rattle.choice.proofs.middles.least_middle.Tie as tie
-use Rattle.choice.proofs.middles.least_middle.Reads as reads
-use Rattle.choice.proofs.middles.least_middle.Lts as lts
-use Rattle.choice.proofs.middles.leads_on.Reads as leads-on-reads
-use Rattle.choice.proofs.middles.least_named.Reads as least-named-reads
-use Rattle.choice.proofs.middles.listed_middles.Reads as listed-middles-reads
-use Rattle.search.proofs.row_of.Reads as row-of-reads
 
 abbrev Inv-loop : tie.InvT-loop
 Inv-loop table index rows terms person i levels states above row left₀ left =

@@ -9,11 +9,6 @@ use Rattle.choice.proofs.Linking.{NamedTo, named-all, named-here, named
 use borrow.Author.Needs.{needs}
 use Rattle.choice.proofs.middles.least_named.Statement.{statement}
 use Rattle.choice.proofs.middles.least_named.Tie as tie
-use Rattle.choice.proofs.middles.least_named.Reads as reads
-use Rattle.choice.proofs.middles.least_named.Lts as lts
-use Rattle.choice.proofs.middles.comes_before.Reads as comes-before-reads
-use Rattle.sets.proofs.has.Reads as has-reads
-use Rattle.table.proofs.layout.credentials.Reads as credentials-reads
 
 abbrev Inv-loop : tie.InvT-loop
 Inv-loop table places n best₀ j₀ best j = (j ≤ n) × NamedTo table places j best

@@ -11,13 +11,6 @@ use Rattle.choice.proofs.Linking.{listed-more, listed-not}
 use borrow.Author.Needs.{needs}
 use Rattle.choice.proofs.middles.listed_middles.Statement.{statement}
 use Rattle.choice.proofs.middles.listed_middles.Tie as tie
-use Rattle.choice.proofs.middles.listed_middles.Reads as reads
-use Rattle.choice.proofs.middles.listed_middles.Lts as lts
-use Rattle.members.proofs.asked_cell.Reads as asked-cell-reads
-use Rattle.members.proofs.link_cell.Reads as link-cell-reads
-use Rattle.search.proofs.is_middle.Reads as is-middle-reads
-use Rattle.sets.proofs.with.Reads as with-reads
-use Rattle.table.proofs.layout.credentials.Reads as credentials-reads
 
 abbrev Inv-loop : tie.InvT-loop
 Inv-loop table index rows row person i n first found₀ j₀ found j =

@@ -4,13 +4,6 @@ use Rattle.writing.proofs.Beginning.{begins-proved, begins-stands, begi
 use borrow.Author.Needs.{needs}
 use Rattle.writing.proofs.walk.from_goal.Statement.{statement}
 use Rattle.writing.proofs.walk.from_goal.Tie as tie
-use Rattle.writing.proofs.walk.from_goal.Reads as reads
-use Rattle.writing.proofs.walk.from_goal.Lts as lts
-use Rattle.automata.proofs.StateSets.start.Reads as start-reads
-use Rattle.members.proofs.goal_person.Reads as goal-person-reads
-use Rattle.members.proofs.goal_role.Reads as goal-role-reads
-use Rattle.table.proofs.layout.wide.Reads as wide-reads
-use Rattle.writing.proofs.walk.walk.Reads as walk-reads
 
 goal-person-requires : tie.Need-goal-person-requires
 goal-person-requires c κs = search needs

@@ -6,8 +6,6 @@ use Rattle.writing.proofs.Nodes.{put-both, put-none}
 use borrow.Author.Needs.{needs}
 use Rattle.writing.proofs.walk.put.Statement.{statement}
 use Rattle.writing.proofs.walk.put.Tie as tie
-use Rattle.writing.proofs.walk.put.Reads as reads
-use Rattle.writing.proofs.walk.put.Lts as lts
 
 add-if1 : tie.Need-add-if1
 add-if1 c = search needs
