@@ -84,8 +84,8 @@ uint32_t bwlchareg_list(const uint16_t *table, size_t table_length,
                         uint32_t *sets, size_t sets_length,
                         uint64_t *value);
 
-/* Writes the first record of a minimal set: rows 1 to 8, then 15 and 16. On 0 the value is the record's length in numbers, 1 to
- * record_length, and the first cells of `record`, as many as the value says, hold the record.
+/* Writes the first record of a minimal set: rows 1 to 8, then 15 and 16. On 0 the value is the record's length in numbers, 2 for
+ * each node, and the first cells of `record`, as many as the value says, hold the record.
  *
  *  15  the set is not on the list that bwlchareg_list makes for this table and query    position 0
  *  16  fewer cells than the record has numbers                                          position 0
@@ -94,8 +94,8 @@ uint32_t bwlchareg_list(const uint16_t *table, size_t table_length,
  * of the set comes later, compared number by number, the smaller first.
  *
  * Cells beyond the record are unchanged, and on a refusal no cell changes, so the buffer is never scratch space. A record may have
- * more than a thousand million nodes; on 16 the call ends after about as many steps as there are cells, times the work of a node.
- * `record` must overlap neither the table nor the last parameter.
+ * more than a thousand million nodes; once the set is found to be on the list, 16 takes about as many steps as there are cells,
+ * times the work of a node. `record` must overlap neither the table nor the last parameter.
  */
 uint32_t bwlchareg_write(const uint16_t *table, size_t table_length,
                          uint16_t principal, uint16_t owner, uint16_t name, uint16_t depth,

@@ -196,16 +196,16 @@ pub fn list(table: &[u16], query: Query, cells: &mut [u32]) -> Result<usize, Ref
 /// every other accepted record that uses only credentials of the set comes
 /// later.
 ///
-/// Cells beyond the record are unchanged. `write` takes any cells; what they
-/// held does not matter.
+/// Cells beyond the record are unchanged.
 ///
 /// # Errors
 ///
 /// Refusals 1 to 8 as for [`check_query`]; then 15 ([`Refusal::NOT_LISTED`]) if
 /// the set is not on the list; and 16 ([`Refusal::LONGER_RECORD`]) if there are
 /// fewer cells than the record has numbers. On a refusal no cell changes. A
-/// record of sixteen levels may have more than a thousand million nodes; with
-/// fewer cells the call ends after about as many steps as there are cells.
+/// record of sixteen levels may have more than a thousand million nodes; once
+/// the set is found to be on the list, 16 takes about as many steps as there
+/// are cells, times the work of a node.
 ///
 /// # Examples
 ///

@@ -10,8 +10,8 @@ use lib.ListN.{getD}
 use lib.Bits.{bitAnd, bitOr, bitXor}
 use lib.Dec.{leb, ltb}
 use borrow.Author.Tests.{le-leb, leb-false, leb-true, lt-leb, lt-ltb, ltb-false, ltb-true}
-use Rattle.sets.specs.Logic.{_and_, _or_, anyBelow, pick}
-use Rattle.sets.specs.Sets.{inSet, setOf}
+use Rattle.sets.specs.Logic.{_and_, _or_, anyBelow}
+use Rattle.sets.specs.Sets.{inSet}
 use Rattle.sets.proofs.Tests.{and-both, and-first, and-is, and-is-off, and-second, any-shows, failed, false-true, or-first}
 use Rattle.sets.proofs.Tests.{passed, refuted}
 use Rattle.table.specs.Layout.{credential, credentials}
@@ -22,7 +22,7 @@ use Rattle.members.specs.Members.{askedCell, lesser, linkCell, rowCell}
 use Rattle.members.specs.Trying.{provesBy}
 use Rattle.search.specs.Search.{Searched, Stands, Tried, goalAt, proves, provesAt}
 use Rattle.search.proofs.Placing.{cell-middles, first-cell, linkedRole, middle-unlisted, partRole, second-cell, stands-at}
-use Rattle.sets.proofs.Members.{below-members, inSet-zero, members-below, one-only, part-le, part-member, setOf-members}
+use Rattle.sets.proofs.Members.{below-members, inSet-zero, members-below, one-only, part-le, part-member, set-more, set-not, setOf-members}
 use Rattle.sets.proofs.Without.{one-is, part-fails, without-other, without-own, without-part}
 use Rattle.choice.specs.Choice.{LeastMiddle, LeastNamed, comesBefore, leads, listedMiddles}
 
@@ -95,16 +95,6 @@ module _ (t : List ℕ) (places : ℕ) where
             → (j < credentials t) × (credential t (suc j) .first ≤ credential t (suc k) .first)
         go k l (yes e) m = (there, rw e (le-refl (credential t (suc j) .first)))
         go k l (no e) m = (there, older k (so-far .least k (omega arith) m) (leb (credentials t) best) refl on)
-
--- a set by a test, with one number looked at more
-module _ (p : ℕ → Bool) (found i : ℕ) (so-far : found ≡ setOf p i) where
-  set-more : p i ≡ true → bitOr found (2 ^ i) ≡ setOf p (i + 1)
-  unfolding setOf pick
-  set-more on = rw (add-one i, on, so-far)
-
-  set-not : p i ≡ false → found ≡ setOf p (i + 1)
-  unfolding setOf pick
-  set-not off = rw (add-one i, off) so-far
 
 -- whom the row has, principal by principal; the cells have been read as first and second
 module _ (t index rows : List ℕ) (row person i j found first second : ℕ)

@@ -11,6 +11,7 @@ use borrow.Author.Tests.{eq-eqb, ne-eqb}
 use Rattle.sets.specs.Logic.{_and_, _or_, pick}
 use Rattle.sets.specs.Sets.{inSet, setOf}
 use Rattle.sets.proofs.Tests.{and-both, and-is, and-is-off, failed, passed}
+use Rattle.sets.proofs.Members.{set-more, set-not}
 use Rattle.table.specs.Layout.{credential}
 use Rattle.table.specs.declared.Credential.{Credential}
 use Rattle.table.specs.declared.Query.{Query}
@@ -25,8 +26,7 @@ withoutTo t S k n = setOf (λ c. inSet S c and not (eqb (credential t (suc c) .a
 -- one credential more, number i + 1
 module _ (t : List ℕ) (S k i kept : ℕ) (so-far : kept ≡ withoutTo t S k i) where
   without-off : (inSet S i and not (eqb (credential t (suc i) .automaton) k)) ≡ false → kept ≡ withoutTo t S k (i + 1)
-  unfolding setOf pick
-  without-off off = rw (add-one i, off) so-far
+  without-off = set-not _ kept i so-far
 
   pub without-outside : inSet S i ≡ false → kept ≡ withoutTo t S k (i + 1)
   without-outside out = without-off (and-is-off _ out)
@@ -37,10 +37,9 @@ module _ (t : List ℕ) (S k i kept : ℕ) (so-far : kept ≡ withoutTo t S k i)
     without-bearer own = without-off (and-is inside (rw (read, add-one i) at (ap not (eq-eqb (x .automaton) k own))))
 
     pub without-more : (x .automaton ≡ k → ⊥) → bitOr kept (2 ^ i) ≡ withoutTo t S k (i + 1)
-    unfolding setOf pick
     without-more other =
         let spared = rw (read, add-one i) at (ap not (ne-eqb (x .automaton) k other)) in
-        rw (add-one i, and-both inside spared, so-far)
+        set-more _ kept i so-far (and-both inside spared)
 
 -- nothing is left to decide
 pub decided-last : (t : List ℕ) (q : Query) (S A k : ℕ) → k ≡ 0 → true ≡ admitsBy t q S A k

@@ -10,11 +10,11 @@ use native.Mathlib.Numerals.{add-one}
 use lib.Bits.{bitOr}
 use lib.ListN.{getD}
 use borrow.Author.Tests.{not-false}
-use Rattle.sets.specs.Logic.{_and_, pick}
-use Rattle.sets.specs.Sets.{inSet, part, setOf}
+use Rattle.sets.specs.Logic.{_and_}
+use Rattle.sets.specs.Sets.{inSet, part}
 use Rattle.sets.proofs.Tests.{and-on, false-true}
 use Rattle.sets.proofs.Members.{inSet-zero, own-bit, part-le, part-member, part-or-left, part-or-right}
-use Rattle.sets.proofs.Members.{part-refl, part-trans, part-zero}
+use Rattle.sets.proofs.Members.{part-refl, part-trans, part-zero, set-more, set-not}
 use Rattle.table.specs.Layout.{credential, credentials}
 use Rattle.table.specs.declared.Credential.{Credential}
 use Rattle.members.specs.Places.{isPerson}
@@ -150,9 +150,9 @@ round-less t index n most x y round other top = let up = part-le x y (round .gro
 -- the credentials at the places, with one looked at more
 module _ (index : List ℕ) (places found i : ℕ) (so-far : found ≡ definedAt index places i) where
   pub defined-more : inSet places (getD index (roleCell i) 0) ≡ true → bitOr found (2 ^ i) ≡ definedAt index places (i + 1)
-  unfolding definedAt setOf pick
-  defined-more has = rw (add-one i, has, so-far)
+  unfolding definedAt
+  defined-more has = set-more _ found i so-far has
 
   pub defined-not : inSet places (getD index (roleCell i) 0) ≡ false → found ≡ definedAt index places (i + 1)
-  unfolding definedAt setOf pick
-  defined-not has = rw (add-one i, has) so-far
+  unfolding definedAt
+  defined-not has = set-not _ found i so-far has

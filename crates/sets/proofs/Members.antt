@@ -6,6 +6,7 @@ use Prim.Native.Nat.{ℕ, zero, suc, _+_, _-_, _*_, _/_, _%_, _^_, _<_, _≤_}
 use native.Mathlib.Omega.{arith}
 use native.Mathlib.Nat.{div-eq-of-lt, div-one, div-div-eq-div-mul, mod-eq-of-lt, mod-self, one-mul, pow-suc, pow-succ'}
 use native.Mathlib.Decide.{decLt, ℕ-discrete}
+use native.Mathlib.Numerals.{add-one}
 use lib.Arith.{bin-ind}
 use lib.Bits.{bitAnd, bitOr, and-le-r, and-mask, and-mod, and-self, and-shr, and-step, or-lt, or-shr, or-mod}
 use lib.Pow.{pow-lt, pow-mono}
@@ -148,6 +149,16 @@ setOf-members p (suc n) k = inSet-pick (p n) (setOf p n) n k ∙ rw (setOf-membe
     go : Dec (n ≡ k) → ((ltb k n and p k) or (p n and eqb n k)) ≡ (ltb k (suc n) and p k)
     go (yes e) = rw (← e, le-ltb n n (omega arith), eq-eqb n n refl, lt-ltb n (suc n) (omega arith), and-true)
     go (no e) = rw (ne-eqb n k e, and-false, or-false, ltb-next k n e)
+
+-- and with one number looked at more
+module _ (p : ℕ → Bool) (found i : ℕ) (so-far : found ≡ setOf p i) where
+  pub set-more : p i ≡ true → bitOr found (2 ^ i) ≡ setOf p (i + 1)
+  unfolding setOf pick
+  set-more on = rw (add-one i, on, so-far)
+
+  pub set-not : p i ≡ false → found ≡ setOf p (i + 1)
+  unfolding setOf pick
+  set-not off = rw (add-one i, off) so-far
 
 -- a part, by its members
 pub part-member : (x y s : ℕ) → part x y ≡ true → inSet x s ≡ true → inSet y s ≡ true

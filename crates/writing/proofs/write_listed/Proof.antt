@@ -2,7 +2,7 @@
 use mathlib.Core.Path.{refl, ap, _∙_}
 use Prim.Native.Nat.{_^_, _<_}
 use native.Mathlib.Omega.{arith}
-use lib.ListN.{length}
+use lib.ListN.{length, length-take}
 use denote.Ref.{now}
 use Rattle.derivation.proofs.Above.{depth-fits, depth-some}
 use Rattle.table.specs.Checks.{numberOf}
@@ -40,7 +40,7 @@ slice-relend-prefix-from-goal : tie.Need-slice-relend-prefix-from-goal
 slice-relend-prefix-from-goal c = search needs
 
 slice-aggregate-from-goal-2 : tie.Need-slice-aggregate-from-goal-2
-slice-aggregate-from-goal-2 c = search needs
+slice-aggregate-from-goal-2 c = simp length-take (omega arith)
 
 -- a slice is no longer than this
 room : (c : tie.After-from-goal-arg) → length (now (c .before .before .before .before .before .before .before .before .before .before .args .rec)) < 2 ^ 63
