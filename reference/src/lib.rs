@@ -1,10 +1,10 @@
 //! A second implementation of the checker, with which the proved library is
 //! compared.
 //!
-//! It is written from the definition, which is docs/DEFINITION.md, without sight
-//! of the proved code, and for obviousness, not speed: a slice of numbers is read
-//! into values of their own sorts, and an input is refused where such a value
-//! cannot be made. There is a module for each subject:
+//! It is written from the definition, which is docs/DEFINITION.md, goes other
+//! ways than the proved code, and is made for obviousness, not speed: a slice of
+//! numbers is read into values of their own sorts, and an input is refused where
+//! such a value cannot be made. There is a module for each subject:
 //!
 //! - [`refusal`]: why and where an input is refused
 //! - [`sorts`]: principals, role names, roles and goals

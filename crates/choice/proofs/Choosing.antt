@@ -1,5 +1,5 @@
--- The node that is chosen: the least credential proves the goal, so with the least middle it applies, and each goal that it then asks
--- is proved.
+-- The node that is chosen: the least credential proves the goal, so with the least middle it applies, and each goal that it
+-- then asks is proved.
 use mathlib.Core.Path.{_≡_, refl, sym, ap, ap₂, _∙_}
 use mathlib.Core.List.{List, [], _∷_, map}
 use mathlib.Core.Bool.{Bool, true, false}
@@ -36,8 +36,8 @@ use Rattle.members.proofs.Indexing.{padded-inside}
 use Rattle.members.proofs.ByKind.{by-none, byMiddle, each-part, middleAt, middleRole, names-principal, parts-few, roles-2}
 use Rattle.members.proofs.ByKind.{roles-4, with-middle}
 use Rattle.search.specs.Search.{Searched, Stands, Tried, goalAt, proves, provesAt, provesWith}
-use Rattle.search.proofs.Placing.{cell-middle, first-cell, linkedRole, linking-role, own, part-cell, partRole, proved-some, proves-at}
-use Rattle.search.proofs.Placing.{second-cell, stands-at, unnamed-unproved}
+use Rattle.search.proofs.Placing.{cell-middle, first-cell, linkedRole, linking-role, own, part-cell, partRole, proved-some}
+use Rattle.search.proofs.Placing.{proves-at, second-cell, stands-at, unnamed-unproved}
 use Rattle.choice.specs.declared.Node.{Node}
 use Rattle.choice.specs.Choice.{Children, Chosen, LeastMiddle, Linked, Unlinked, asked, leads, leastCredential, leastMiddle}
 use Rattle.choice.proofs.Candidates.{tried-at}

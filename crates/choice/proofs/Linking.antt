@@ -22,7 +22,8 @@ use Rattle.members.specs.Members.{askedCell, lesser, linkCell, rowCell}
 use Rattle.members.specs.Trying.{provesBy}
 use Rattle.search.specs.Search.{Searched, Stands, Tried, goalAt, proves, provesAt}
 use Rattle.search.proofs.Placing.{cell-middles, first-cell, linkedRole, middle-unlisted, partRole, second-cell, stands-at}
-use Rattle.sets.proofs.Members.{below-members, inSet-zero, members-below, one-only, part-le, part-member, set-more, set-not, setOf-members}
+use Rattle.sets.proofs.Members.{below-members, inSet-zero, members-below, one-only, part-le, part-member, set-more, set-not}
+use Rattle.sets.proofs.Members.{setOf-members}
 use Rattle.sets.proofs.Without.{one-is, part-fails, without-other, without-own, without-part}
 use Rattle.choice.specs.Choice.{LeastMiddle, LeastNamed, comesBefore, leads, listedMiddles}
 

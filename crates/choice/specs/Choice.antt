@@ -1,5 +1,5 @@
--- docs/DEFINITION.md, "The first record": which credential and which middle a node of the first record has. `one` says which goals
--- can be proved below the node, and `word` whether a word may end at it.
+-- docs/DEFINITION.md, "The first record": which credential and which middle a node of the first record has. `one` says which
+-- goals can be proved below the node, and `word` whether a word may end at it.
 use Prim.Native.Nat.{ℕ, suc, _<_, _≤_}
 use mathlib.Core.Path.{_≡_}
 use mathlib.Core.List.{List, []}
@@ -27,7 +27,7 @@ use Rattle.choice.specs.declared.Node.{Node}
 unfoldable pub leastCredential : List ℕ → ℕ → (Goal → Bool) → Bool → Goal → ℕ
 leastCredential t S one word g = suc (least (provesWith t S one word g) (credentials t))
 
--- the least middle with which credential c proves the goal; 0 for every kind but 3, which asks nothing with another
+-- the least middle with which credential c proves the goal; 0 for every kind but 3: those apply with no other middle
 unfoldable pub leastMiddle : List ℕ → (Goal → Bool) → Bool → Goal → ℕ → ℕ
 leastMiddle t one word g c = least (λ m. provedPremises one word (premises t g c m)) (suc mostPrincipals)
 

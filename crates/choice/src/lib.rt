@@ -1,6 +1,6 @@
-// The choice at a node of the first record (docs/DEFINITION.md, "The first record"): the least credential of the set that proves the
-// goal, and with it the least middle. That the goal is proved is known beforehand, so that the last candidate needs no search.
-// specs/Choice.antt says what is chosen.
+// The choice at a node of the first record (docs/DEFINITION.md, "The first record"): the least credential of the set that
+// proves the goal, and with it the least middle. That the goal is proved is known beforehand, so that the last candidate needs
+// no search. specs/Choice.antt says what is chosen.
 mod middles; // middles.rt: the least middle of a credential of kind 3
 
 use automata::StateSets;
@@ -36,8 +36,8 @@ pub struct Node {
     pub places: [usize; layout::MOST_PARTS],
 }
 
-// The node for the principal at `person` in the role at `place`, whom some allowed credential proves to be in it. So many levels are
-// left below the node, and branch and state sets are those below it.
+// The node for the principal at `person` in the role at `place`, whom some allowed credential proves to be in it. So many
+// levels are left below the node, and branch and state sets are those below it.
 pub fn choose(
     table: &[Number],
     index: &[u8],
@@ -78,8 +78,8 @@ pub fn choose(
     linked(index, person, i, j, middle.first)
 }
 
-// The least allowed credential that proves the goal, as i where its number is i + 1. All but the last that may be used are tried; where
-// they fail it is the last.
+// The least allowed credential that proves the goal, as i where its number is i + 1. All but the last that may be used are
+// tried; where they fail it is the last.
 fn least_credential(
     table: &[Number],
     index: &[u8],
@@ -180,8 +180,8 @@ fn unlinked(index: &[u8], person: usize, i: usize, len: usize) -> Node
     }
 }
 
-// The node of credential i + 1, of kind 3, with the principal at j as its middle: the middle in the first role, then the principal in
-// the middle's second.
+// The node of credential i + 1, of kind 3, with the principal at j as its middle: the middle in the first role, then the
+// principal in the middle's second.
 fn linked(index: &[u8], person: usize, i: usize, j: usize, middle: Number) -> Node
     requires { ⌜ Placed (now index) ⌝ }
     requires { ⌜ (i < mostCredentials) × (j < mostCredentials) ⌝ }

@@ -1,5 +1,5 @@
-// The least middle with which a credential of kind 3 proves its goal. Principals stand in the order of their first simple memberships
-// (crate members), and are compared here by their numbers.
+// The least middle with which a credential of kind 3 proves its goal. Principals stand in the order of their first simple
+// memberships (crate members), and are compared here by their numbers.
 use automata::StateSets;
 use search::Terms;
 use sets::CredentialSet;
@@ -21,8 +21,8 @@ ghost use Rattle.members.specs.Trying.{provesBy};
 ghost use Rattle.search.specs.Search.{Searched, Tried, goalAt, proves, provesAt};
 ghost use Rattle.choice.specs.Choice.{LeastMiddle, LeastNamed, comesBefore, leads, listedMiddles};
 
-// Where the middle of the least number stands with which credential i + 1 proves its goal. Those whom the table of members has are
-// tried in the order of their numbers; the last that is left needs no search.
+// Where the middle of the least number stands with which credential i + 1 proves its goal. Those whom the table of members has
+// are tried in the order of their numbers; the last that is left needs no search.
 pub fn least_middle(
     table: &[Number],
     index: &[u8],

@@ -1,7 +1,7 @@
-// A test: runs stored cases and prints a line for each call, which the gate compares with stored answers. A case is a block of 512
-// numbers of 16 bits, low byte first: kind (1 list, 2 verify), the query's four, cells of the buffer, length of the table, length
-// of the record; then the table, the record, and zeros. Each cell holds a pattern beforehand, so that an untouched one shows. What
-// was listed is written as records, too.
+// A test: runs stored cases and prints a line for each call, which the gate compares with stored answers. A case is a block of
+// 512 numbers of 16 bits, low byte first: kind (1 list, 2 verify), the query's four, cells of the buffer, length of the table,
+// length of the record; then the table, the record, and zeros. Each cell holds a pattern beforehand, so that an untouched one
+// shows. What was listed is written as records, too.
 use libc::STDIN_FILENO;
 use libc::STDOUT_FILENO;
 use listing::Listing;

@@ -48,8 +48,8 @@ pub record Provable (t : List ℕ) (q : Query) (S A : ℕ) : Type 0 where
 unfoldable pub stepped : List ℕ → ℕ → Role → StateSets → StateSets
 stepped t A r s = pick (eqb A 0) s (movedSets t r s)
 
--- credential c + 1 is in the set, defines the goal's role, and proves the goal, where `one` says which goals are proved below it, and
--- `word` whether a word may end there
+-- credential c + 1 is in the set, defines the goal's role, and proves the goal, where `one` says which goals are proved below
+-- it, and `word` whether a word may end there
 abbrev pub provesWith : List ℕ → ℕ → (Goal → Bool) → Bool → Goal → ℕ → Bool
 provesWith t S one word g = λ c. mayUse t S g (suc c) and provesBy t one word g (suc c)
 

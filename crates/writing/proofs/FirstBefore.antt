@@ -1,5 +1,6 @@
--- The first derivation comes before every other of the same goals that uses only credentials of the set and whose words the imposed
--- automata accept. By induction over the other one: a node of it has a greater number, or both nodes ask the same goals.
+-- The first derivation comes before every other of the same goals that uses only credentials of the set and whose words the
+-- imposed automata accept. By induction over the other one: a node of it has a greater number, or both nodes ask the same
+-- goals.
 use mathlib.Core.Path.{_≡_, refl}
 use mathlib.Core.List.{List, [], _∷_, _++_}
 use mathlib.Core.Bool.{Bool, true}
@@ -28,7 +29,7 @@ use Rattle.search.proofs.Searching.{AllAccept, Led, OnBranch, derived-proves, l
 use Rattle.search.proofs.Searching.{words-split}
 use Rattle.choice.specs.Choice.{asked}
 use Rattle.writing.specs.First.{firstForest}
-use Rattle.writing.proofs.Choosing.{least-credential-least, least-middle-least}
+use Rattle.writing.proofs.LeastNode.{least-credential-least, least-middle-least}
 use Rattle.writing.proofs.FirstNode.{first-end, first-node, firstAsked, firstBelow, firstCredential, firstMiddle}
 use Rattle.writing.proofs.FirstNode.{provedBelow, wordEnds}
 use Rattle.writing.proofs.Ordering.{Order, order-append, order-next}

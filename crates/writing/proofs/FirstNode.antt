@@ -25,7 +25,7 @@ use Rattle.members.specs.Trying.{everyGoal, provedPremises}
 use Rattle.search.specs.Search.{proves, stepped}
 use Rattle.choice.specs.Choice.{asked, leastCredential, leastMiddle, provesWith}
 use Rattle.writing.specs.First.{eachFirst, firstForest}
-use Rattle.writing.proofs.Choosing.{asked-proved, asked-some, least-credential-own, least-credential-proves}
+use Rattle.writing.proofs.LeastNode.{asked-proved, asked-some, least-credential-own, least-credential-proves}
 
 -- what is asked is proved, also where it is nothing
 every-proved : (one : Goal → Bool) (word : Bool) (goals : List Goal)

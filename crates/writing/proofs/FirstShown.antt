@@ -1,5 +1,5 @@
--- The first derivation is one: where the goals are proved it derives them and uses only credentials of the set, and each automaton
--- that is imposed accepts its words. By induction over the levels, goal by goal.
+-- The first derivation is one: where the goals are proved it derives them and uses only credentials of the set, and each
+-- automaton that is imposed accepts its words. By induction over the levels, goal by goal.
 use mathlib.Core.Path.{_≡_, refl, _∙_}
 use mathlib.Core.List.{List, [], _∷_, _++_}
 use mathlib.Core.Bool.{Bool, true}
@@ -31,8 +31,8 @@ use Rattle.writing.specs.First.{firstForest}
 use Rattle.writing.proofs.FirstNode.{first-applies, first-end, first-every, first-new, first-node, first-own}
 use Rattle.writing.proofs.FirstNode.{first-proved, firstAsked, firstBelow, firstCredential, firstMiddle}
 
--- with so many levels left, below a branch whose roles are the word w: the forest derives the goals and uses only credentials of S,
--- and each automaton of A accepts its words
+-- with so many levels left, below a branch whose roles are the word w: the forest derives the goals and uses only credentials
+-- of S, and each automaton of A accepts its words
 pub record Shows (t : List ℕ) (S A levels : ℕ) (branch : List Goal) (w : List Role) (goals : List Goal) (f : Forest) : Type 0 where
   pub derives : Derives t levels branch goals f
   pub usesOnly : UsesOnly f S

@@ -1,5 +1,5 @@
--- Rows 15 and 16: what is told of whether the set is listed, of the record's length and of the number of cells, and what the cells
--- hold afterwards.
+-- Rows 15 and 16: what is told of whether the set is listed, of the record's length and of the number of cells, and what the
+-- cells hold afterwards.
 use mathlib.Core.Path.{_≡_, refl, sym, _∙_}
 use mathlib.Core.List.{List}
 use mathlib.Core.Bool.{Bool, true, false}

@@ -1,5 +1,5 @@
 -- Laws that belong to no one function; crates above cite those marked `pub mod`.
-pub mod Choosing
+pub mod LeastNode
 pub mod FirstNode
 pub mod FirstShown
 pub mod Ordering

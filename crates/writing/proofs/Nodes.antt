@@ -1,5 +1,5 @@
--- A node as the walk comes to it: the goal is proved, so a level is left and its role stands at a place; the node's two numbers are
--- followed by the records of what it asks, one after the other.
+-- A node as the walk comes to it: the goal is proved, so a level is left and its role stands at a place; the node's two numbers
+-- are followed by the records of what it asks, one after the other.
 use mathlib.Core.Path.{_≡_, refl, sym, ap, _∙_}
 use mathlib.Core.List.{List, [], _∷_, _++_, append-nil}
 use mathlib.Core.Bool.{true, false}
@@ -173,14 +173,16 @@ records t S A levels above s goals = written (firstForest t S A levels above s g
 module _ (t : List ℕ) (S A levels above : ℕ) (s : StateSets) (goals : List Goal) (k : ℕ) {from most next : ℕ} {before mid : List ℕ}
     (so-far : Walked from most (written (firstForest t S A levels above s (take k goals))) before mid next) where
   pub child-next : {next′ : ℕ} {after : List ℕ} (h : Goal) → k < length goals → h ≡ getD goals k noGoal → next ≤ most
-      → Walked next most (records t S A levels above s (h ∷ [])) mid after next′ → Walked from most (records t S A levels above s (take (k + 1) goals)) before after next′
+      → Walked next most (records t S A levels above s (h ∷ [])) mid after next′
+      → Walked from most (records t S A levels above s (take (k + 1) goals)) before after next′
   child-next h l is room on =
       rw (add-one k, take-suc goals k noGoal l, ← is, first-append t S A levels above s (take k goals) (h ∷ []))
       (walked-append so-far (records t S A levels above s (h ∷ [])) room on)
 
   pub child-beyond : most < next → Walked from most (records t S A levels above s goals) before mid next
   child-beyond over =
-      let all = sym (first-append t S A levels above s (take k goals) (drop k goals)) ∙ ap (records t S A levels above s) (take-append-drop k goals) in
+      let both = first-append t S A levels above s (take k goals) (drop k goals) in
+      let all = sym both ∙ ap (records t S A levels above s) (take-append-drop k goals) in
       rw all at (walked-beyond so-far (records t S A levels above s (drop k goals)) over)
 
   pub child-last : length goals ≤ k → Walked from most (records t S A levels above s goals) before mid next

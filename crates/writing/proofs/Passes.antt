@@ -9,17 +9,20 @@ use lib.ListN.{length}
 use Rattle.sorted.specs.Sorted.{laid}
 use Rattle.table.specs.Outcome.{Outcome}
 use Rattle.table.specs.Outcome.Outcome.{accepted, refused}
-use Rattle.table.specs.Checks.{requestOutcome}
+use Rattle.table.specs.Checks.{Valid, requestOutcome}
+use Rattle.table.specs.Holding.{WellFormed}
 use Rattle.table.specs.declared.Query.{Query}
 use Rattle.table.proofs.Stages.{refused-then, then-on}
 use Rattle.automata.specs.Together.{startingSets}
 use Rattle.derivation.specs.Rules.{goalOf}
 use Rattle.derivation.specs.Forest.{written}
 use Rattle.derivation.specs.Attached.{automataOf}
+use Rattle.search.specs.Search.{provable}
 use Rattle.listing.specs.Minimal.{isMinimal}
 use Rattle.writing.specs.First.{firstForest, firstRecord}
 use Rattle.writing.specs.Walked.{Walked}
 use Rattle.writing.specs.Writing.{Tells, filled, recordAfter, writing}
+use Rattle.writing.proofs.Firsts.{minimal-provable}
 use Rattle.writing.proofs.Fitting.{tells-longer, tells-written}
 use Rattle.writing.proofs.Walking.{over-laid}
 
@@ -34,9 +37,14 @@ pub passed-by : {at most next : ℕ} {numbers none : List ℕ} → Walked at mos
 passed-by {none = none} walked cells = none-before none cells (walked .size)
 
 -- what is told and held stands for what it is equal to
-pub tells-instead : (t : List ℕ) (q : Query) (S : ℕ) (before : List ℕ) {after after′ : List ℕ} {o o′ : Outcome} → o ≡ o′ → after ≡ after′
-    → Tells t q S before after′ o′ → Tells t q S before after o
+pub tells-instead : (t : List ℕ) (q : Query) (S : ℕ) (before : List ℕ) {after after′ : List ℕ} {o o′ : Outcome} → o ≡ o′
+    → after ≡ after′ → Tells t q S before after′ o′ → Tells t q S before after o
 tells-instead t q S before same held tells = rw (same, held) tells
+
+-- a minimal set proves the query under its automata, which the code holds as A
+pub proves-under : (t : List ℕ) → WellFormed t → (q : Query) → Valid q → (S A : ℕ) → A ≡ automataOf t S → isMinimal t q S ≡ true
+    → provable t q S A ≡ true
+proves-under t wf q valid S A imposed listed = rw imposed (minimal-provable t wf q valid S listed)
 
 -- with all automata of the set imposed, what is walked is the first record; there are as many cells as the most says
 module _ (t : List ℕ) (q : Query) (S A : ℕ) (imposed : A ≡ automataOf t S) (most : ℕ) where
@@ -47,7 +55,8 @@ module _ (t : List ℕ) (q : Query) (S A : ℕ) (imposed : A ≡ automataOf t S)
   unfolding firstRecord
   pass-whole counted room = rw (← imposed) (omega (arith, counted .whole room))
 
-  module _ (listed : isMinimal t q S ≡ true) {cells from to : List ℕ} (all : most ≡ length cells) {len : ℕ} (counted : Pass from to len) where
+  module _ (listed : isMinimal t q S ≡ true) {cells from to : List ℕ} (all : most ≡ length cells) {len : ℕ}
+      (counted : Pass from to len) where
     pub counted-longer : most < len → Tells t q S cells cells (refused 16 0)
     unfolding firstRecord
     counted-longer less =

@@ -1,6 +1,6 @@
--- docs/DEFINITION.md, "The first record": the first derivation, node by node. At each node the least credential that proves the goal,
--- and with it the least middle; then what it asks, in order. specs/Writes.antt states that this is the record that the definition
--- means.
+-- docs/DEFINITION.md, "The first record": the first derivation, node by node. At each node the least credential that proves the
+-- goal, and with it the least middle; then what it asks, in order. specs/Writes.antt states that this is the record that the
+-- definition means.
 use Prim.Native.Nat.{ℕ, zero, suc, _^_}
 use mathlib.Core.List.{List, [], _∷_}
 use lib.Bits.{bitOr}
@@ -22,8 +22,8 @@ unfoldable pub eachFirst : (Goal → Forest → Forest) → List Goal → Forest
 eachFirst one [] = end
 eachFirst one (g ∷ goals) = one g (eachFirst one goals)
 
--- where each of the goals is proved with so many levels left, below a branch on which roles stand at the places `above`, and on whose
--- words the automata have come to the state sets s
+-- where each of the goals is proved with so many levels left, below a branch on which roles stand at the places `above`, and on
+-- whose words the automata have come to the state sets s
 unfoldable pub firstForest : List ℕ → ℕ → ℕ → ℕ → ℕ → StateSets → List Goal → Forest
 firstForest t S A zero above s goals = end
 firstForest t S A (suc levels) above s goals =

@@ -1,5 +1,5 @@
--- What a walk over the nodes of a record leaves in the lent cells, and what it tells: the cell behind the record, or, where it stopped
--- since the record does not fit, a cell that lies beyond the most that there are.
+-- What a walk over the nodes of a record leaves in the lent cells, and what it tells: the cell behind the record, or, where it
+-- stopped since the record does not fit, a cell that lies beyond the most that there are.
 use Prim.Native.Nat.{ℕ, _+_, _<_, _≤_}
 use mathlib.Core.Path.{_≡_}
 use mathlib.Core.List.{List}

@@ -1,5 +1,5 @@
--- Ticket 1 in its words: from a table, a query and one set of its list, the accepted record that uses exactly that set and is first,
--- compared number by number, the smaller first. `verdict t q rec` and `writing t q S cells` are what the calls tell, and
+-- Ticket 1 in its words: from a table, a query and one set of its list, the accepted record that uses exactly that set and is
+-- first, compared number by number, the smaller first. `verdict t q rec` and `writing t q S cells` are what the calls tell, and
 -- `recordAfter t q S cells` is what the lent cells hold afterwards: the calls' contracts equate them.
 use Prim.Native.Nat.{ℕ, _<_, _≤_}
 use mathlib.Core.Path.{_≡_}

@@ -1,4 +1,5 @@
--- docs/DEFINITION.md, "The first record" and rows 15 and 16: what the writing call tells, and what the lent cells hold afterwards.
+-- docs/DEFINITION.md, "The first record" and rows 15 and 16: what the writing call tells, and what the lent cells hold
+-- afterwards.
 use Prim.Native.Nat.{ℕ}
 use mathlib.Core.Path.{_≡_}
 use mathlib.Core.List.{List}

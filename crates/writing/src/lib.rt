@@ -1,6 +1,6 @@
-// The holder's end, after the list: the first record of a listed set (docs/DEFINITION.md, "The first record"). It is walked twice, once
-// to count and once to write, so that a record that does not fit leaves every cell unchanged. specs/Writing.antt says what the answer
-// and the cells are; specs/Writes.antt states that this is the record that the definition means.
+// The holder's end, after the list: the first record of a listed set (docs/DEFINITION.md, "The first record"). It is walked
+// twice, once to count and once to write, so that a record that does not fit leaves every cell unchanged. specs/Writing.antt
+// says what the answer and the cells are; specs/Writes.antt states that this is the record that the definition means.
 mod walk; // walk.rt: the nodes of the record, in preorder
 
 use checks::QueryCheck;
@@ -27,8 +27,8 @@ pub enum Written {
     Refused(Refusal),
 }
 
-// Writes the accepted record that uses exactly the set and comes first, number by number: rows 1 to 8, then 15, 16 or the record, for
-// any table, query, set and cells. Cells beyond the record are unchanged, and on a refusal all are.
+// Writes the accepted record that uses exactly the set and comes first, number by number: rows 1 to 8, then 15, 16 or the
+// record, for any table, query, set and cells. Cells beyond the record are unchanged, and on a refusal all are.
 pub fn write(table: &[Number], query: Query, set: CredentialSet, rec: &mut [Number]) -> Written
     ensures { λ r. ⌜ (writtenTold r ≡ writing (now (table .entry)) query set (length (now (rec .entry))))
         × (now (rec .exit) ≡ recordAfter (now (table .entry)) query set (now (rec .entry))) ⌝ }
@@ -66,8 +66,8 @@ fn is_listed(table: &[Number], query: Query, index: &[u8], set: CredentialSet) -
     listing::is_minimal(table, query, index, set)
 }
 
-// Row 16, or the record. The length is known before the first cell is written: the record is walked without cells first, up to as many
-// numbers as there are cells.
+// Row 16, or the record. The length is known before the first cell is written: the record is walked without cells first, up to
+// as many numbers as there are cells.
 fn write_listed(
     table: &[Number],
     query: Query,

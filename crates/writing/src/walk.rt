@@ -1,5 +1,5 @@
-// The first record, node by node in preorder: a node's two numbers go into the cells, where there are any left, and then what the node
-// asks is walked in order. A walk stops as soon as it has more numbers than there is room for.
+// The first record, node by node in preorder: a node's two numbers go into the cells, where there are any left, and then what
+// the node asks is walked in order. A walk stops as soon as it has more numbers than there is room for.
 use automata::StateSets;
 use search::Terms;
 use sets::CredentialSet;
@@ -51,8 +51,8 @@ pub fn from_goal(
     )
 }
 
-// Walks the record of the principal at `person` in the role at `place`, which goes into the cells from `at` on, and tells the cell
-// behind it. Where that lies beyond `most`, the walk may have stopped before.
+// Walks the record of the principal at `person` in the role at `place`, which goes into the cells from `at` on, and tells the
+// cell behind it. Where that lies beyond `most`, the walk may have stopped before.
 fn walk(
     table: &[Number],
     index: &[u8],

@@ -1,4 +1,5 @@
--- `bwlchareg::bwlchareg_write` meets its contract: it tells what `write` answers, and leaves the cells as `write` does. Assumes nothing.
+-- `bwlchareg::bwlchareg_write` meets its contract: it tells what `write` answers, and leaves the cells as `write` does. Assumes
+-- nothing.
 use mathlib.Core.Path.{_≡_}
 use lib.ListN.{length}
 use borrow.Author.Needs.{needs}

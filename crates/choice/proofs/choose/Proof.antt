@@ -1,4 +1,5 @@
--- `choice::choose` meets its contract: the node of the least credential, with the least middle where it is of kind 3. Assumes nothing.
+-- `choice::choose` meets its contract: the node of the least credential, with the least middle where it is of kind 3. Assumes
+-- nothing.
 use mathlib.Core.Path.{_≡_, sym, ap, _∙_}
 use native.Mathlib.Numerals.{add-one}
 use native.Mathlib.Omega.{arith}
@@ -21,39 +22,50 @@ add-credential c = search needs
 credential-requires : tie.Need-credential-requires
 credential-requires c κs = search needs
 
+-- the place where the least credential has been read, and the one where the function was asked
+abbrev Read : Type 0
+Read = tie.After-credential
+
+abbrev asked : Read → tie.Start
+asked at = at .before .before .before .before .before
+
 parts-asked-requires : tie.Need-parts-asked-requires
 parts-asked-requires c κs =
-    let pre = c .before .before .before .before .before .before .before .pre in
-    let there = numbered (c .before .before .before .least-credential .ensures .0) in
-    (pre .0 .wellFormed, (whole _ (pre .0 .wellFormed) _ (rw (← add-one _) at there) _ (c .before .before .credential .ensures), c .if1 .taken))
+    let at = c .before .before in
+    let wf = asked at .pre .0 .wellFormed in
+    let there = numbered (at .before .least-credential .ensures .0) in
+    (wf, (whole _ wf _ (rw (← add-one _) at there) _ (at .credential .ensures), c .if1 .taken))
 
 unlinked-requires : tie.Need-unlinked-requires
 unlinked-requires c κs =
-    let pre = c .before .before .before .before .before .before .before .before .pre in
-    (pre .0 .indexed .placed, below-most (pre .0 .wellFormed) _ (c .before .before .before .before .least-credential .ensures .0))
+    let at = c .before .before .before in
+    let pre = asked at .pre in
+    (pre .0 .indexed .placed, below-most (pre .0 .wellFormed) _ (at .before .least-credential .ensures .0))
 
 returns : tie.Need-returns
 returns c =
-    let pre = c .before .before .before .before .before .before .before .before .before .pre in
-    let least = c .before .before .before .before .before .least-credential .ensures in
-    chosen-plain (pre .0) (pre .1 .0 .0) _ _ _ (least .0) (least .1) _ (c .before .before .before .before .credential .ensures) (c .before .before .if1 .taken) _
+    let at = c .before .before .before .before in
+    let pre = asked at .pre in
+    let least = at .before .least-credential .ensures in
+    chosen-plain (pre .0) (pre .1 .0 .0) _ _ _ (least .0) (least .1) _ (at .credential .ensures) (c .before .before .if1 .taken) _
     (c .before .parts-asked .ensures) _ (c .unlinked .ensures)
 
 least-middle-requires : tie.Need-least-middle-requires
 least-middle-requires c κs =
-    let pre = c .before .before .before .before .before .before .before .pre in
-    let least = c .before .before .before .least-credential .ensures in
-    let kind = ap (λ (x : Credential). x .kind) (as-read _ _ _ (c .before .before .credential .ensures)) in (
+    let at = c .before .before in
+    let pre = asked at .pre in
+    let least = at .before .least-credential .ensures in
+    let kind = ap (λ (x : Credential). x .kind) (as-read _ _ _ (at .credential .ensures)) in (
       pre .0,
       (
         (tried-at (pre .1 .0 .0) _ (least .0), sym kind ∙ c .if1 .left),
-        least-proved (pre .0) (pre .1 .0 .0) _ _ _ (least .0) (least .1) _ (c .before .before .credential .ensures),
+        least-proved (pre .0) (pre .1 .0 .0) _ _ _ (least .0) (least .1) _ (at .credential .ensures),
       ),
     )
 
 add-credential-2 : tie.Need-add-credential-2
 add-credential-2 c =
-    let wf = c .before .before .before .before .before .before .before .before .pre .0 .wellFormed in
+    let wf = asked (c .before .before .before) .pre .0 .wellFormed in
     record { fits = omega (arith, below-most wf _ (c .least-middle .ensures .there)) }
 
 credential-requires-2 : tie.Need-credential-requires-2
@@ -61,17 +73,18 @@ credential-requires-2 c κs = search needs
 
 linked-requires : tie.Need-linked-requires
 linked-requires c κs =
-    let wf = c .before .before .before .before .before .before .before .before .before .pre .0 .wellFormed in (
-      c .before .before .before .before .before .before .before .before .before .pre .0 .indexed .placed,
-      (below-most wf _ (c .before .before .before .before .before .least-credential .ensures .0), below-most wf _ (c .before .least-middle .ensures .there)),
-    )
+    let at = c .before .before .before .before in
+    let pre = asked at .pre .0 in
+    let i = below-most (pre .wellFormed) _ (at .before .least-credential .ensures .0) in
+    (pre .indexed .placed, (i, below-most (pre .wellFormed) _ (c .before .least-middle .ensures .there)))
 
 returns-2 : tie.Need-returns-2
 returns-2 c =
-    let pre = c .before .before .before .before .before .before .before .before .before .before .pre in
-    let least = c .before .before .before .before .before .before .least-credential .ensures in
-    chosen-with (pre .0) (pre .1 .0 .0) _ _ _ (least .0) (least .1) _ (c .before .before .before .before .before .credential .ensures) (c .before .before .before .if1 .left) _ (c .before .before .least-middle .ensures) _
-    (c .before .credential2 .ensures) _ (c .linked .ensures)
+    let at = c .before .before .before .before .before in
+    let pre = asked at .pre in
+    let least = at .before .least-credential .ensures in
+    chosen-with (pre .0) (pre .1 .0 .0) _ _ _ (least .0) (least .1) _ (at .credential .ensures) (c .before .before .before .if1 .left)
+    _ (c .before .before .least-middle .ensures) _ (c .before .credential2 .ensures) _ (c .linked .ensures)
 
 pub choose-spec : {M : Type 1} → statement M
 choose-spec =

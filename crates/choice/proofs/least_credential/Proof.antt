@@ -2,7 +2,7 @@
 use mathlib.Core.Path.{_≡_, refl}
 use mathlib.Core.Bool.{false}
 use mathlib.Core.Logic.{⊎-elim}
-use Prim.Native.Nat.{_-_, _<_, _≤_}
+use Prim.Native.Nat.{ℕ, _-_, _<_, _≤_}
 use native.Mathlib.Omega.{arith}
 use denote.Ref.{now}
 use Rattle.sets.specs.Logic.{anyBelow}
@@ -41,21 +41,30 @@ loop-holds c = (omega arith, refl)
 may-use-requires : tie.Need-may-use-requires Inv-loop μ-loop
 may-use-requires c κs = search needs
 
+-- the place behind the last credential that may be used, and the one where the function was asked
+abbrev Found : Type 0
+Found = tie.After-last-usable Inv-loop μ-loop
+
+abbrev asked : Found → tie.Start Inv-loop μ-loop
+asked at = at .before .before .before .before .before
+
+inside : (at : Found) (i : ℕ) → i < at .last-usable .result → i < credentials (now (asked at .args .table))
+inside at i l = omega (arith, l, at .last-usable .ensures .few, at .before .credentials .ensures .same)
+
 credential-search-requires : tie.Need-credential-search-requires Inv-loop μ-loop
 credential-search-requires c κs =
-    let pre = c .before .before .before .before .before .before .before .before .before .pre in (
-      pre .0,
-      tried-at (pre .1 .0 .0) _
-          (omega (arith, c .before .before .loop-test .taken, c .before .before .before .before .last-usable .ensures .few, c .before .before .before .before .before .credentials .ensures .same)),
-    )
+    let at = c .before .before .before .before in
+    let pre = asked at .pre in
+    (pre .0, tried-at (pre .1 .0 .0) _ (inside at _ (c .before .before .loop-test .taken)))
 
 returns : tie.Need-returns Inv-loop μ-loop
 returns c =
-    let pre = c .before .before .before .before .before .before .before .before .before .before .before .pre in
-    let inside : c .before .before .before .before .before .loop .i < credentials (now (c .before .before .before .before .before .before .before .before .before .before .before .args .table)) =
-    omega (arith, c .before .before .before .before .loop-test .taken, c .before .before .before .before .before .before .last-usable .ensures .few, c .before .before .before .before .before .before .before .credentials .ensures .same) in
-    chosen-here (pre .0 .indexed) (pre .1 .0 .0) (pre .1 .0 .1) _ _ _ _ inside (c .before .before .before .before .before .loop .inv .1)
-    (passes-here (pre .0 .indexed) (pre .1 .0 .0) (pre .1 .0 .1) _ _ inside _ _ (c .before .before .before .may-use .ensures) (c .before .before .if1 .taken)
+    let loop = c .before .before .before .before .before in
+    let pre = asked (loop .before) .pre in
+    let there = inside (loop .before) _ (c .before .before .before .before .loop-test .taken) in
+    let may-use = c .before .before .before .may-use .ensures in
+    chosen-here (pre .0 .indexed) (pre .1 .0 .0) (pre .1 .0 .1) _ _ _ _ there (loop .loop .inv .1)
+    (passes-here (pre .0 .indexed) (pre .1 .0 .0) (pre .1 .0 .1) _ _ there _ _ may-use (c .before .before .if1 .taken)
     (c .before .credential-search .ensures) (c .if2 .taken))
 
 add-i : tie.Need-add-i Inv-loop μ-loop
@@ -66,23 +75,26 @@ loop-less c = search needs
 
 loop-again : tie.Need-loop-again Inv-loop μ-loop
 loop-again c =
-    let pre = c .before .before .before .before .before .before .before .before .before .pre in
-    let so-far = c .before .before .before .loop .inv .1 in
-    let inside : c .before .before .before .loop .i < credentials (now (c .before .before .before .before .before .before .before .before .before .args .table)) =
-    omega (arith, c .before .before .loop-test .taken, c .before .before .before .before .last-usable .ensures .few, c .before .before .before .before .before .credentials .ensures .same) in
+    let loop = c .before .before .before in
+    let pre = asked (loop .before) .pre in
+    let so-far = loop .loop .inv .1 in
+    let next = c .before .before .loop-test .taken in
+    let there = inside (loop .before) _ next in
     let may-use = c .before .may-use .ensures in (
-      omega (arith, c .before .before .loop-test .taken),
-      ⊎-elim (λ way. next-unproved (pre .0 .indexed) (pre .1 .0 .0) (pre .1 .0 .1) _ _ inside _ _ may-use (way .0 .taken)
+      omega (arith, next),
+      ⊎-elim (λ way. next-unproved (pre .0 .indexed) (pre .1 .0 .0) (pre .1 .0 .1) _ _ there _ _ may-use (way .0 .taken)
           (way .1 .ensures) so-far (way .2 .left))
-          (λ way. next-unused (pre .0 .indexed) (pre .1 .0 .0) (pre .1 .0 .1) _ _ inside _ _ may-use so-far (way .left))
+          (λ way. next-unused (pre .0 .indexed) (pre .1 .0 .0) (pre .1 .0 .1) _ _ there _ _ may-use so-far (way .left))
           (c .if1 .came),
     )
 
 returns-2 : tie.Need-returns-2 Inv-loop μ-loop
 returns-2 c =
-    let pre = c .before .before .before .before .before .before .before .pre in
-    chosen-last (pre .0 .indexed) (pre .1 .0 .0) (pre .1 .0 .1) _ _ _ _ _ _ (c .before .before .before .credentials .ensures .same) (c .before .before .last-usable .ensures)
-    (omega (arith, c .loop-test .left, c .before .loop .inv .0)) (c .before .loop .inv .1) (pre .1 .1)
+    let at = c .before .before in
+    let pre = asked at .pre in
+    let loop = c .before .loop in
+    chosen-last (pre .0 .indexed) (pre .1 .0 .0) (pre .1 .0 .1) _ _ _ _ _ _ (at .before .credentials .ensures .same)
+    (at .last-usable .ensures) (omega (arith, c .loop-test .left, loop .inv .0)) (loop .inv .1) (pre .1 .1)
 
 pub least-credential-spec : {M : Type 1} → statement M
 least-credential-spec =

@@ -30,8 +30,10 @@ returns-2 c = sym (least-not _ _ (failed (c .before .admits .ensures) (c .if2 .t
 
 is-minimal-requires : tie.Need-is-minimal-requires
 is-minimal-requires c κs =
-    let few = below-all (now (c .before .before .before .before .before .before .args .table)) _ _ (c .before .before .before .credentials .ensures .same) (c .before .before .if1 .left) in
-    (c .before .before .before .before .before .before .pre, (few, passed (c .before .admits .ensures) (c .if2 .left)))
+    let at = c .before .before .before in
+    let start = at .before .before .before in
+    let few = below-all (now (start .args .table)) _ _ (at .credentials .ensures .same) (c .before .before .if1 .left) in
+    (start .pre, (few, passed (c .before .admits .ensures) (c .if2 .left)))
 
 returns-3 : tie.Need-returns-3
 returns-3 c = search needs

@@ -18,7 +18,8 @@ enum-told c = search needs
 write-checked-requires : tie.Need-write-checked-requires
 unfolding queryTold
 write-checked-requires c κs =
-    let both = request-accepted _ _ (sym (c .before .before .before .check-request .ensures) ∙ ap queryTold (c .before .enum-told .given .1)) in
+    let told = ap queryTold (c .before .enum-told .given .1) in
+    let both = request-accepted _ _ (sym (c .before .before .before .check-request .ensures) ∙ told) in
     (both .0, both .1)
 
 enum-known-why : tie.Need-enum-known-why
@@ -30,12 +31,16 @@ same-length c = search needs
 returns : tie.Need-returns
 unfolding queryTold
 returns c =
-    let accepts = sym (c .before .before .before .before .before .before .check-request .ensures) ∙ ap queryTold (c .before .before .before .before .enum-told .given .1) in
+    let at = c .before .before .before in
+    let told = ap queryTold (at .before .enum-told .given .1) in
+    let accepts = sym (at .before .before .before .check-request .ensures) ∙ told in
     written-past _ _ _ _ accepts (c .before .before .write-checked .ensures)
 
 returns-2 : tie.Need-returns-2
 unfolding queryTold writtenTold told
-returns-2 c = written-stopped _ _ _ _ (ap queryTold (sym (c .before .why .given .1)) ∙ c .before .before .before .check-request .ensures)
+returns-2 c =
+    let why = ap queryTold (sym (c .before .why .given .1)) in
+    written-stopped _ _ _ _ (why ∙ c .before .before .before .check-request .ensures)
 
 pub write-spec : {M : Type 1} → statement M
 write-spec =

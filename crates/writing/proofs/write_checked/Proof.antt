@@ -23,7 +23,8 @@ refused-requires c κs = search needs
 returns : tie.Need-returns
 unfolding numberOf
 returns c =
-    tells-instead _ _ _ _ (c .refused .ensures) refl (tells-unlisted _ _ _ _ (failed (c .before .before .is-listed .ensures) (c .before .if1 .taken)))
+    let off = failed (c .before .before .is-listed .ensures) (c .before .if1 .taken) in
+    tells-instead _ _ _ _ (c .refused .ensures) refl (tells-unlisted _ _ _ _ off)
 
 slice-aggregate-write-listed : tie.Need-slice-aggregate-write-listed
 slice-aggregate-write-listed c = search needs

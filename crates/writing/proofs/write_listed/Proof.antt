@@ -1,14 +1,16 @@
 -- `writing::write_listed` meets its contract: the record is walked without cells, and written where it fits. Assumes nothing.
-use mathlib.Core.Path.{refl, ap, _∙_}
-use Prim.Native.Nat.{_^_, _<_}
+use mathlib.Core.Path.{_≡_, refl, ap, _∙_}
+use mathlib.Core.Bool.{true}
+use mathlib.Core.List.{List}
+use Prim.Native.Nat.{ℕ, _^_, _<_}
 use native.Mathlib.Omega.{arith}
 use lib.ListN.{length, length-take}
 use denote.Ref.{now}
 use Rattle.derivation.proofs.Above.{depth-fits, depth-some}
 use Rattle.table.specs.Checks.{numberOf}
+use Rattle.search.specs.Search.{provable}
 use Rattle.writing.specs.Writing.{writtenTold}
-use Rattle.writing.proofs.Firsts.{minimal-provable}
-use Rattle.writing.proofs.Passes.{counted-longer, counted-written, passed-by, tells-instead}
+use Rattle.writing.proofs.Passes.{counted-longer, counted-written, passed-by, proves-under, tells-instead}
 use borrow.Author.Needs.{needs}
 use Rattle.writing.proofs.write_listed.Statement.{statement}
 use Rattle.writing.proofs.write_listed.Tie as tie
@@ -42,57 +44,71 @@ slice-relend-prefix-from-goal c = search needs
 slice-aggregate-from-goal-2 : tie.Need-slice-aggregate-from-goal-2
 slice-aggregate-from-goal-2 c = simp length-take (omega arith)
 
+-- the place before the first walk, and the one where the call was asked
+abbrev Ready : Type 0
+Ready = tie.After-from-goal-arg
+
+abbrev asked : Ready → tie.Start
+asked at = at .before .before .before .before .before .before .before .before .before .before
+
+abbrev cells : Ready → List ℕ
+cells at = now (asked at .args .rec)
+
 -- a slice is no longer than this
-room : (c : tie.After-from-goal-arg) → length (now (c .before .before .before .before .before .before .before .before .before .before .args .rec)) < 2 ^ 63
-room c = search needs
+room : (at : Ready) → length (cells at) < 2 ^ 63
+room at = search needs
+
+-- the set proves the query under its automata
+proves : (at : Ready) → let from = asked at .args in
+    provable (now (from .table)) (from .query) (from .set) (at .before .before .automata-of .result) ≡ true
+proves at =
+    let pre = asked at .pre in
+    proves-under _ (pre .0 .wellFormed) _ (pre .0 .valid) _ _ (at .before .before .automata-of .ensures) (pre .1)
 
 from-goal-requires : tie.Need-from-goal-requires
 from-goal-requires c κs =
-    let pre = c .before .before .before .before .before .before .before .before .before .before .pre in (
-      pre .0,
-      (
-        rw (c .before .before .before .before .before .before .wide .ensures .0) at (c .before .before .before .before .fill .ensures),
-        (rw (c .before .before .automata-of .ensures) (minimal-provable _ (pre .0 .wellFormed) _ (pre .0 .valid) _ (pre .1)), room c),
-      ),
-    )
+    let filled = c .before .before .before .before in
+    (asked c .pre .0, (rw (filled .before .before .wide .ensures .0) at (filled .fill .ensures), (proves c, room c)))
 
 refused-requires : tie.Need-refused-requires
 refused-requires c κs = search needs
 
 same-length : tie.Need-same-length
-same-length c = ap length (passed-by (c .before .before .before .before .from-goal .ensures) (now (c .before .before .before .before .before .before .before .before .before .before .before .before .before .before .before .args .rec)))
+same-length c =
+    let at = c .before .before .before .before .before in
+    ap length (passed-by (c .before .before .before .before .from-goal .ensures) (cells at))
 
 returns : tie.Need-returns
 unfolding numberOf
 returns c =
-    let pre = c .before .before .before .before .before .before .before .before .before .before .before .before .before .before .before .pre in
+    let at = c .before .before .before .before .before in
     let counted = c .before .before .before .before .from-goal .ensures in
-    tells-instead _ _ _ _ (c .refused .ensures) (passed-by counted _)
-    (counted-longer _ _ _ _ (c .before .before .before .before .before .before .before .automata-of .ensures) _ (pre .1) refl counted (c .before .if1 .taken))
+    tells-instead _ _ _ _ (c .refused .ensures) (passed-by counted (cells at))
+    (counted-longer _ _ _ _ (at .before .before .automata-of .ensures) _ (asked at .pre .1) refl counted (c .before .if1 .taken))
 
 slice-aggregate-from-goal-3 : tie.Need-slice-aggregate-from-goal-3
 slice-aggregate-from-goal-3 c = search needs
 
 from-goal-requires-2 : tie.Need-from-goal-requires-2
 from-goal-requires-2 c κs =
-    let pre = c .before .before .before .before .before .before .before .before .before .before .before .before .before .before .before .before .pre in (
-      pre .0,
-      (
-        rw (c .before .before .before .before .before .before .before .before .before .before .before .before .wide .ensures .0) at (c .before .before .before .before .before .before .before .before .before .before .fill .ensures),
-        (rw (c .before .before .before .before .before .before .before .before .automata-of .ensures) (minimal-provable _ (pre .0 .wellFormed) _ (pre .0 .valid) _ (pre .1)), room (c .before .before .before .before .before .before)),
-      ),
-    )
+    let at = c .before .before .before .before .before .before in
+    let filled = at .before .before .before .before in
+    (asked at .pre .0, (rw (filled .before .before .wide .ensures .0) at (filled .fill .ensures), (proves at, room at)))
 
 same-length-2 : tie.Need-same-length-2
-same-length-2 c = c .before .before .from-goal2 .ensures .size ∙ ap length (passed-by (c .before .before .before .before .before .before .before .before .from-goal .ensures) (now (c .before .before .before .before .before .before .before .before .before .before .before .before .before .before .before .before .before .before .before .args .rec)))
+same-length-2 c =
+    let at = c .before .before .before .before .before .before .before .before .before in
+    let counted = c .before .before .before .before .before .before .before .before .from-goal .ensures in
+    c .before .before .from-goal2 .ensures .size ∙ ap length (passed-by counted (cells at))
 
 returns-2 : tie.Need-returns-2
 unfolding writtenTold
 returns-2 c =
-    let pre = c .before .before .before .before .before .before .before .before .before .before .before .before .before .before .before .before .before .before .before .pre in
+    let at = c .before .before .before .before .before .before .before .before .before in
     let counted = c .before .before .before .before .before .before .before .before .from-goal .ensures in
-    counted-written _ _ _ _ (c .before .before .before .before .before .before .before .before .before .before .before .automata-of .ensures) _ (pre .1) refl counted (c .before .before .before .before .before .if1 .left)
-    (rw (passed-by counted (now (c .before .before .before .before .before .before .before .before .before .before .before .before .before .before .before .before .before .before .before .args .rec))) at (c .before .before .from-goal2 .ensures))
+    counted-written _ _ _ _ (at .before .before .automata-of .ensures) _ (asked at .pre .1) refl counted
+    (c .before .before .before .before .before .if1 .left)
+    (rw (passed-by counted (cells at)) at (c .before .before .from-goal2 .ensures))
 
 pub write-listed-spec : {M : Type 1} → statement M
 write-listed-spec =

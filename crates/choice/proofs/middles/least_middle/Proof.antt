@@ -1,11 +1,12 @@
--- `choice::middles::least_middle` meets its contract: every middle with which the credential proves its goal is among those that are
--- left, so that the last one left is one. Assumes nothing.
+-- `choice::middles::least_middle` meets its contract: every middle with which the credential proves its goal is among those
+-- that are left, so that the last one left is one. Assumes nothing.
 use mathlib.Core.Path.{_≡_, sym, _∙_}
 use native.Mathlib.Omega.{arith}
 use Rattle.sets.proofs.Members.{one-bit}
 use Rattle.search.proofs.Placing.{row-fits}
 use Rattle.choice.specs.Choice.{leads}
-use Rattle.choice.proofs.Linking.{MiddlesLeft, least-leads, left-first, left-less, left-next, left-some, only-leads, some-leads, some-least}
+use Rattle.choice.proofs.Linking.{MiddlesLeft, least-leads, left-first, left-less, left-next, left-some, only-leads}
+use Rattle.choice.proofs.Linking.{some-leads, some-least}
 use borrow.Author.Needs.{needs}
 use Rattle.choice.proofs.middles.least_middle.Statement.{statement}
 use Rattle.choice.proofs.middles.least_middle.Tie as tie
@@ -55,7 +56,8 @@ leads-on-requires c κs =
 
 returns : tie.Need-returns Inv-loop μ-loop
 returns c =
-    least-leads _ _ _ (c .before .before .before .before .loop .inv) _ (c .before .before .least-named .ensures) (sym (c .before .leads-on .ensures) ∙ c .if1 .taken)
+    let on = sym (c .before .leads-on .ensures) ∙ c .if1 .taken in
+    least-leads _ _ _ (c .before .before .before .before .loop .inv) _ (c .before .before .least-named .ensures) on
 
 cast-left : tie.Need-cast-left Inv-loop μ-loop
 cast-left c = search needs

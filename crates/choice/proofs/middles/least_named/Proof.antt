@@ -36,9 +36,11 @@ loop-less c = search needs
 
 loop-again : tie.Need-loop-again Inv-loop μ-loop
 loop-again c =
-    let so-far = c .before .before .before .loop .inv .1 in
+    let loop = c .before .before .before in
+    let so-far = loop .loop .inv .1 in
     let has = sym (c .before .has .ensures) in
-    let there : c .before .before .before .loop .j < credentials (now (c .before .before .before .before .before .before .args .table)) = omega (arith, c .before .before .loop-test .taken, c .before .before .before .before .credentials .ensures .same) in (
+    let there : loop .loop .j < credentials (now (loop .before .before .before .args .table)) =
+    omega (arith, c .before .before .loop-test .taken, loop .before .credentials .ensures .same) in (
       omega arith,
       ⊎-elim (λ w. rw (w .3) (named-here _ _ _ _ so-far there (has ∙ w .0 .taken) (sym (w .1 .ensures) ∙ w .2 .taken)))
           (⊎-elim (λ w. rw (w .3) (named-kept _ _ _ _ so-far (sym (w .1 .ensures) ∙ w .2 .left)))
@@ -49,8 +51,8 @@ returns : tie.Need-returns Inv-loop μ-loop
 returns c =
     let loop = c .before .loop in
     let pre = c .before .before .before .before .pre in
-    named-all _ _ _ _ (omega (arith, loop .inv .0, c .loop-test .left, c .before .before .credentials .ensures .same)) (loop .inv .1) (pre .1 .0)
-    (pre .1 .1)
+    let all = c .before .before .credentials .ensures .same in
+    named-all _ _ _ _ (omega (arith, loop .inv .0, c .loop-test .left, all)) (loop .inv .1) (pre .1 .0) (pre .1 .1)
 
 pub least-named-spec : {M : Type 1} → statement M
 least-named-spec =

@@ -34,12 +34,13 @@ link-cell-requires c κs = search needs
 
 is-middle-requires : tie.Need-is-middle-requires Inv-loop μ-loop
 is-middle-requires c κs =
-    let pre = c .before .before .before .before .before .before .before .before .pre in
-    let all = c .before .before .before .before .credentials .ensures .same in
-    let there : c .before .before .loop .j < credentials (now (c .before .before .before .before .before .before .before .before .args .table)) = omega (arith, c .before .loop-test .taken, all) in (
-      pre .0,
-      (pre .1 .0, (pre .1 .1 .0, ((pre .1 .1 .1 .0, there), (c .before .before .before .asked-cell .ensures .1, c .link-cell .ensures .1)))),
-    )
+    let loop = c .before .before in
+    let start = loop .before .before .before .before .before .before in
+    let pre = start .pre in
+    let there : loop .loop .j < credentials (now (start .args .table)) =
+    omega (arith, c .before .loop-test .taken, loop .before .before .credentials .ensures .same) in
+    let first = loop .before .asked-cell .ensures .1 in
+    (pre .0, (pre .1 .0, (pre .1 .1 .0, ((pre .1 .1 .1 .0, there), (first, c .link-cell .ensures .1)))))
 
 with-requires : tie.Need-with-requires Inv-loop μ-loop
 with-requires c κs = search needs

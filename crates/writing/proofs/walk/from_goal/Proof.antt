@@ -17,16 +17,25 @@ wide-requires c κs = search needs
 start-requires : tie.Need-start-requires
 start-requires c κs = search needs
 
+-- the place where all that the walk begins with has been read, and the one where the call was asked
+abbrev Ready : Type 0
+Ready = tie.After-start
+
+abbrev asked : Ready → tie.Start
+asked at = at .before .before .before .before .before .before .before .before
+
 walk-requires : tie.Need-walk-requires
 walk-requires c κs =
-    let pre = c .before .before .before .before .before .before .before .before .before .pre in
-    let who = c .before .before .before .before .goal-person .ensures .0 in
-    let place = c .before .before .before .goal-role .ensures .0 in (
-      record { wellFormed = pre .0 .wellFormed; indexed = pre .0 .indexed; members = rw (c .before .before .wide .ensures .0) (pre .1 .0) },
+    let at = c .before in
+    let pre = asked at .pre in
+    let who = at .before .before .before .goal-person .ensures .0 in
+    let place = at .before .before .goal-role .ensures .0 in
+    let levels = at .before .wide .ensures .0 in (
+      record { wellFormed = pre .0 .wellFormed; indexed = pre .0 .indexed; members = rw levels (pre .1 .0) },
       (
         begins-stands (pre .0) (pre .1 .0) _ (pre .1 .1 .0) who place,
         (
-          begins-proved (pre .0) (pre .1 .0) _ (pre .1 .1 .0) who place _ _ (c .before .before .wide .ensures .0) (c .before .start .ensures),
+          begins-proved (pre .0) (pre .1 .0) _ (pre .1 .1 .0) who place _ _ levels (at .start .ensures),
           (omega arith, pre .1 .1 .1),
         ),
       ),
@@ -37,9 +46,12 @@ same-length c = search needs
 
 returns : tie.Need-returns
 returns c =
-    let pre = c .before .before .before .before .before .before .before .before .before .before .before .before .pre in
-    begins-walked (pre .0) (pre .1 .0) _ (pre .1 .1 .0) (c .before .before .before .before .before .before .before .goal-person .ensures .0) (c .before .before .before .before .before .before .goal-role .ensures .0) _ _ (c .before .before .before .before .before .wide .ensures .0)
-    (c .before .before .before .before .start .ensures) _ _ _ _ (c .before .before .walk .ensures)
+    let at = c .before .before .before .before in
+    let pre = asked at .pre in
+    let who = at .before .before .before .goal-person .ensures .0 in
+    let place = at .before .before .goal-role .ensures .0 in
+    begins-walked (pre .0) (pre .1 .0) _ (pre .1 .1 .0) who place _ _ (at .before .wide .ensures .0) (at .start .ensures) _ _ _ _
+    (c .before .before .walk .ensures)
 
 pub from-goal-spec : {M : Type 1} → statement M
 from-goal-spec =

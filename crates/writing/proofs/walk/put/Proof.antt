@@ -23,7 +23,9 @@ mul-rec-2 : tie.Need-mul-rec-2
 mul-rec-2 c = search needs
 
 slice-write-rec-2 : tie.Need-slice-write-rec-2
-slice-write-rec-2 c = omega (arith, c .if1 .taken, length-set (now (c .before .args .rec)) (c .before .args .at) (c .before .args .credential))
+slice-write-rec-2 c =
+    let from = c .before .args in
+    omega (arith, c .if1 .taken, length-set (now (from .rec)) (from .at) (from .credential))
 
 same-length : tie.Need-same-length
 same-length c = search needs
