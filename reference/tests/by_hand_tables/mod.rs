@@ -1,0 +1,89 @@
+//! Small tables that are written down by hand, of which several tests ask.
+#![allow(dead_code)] // each test uses a part
+
+use reference::records::{CellRecord, CredentialRecord, EdgeRecord, Records};
+use reference::Query;
+
+/// The roles of the tables below: Gate.1 is asked for, mostly for principal 9.
+pub const G: [u16; 2] = [1, 1];
+pub const A: [u16; 2] = [1, 2];
+pub const B: [u16; 2] = [1, 3];
+pub const C: [u16; 2] = [1, 4];
+pub const D: [u16; 2] = [1, 5];
+
+/// Principal 9 in Gate.1, as deep as can be.
+pub const ASKED: Query = Query {
+    principal: 9,
+    owner: 1,
+    name: 1,
+    depth: 16,
+};
+
+/// A credential that defines a role, of kind 1, 2 or 4, or of kind 3.
+pub fn member(role: [u16; 2], principal: u16) -> CredentialRecord {
+    [role[0], role[1], 1, principal, 0, 0]
+}
+
+pub fn from(role: [u16; 2], other: [u16; 2]) -> CredentialRecord {
+    [role[0], role[1], 2, other[0], other[1], 0]
+}
+
+pub fn linked(role: [u16; 2], first: u16, second: u16) -> CredentialRecord {
+    [role[0], role[1], 3, first, second, 0]
+}
+
+pub fn in_every(role: [u16; 2], cell: u16) -> CredentialRecord {
+    [role[0], role[1], 4, cell, 0, 0]
+}
+
+/// The same credential with automaton 1.
+pub fn kept(mut credential: CredentialRecord) -> CredentialRecord {
+    credential[5] = 1;
+    credential
+}
+
+/// An edge of automaton 1 on exactly a role, on every role, on all but one.
+pub fn on(from: u16, role: [u16; 2], to: u16) -> EdgeRecord {
+    [1, from, 1, role[0], role[1], to]
+}
+
+pub fn on_every(from: u16, to: u16) -> EdgeRecord {
+    [1, from, 2, 0, 0, to]
+}
+
+pub fn on_all_but(from: u16, role: [u16; 2], to: u16) -> EdgeRecord {
+    [1, from, 3, role[0], role[1], to]
+}
+
+/// The cells of a chain that begins at cell 1.
+pub fn chain(roles: &[[u16; 2]]) -> Vec<CellRecord> {
+    let nexts = (2..=roles.len() as u16).chain([0]);
+    let cells = roles.iter().zip(nexts);
+    cells.map(|(role, next)| [role[0], role[1], next]).collect()
+}
+
+/// The table with these records, and with automaton 1 if it has edges: it
+/// starts in state 0 and accepts in these states.
+pub fn table(
+    credentials: &[CredentialRecord],
+    parts: &[CellRecord],
+    accepting: u16,
+    edges: &[EdgeRecord],
+) -> Vec<u16> {
+    let automata = match edges {
+        [] => vec![],
+        _ => vec![[1, accepting]],
+    };
+    let records = Records {
+        credentials: credentials.to_vec(),
+        cells: parts.to_vec(),
+        automata,
+        edges: edges.to_vec(),
+    };
+    records.numbers()
+}
+
+/// The table with these credentials alone.
+pub fn plain(credentials: &[CredentialRecord]) -> Vec<u16> {
+    table(credentials, &[], 0, &[])
+}
