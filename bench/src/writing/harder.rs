@@ -2,12 +2,12 @@
 //! a link several middles, of which those with the least numbers fail at some
 //! places of the derivation and are needed at others.
 
-use reference::generate::shapes::{self, MEMBER, OWNER};
+use reference::generate::shapes::{self, from_records as wallet, GOAL, MEMBER, OWNER};
 use reference::generate::wallets::Wallet;
 use reference::query::Query;
 use reference::records::CredentialRecord;
 
-use super::parts::{add_tree, chain, wallet, Tree, GOAL};
+use super::parts::{add_tree, chain, Tree};
 use crate::families::{growing, Named};
 
 /// Of the tables on which the list is timed, those of which a record is written

@@ -1,12 +1,7 @@
 //! What the tables of this part of the benchmark are made of.
 
-use reference::generate::shapes::{MEMBER, OWNER};
-use reference::generate::wallets::Wallet;
-use reference::query::{Query, DEEPEST};
-use reference::records::{CellRecord, CredentialRecord, Records};
-
-/// The name of the role that is asked about.
-pub const GOAL: u16 = 1;
+use reference::generate::shapes::OWNER;
+use reference::records::{CellRecord, Records};
 
 /// How many roles each level of a tree has below the first, and how many times
 /// a chain names each of the next level's.
@@ -48,22 +43,4 @@ pub fn chain(cell: u16, names: &[u16]) -> Vec<CellRecord> {
     cells
         .map(|(&name, cell)| [OWNER, name, next(cell)])
         .collect()
-}
-
-/// The table with these records and no automata, and the query for the member
-/// in the owner's first role.
-pub fn wallet(credentials: Vec<CredentialRecord>, cells: Vec<CellRecord>) -> Wallet {
-    let records = Records {
-        credentials,
-        cells,
-        automata: Vec::new(),
-        edges: Vec::new(),
-    };
-    let query = Query {
-        principal: MEMBER,
-        owner: OWNER,
-        name: GOAL,
-        depth: DEEPEST,
-    };
-    Wallet { records, query }
 }

@@ -1,12 +1,12 @@
 //! Tables with one derivation each, of 1, about 10, about 1,000 and about
 //! 100,000 nodes: each role has one definer, and each link one middle.
 
-use reference::generate::shapes::{self, Way, MEMBER};
+use reference::generate::shapes::{self, from_records as wallet, Way, GOAL, MEMBER};
 use reference::generate::wallets::Wallet;
 use reference::records::{EdgeRecord, Head};
 use reference::table::LAST_STATE;
 
-use super::parts::{add_tree, wallet, Tree, GOAL};
+use super::parts::{add_tree, Tree};
 use crate::families::Named;
 
 /// The tables, the shortest records first.

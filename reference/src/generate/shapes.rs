@@ -12,9 +12,10 @@ use crate::sorts::HIGHEST;
 
 /// Who is asked about.
 pub const MEMBER: u16 = HIGHEST;
-/// Who owns the role that is asked about, and its name.
+/// Who owns the role that is asked about.
 pub const OWNER: u16 = 1;
-const GOAL: u16 = 1;
+/// The name of that role.
+pub const GOAL: u16 = 1;
 
 /// Where the chain's credential stands among those that define its parts.
 #[derive(Clone, Copy, Debug, PartialEq, Eq)]
@@ -175,9 +176,9 @@ fn chain(cell: u16, name: u16, parts: u16) -> impl Iterator<Item = CellRecord> {
     })
 }
 
-/// The table with these records, and the query for the member in the goal's
-/// role.
-fn from_records(credentials: Vec<CredentialRecord>, cells: Vec<CellRecord>) -> Wallet {
+/// The table with these records and no automata, and the query for the member
+/// in the goal's role, the owner's first.
+pub fn from_records(credentials: Vec<CredentialRecord>, cells: Vec<CellRecord>) -> Wallet {
     let records = Records {
         credentials,
         cells,
