@@ -2,6 +2,7 @@
 use mathlib.Core.Path.{_≡_, refl}
 use mathlib.Core.Bool.{Bool, true, false, not}
 use Prim.Native.Nat.{ℕ, _-_}
+use lib.Dec.{eqb}
 use lib.ListN.{getD}
 use borrow.Author.Tests.{eq-eqb, ne-eqb}
 use Rattle.sets.specs.Logic.{_and_, pick}
@@ -26,9 +27,14 @@ module _ (e : Edge) (r : Role) where
   unfolding matches pick
   label-3 h = rw h
 
-  pub label-none : (e .label ≡ 1 → ⊥) → (e .label ≡ 2 → ⊥) → (e .label ≡ 3 → ⊥) → matches e r ≡ false
+  pub label-4 : e .label ≡ 4 → matches e r ≡ eqb (e .role .owner .0) (r .owner .0)
   unfolding matches pick
-  label-none h1 h2 h3 = rw (ne-eqb (e .label) 1 h1, ne-eqb (e .label) 2 h2, ne-eqb (e .label) 3 h3)
+  label-4 h = rw h
+
+  pub label-none : (e .label ≡ 1 → ⊥) → (e .label ≡ 2 → ⊥) → (e .label ≡ 3 → ⊥) → (e .label ≡ 4 → ⊥) → matches e r ≡ false
+  unfolding matches pick
+  label-none h1 h2 h3 h4 =
+      rw (ne-eqb (e .label) 1 h1, ne-eqb (e .label) 2 h2, ne-eqb (e .label) 3 h3, ne-eqb (e .label) 4 h4)
 
 -- an edge, judged by its own automaton's set: the code has read the automaton's number as w, and the from state as s
 module _ (from : StateSets) (r : Role) (e : Edge) {w s : ℕ} (read : w ≡ e .automaton) (from-state : s ≡ e .from) where

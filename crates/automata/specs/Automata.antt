@@ -12,12 +12,13 @@ use Rattle.table.specs.declared.Role.{Role}
 use Rattle.table.specs.declared.Edge.{Edge}
 use Rattle.sets.specs.Sets.{inSet, meets}
 
--- label 1 matches exactly that role, label 2 every role, label 3 every role but that one
+-- label 1 matches exactly that role, label 2 every role, label 3 every role but that one, label 4 every role of that owner
 unfoldable pub matches : Edge → Role → Bool
 matches e r =
     pick (eqb (e .label) 1) (sameRole (e .role) r)
     (pick (eqb (e .label) 2) true
-    (pick (eqb (e .label) 3) (not (sameRole (e .role) r)) false))
+    (pick (eqb (e .label) 3) (not (sameRole (e .role) r))
+    (pick (eqb (e .label) 4) (eqb (e .role .owner .0) (r .owner .0)) false)))
 
 -- the edge leads automaton k on from the set x along the role
 unfoldable pub leads : ℕ → Role → ℕ → Edge → Bool

@@ -6,6 +6,7 @@ use table::EVERY_ROLE;
 use table::Edge;
 use table::Number;
 use table::OTHER_ROLES;
+use table::ROLES_OF_OWNER;
 use table::Role;
 use table::THIS_ROLE;
 use table::layout;
@@ -101,6 +102,7 @@ fn edge_matches(edge: Edge, role: Role) -> bool
         THIS_ROLE => edge.role.same(role),
         EVERY_ROLE => true,
         OTHER_ROLES => !edge.role.same(role),
+        ROLES_OF_OWNER => edge.role.owner.0 == role.owner.0,
         _ => false,
     }
 }

@@ -9,6 +9,7 @@ use table::Name;
 use table::Number;
 use table::OTHER_ROLES;
 use table::Principal;
+use table::ROLES_OF_OWNER;
 use table::Role;
 use table::SIMPLE_CONTAINMENT;
 use table::SIMPLE_MEMBERSHIP;
@@ -73,7 +74,7 @@ pub fn cell_ok(c: Cell, j: usize, cells: usize) -> bool
     is_role(c.role) && (next == 0 || (j < next && next <= cells))
 }
 
-// Whether the label is one of the three, with a role where it names one and zeros where it names none.
+// Whether the label is one of the four, with a role or an owner where it names one, and zeros where it names none.
 pub fn label_ok(label: Number, role: Role) -> bool
     ensures { λ r. ⌜ r ≡ Checks.labelOk label role ⌝ }
 {
@@ -81,6 +82,7 @@ pub fn label_ok(label: Number, role: Role) -> bool
         THIS_ROLE => is_role(role),
         EVERY_ROLE => role.owner.0 == 0 && role.name.0 == 0,
         OTHER_ROLES => is_role(role),
+        ROLES_OF_OWNER => is_principal(role.owner) && role.name.0 == 0,
         _ => false,
     }
 }

@@ -44,6 +44,10 @@ module _ (label : ℕ) (r : Role) where
   unfolding labelOk pick
   label-3 h = rw h
 
-  pub label-none : (label ≡ 1 → ⊥) → (label ≡ 2 → ⊥) → (label ≡ 3 → ⊥) → labelOk label r ≡ false
+  pub label-4 : label ≡ 4 → labelOk label r ≡ (isPrincipal (r .owner) and eqb (r .name .0) 0)
   unfolding labelOk pick
-  label-none h1 h2 h3 = rw (ne-eqb label 1 h1, ne-eqb label 2 h2, ne-eqb label 3 h3)
+  label-4 h = rw h
+
+  pub label-none : (label ≡ 1 → ⊥) → (label ≡ 2 → ⊥) → (label ≡ 3 → ⊥) → (label ≡ 4 → ⊥) → labelOk label r ≡ false
+  unfolding labelOk pick
+  label-none h1 h2 h3 h4 = rw (ne-eqb label 1 h1, ne-eqb label 2 h2, ne-eqb label 3 h3, ne-eqb label 4 h4)

@@ -58,12 +58,13 @@ cellOk q j c = isRole (c .role) and (eqb (c .next) 0 or ltb j (c .next) and leb 
 unfoldable pub chainOk : List ℕ → ℕ → Bool
 chainOk t first = within leastParts mostParts (length (chain t first))
 
--- labels 1 and 3 name a role; label 2 has owner and name both 0
+-- labels 1 and 3 name a role; label 2 has owner and name both 0; label 4 names an owner, and its name is 0
 unfoldable pub labelOk : ℕ → Role → Bool
 labelOk label r =
     pick (eqb label 1) (isRole r)
     (pick (eqb label 2) (eqb (r .owner .0) 0 and eqb (r .name .0) 0)
-    (pick (eqb label 3) (isRole r) false))
+    (pick (eqb label 3) (isRole r)
+    (pick (eqb label 4) (isPrincipal (r .owner) and eqb (r .name .0) 0) false)))
 
 unfoldable pub edgeOk : ℕ → Edge → Bool
 edgeOk a e =

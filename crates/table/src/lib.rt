@@ -86,12 +86,14 @@ pub struct Edge {
     pub to: Number,
 }
 
-// The labels of an edge: exactly its role, every role, every role but its own.
+// The labels of an edge: exactly its role, every role, every role but its own, every role of its owner.
 pub const THIS_ROLE: Number = 1;
 
 pub const EVERY_ROLE: Number = 2;
 
 pub const OTHER_ROLES: Number = 3;
+
+pub const ROLES_OF_OWNER: Number = 4;
 
 // Why an input is stopped, in the order of docs/DEFINITION.md, "Where each input is stopped".
 pub enum Reason {

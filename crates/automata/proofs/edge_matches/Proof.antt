@@ -2,7 +2,7 @@
 use mathlib.Core.Bool.{not}
 use mathlib.Core.Path.{_∙_, ap, sym}
 use borrow.Author.Needs.{needs}
-use Rattle.automata.proofs.Labels.{label-1, label-2, label-3, label-none}
+use Rattle.automata.proofs.Labels.{label-1, label-2, label-3, label-4, label-none}
 use Rattle.automata.proofs.edge_matches.Statement.{statement}
 use Rattle.automata.proofs.edge_matches.Tie as tie
 
@@ -22,8 +22,11 @@ returns-3 : tie.Need-returns-3
 returns-3 c = ap not (c .same2 .ensures) ∙ sym (label-3 _ _ (c .before .match .keys3))
 
 returns-4 : tie.Need-returns-4
-returns-4 c = let no = c .match .rest in sym (label-none _ _ (no .0 .0 .1) (no .0 .1) (no .1))
+returns-4 c = sym (label-4 _ _ (c .before .before .match .keys4))
+
+returns-5 : tie.Need-returns-5
+returns-5 c = let no = c .match .rest in sym (label-none _ _ (no .0 .0 .0 .1) (no .0 .0 .1) (no .0 .1) (no .1))
 
 pub edge-matches-spec : {M : Type 1} → statement M
 edge-matches-spec =
-    tie.close (tie.spec same-requires same-requires-2 returns returns-2 returns-3 returns-4)
+    tie.close (tie.spec same-requires same-requires-2 returns returns-2 returns-3 returns-4 returns-5)
