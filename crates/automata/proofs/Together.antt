@@ -6,11 +6,11 @@ use mathlib.Core.Bool.{Bool, true, false}
 use Prim.Native.Nat.{ℕ, suc, _+_, _-_, _^_, _≤_, _<_}
 use native.Mathlib.Omega.{arith}
 use native.Mathlib.Numerals.{add-one, sub-one}
-use native.Mathlib.Decide.{ℕ-discrete}
-use lib.ListN.{length, getD, set, replicate, length-set, getD-replicate}
+use native.Mathlib.Decide.{decLt, ℕ-discrete}
+use lib.ListN.{length, getD, set, replicate, length-set, getD-replicate, List·getD-eq-default}
 use lib.Seq.{getD-set-same, getD-set-other}
 use lib.Bits.{bitAnd, bitOr}
-use lib.Dec.{ltb}
+use lib.Dec.{eqb, ltb}
 use borrow.Author.Tests.{eq-eqb, ne-eqb, lt-ltb, le-ltb, le-leb}
 use Rattle.sets.specs.Logic.{_and_, pick}
 use Rattle.table.specs.Limits.{lastState, mostAutomata}
@@ -24,11 +24,13 @@ use Rattle.table.specs.declared.Automaton.{Automaton}
 use Rattle.table.specs.declared.Edge.{Edge}
 use Rattle.sets.specs.Sets.{meets, setOf}
 use Rattle.automata.specs.Automata.{acceptsFrom, leads, moved, movedBy}
-use Rattle.automata.specs.Together.{acceptingSet, movedSets, withEdge}
+use Rattle.automata.specs.Together.{acceptingSet, deadSet, movedOn, movedSets, withEdge}
 use Rattle.automata.specs.Automata.{starting}
-use Rattle.automata.specs.Together.{startingSets, together}
+use Rattle.automata.specs.Together.{each, startingSets, together}
+use Rattle.automata.specs.declared.Moved.{Moved}
 use Rattle.automata.specs.declared.StateSets.{StateSets}
-use Rattle.automata.proofs.Each.{each-ext}
+use Rattle.automata.proofs.Each.{each-at, each-ext, each-length}
+use Rattle.automata.proofs.Moves.{moved-empty}
 use Rattle.sets.proofs.Members.{ltb-next}
 
 -- the sets of the first k automata are their starting sets, and the others are empty
@@ -168,6 +170,35 @@ moving-all t r from n next all m = ap (λ (x : List ℕ). record { sets = x }) (
   where
     at : (j : ℕ) → j < mostAutomata → getD (next .sets) j 0 ≡ movedBy t (suc j) r (getD (from .sets) (suc j - 1) 0) (edges t)
     at j h = rw (sub-one, ← all) (m .here j h)
+
+-- the moved sets with what is dead in them
+pub dead-told : (t : List ℕ) (r : Role) (s : StateSets) {next : StateSets} {dead : ℕ} → next ≡ movedSets t r s
+    → dead ≡ deadSet t next → record { states = next; dead = dead } ≡ movedOn t r s
+unfolding movedOn
+dead-told t r s moves told = rw (told, moves)
+
+pub states-moved : (t : List ℕ) (r : Role) (s : StateSets) {x : Moved} → x ≡ movedOn t r s → x .states ≡ movedSets t r s
+unfolding movedOn
+states-moved t r s told = ap (λ (y : Moved). y .states) told
+
+-- a set that is empty stays empty, and beyond the eight there is none
+pub empty-moved : (t : List ℕ) (r : Role) (s : StateSets) (k : ℕ) → getD (s .sets) k 0 ≡ 0
+    → getD (movedSets t r s .sets) k 0 ≡ 0
+unfolding movedSets together
+empty-moved t r s k empty = go (decLt k mostAutomata)
+  where
+    one : ℕ → ℕ
+    one j = moved t j r (getD (s .sets) (j - 1) 0)
+
+    go : Dec (k < mostAutomata) → getD (each one mostAutomata) k 0 ≡ 0
+    go (yes there) =
+        each-at one mostAutomata k there ∙ ap (moved t (suc k) r) (rw (sub-one (suc k)) empty) ∙ moved-empty t (suc k) r
+    go (no beyond) =
+        List·getD-eq-default (each one mostAutomata) 0 (omega (arith, each-length one mostAutomata))
+
+-- automaton k + 1 has no state
+abbrev pub isEmpty : StateSets → ℕ → Bool
+isEmpty s k = eqb (getD (s .sets) k 0) 0
 
 -- the automata among the first k that accept
 module _ (t : List ℕ) (s : StateSets) where

@@ -4,6 +4,7 @@ use Prim.Native.Nat.{ℕ, zero, suc, _-_, _^_}
 use mathlib.Core.List.{List, [], _∷_, _++_}
 use lib.ListN.{getD, set}
 use lib.Bits.{bitOr}
+use lib.Dec.{eqb}
 use Rattle.sets.specs.Logic.{pick}
 use Rattle.table.specs.Limits.{mostAutomata}
 use Rattle.table.specs.Layout.{automata}
@@ -11,6 +12,7 @@ use Rattle.table.specs.declared.Role.{Role}
 use Rattle.table.specs.declared.Edge.{Edge}
 use Rattle.sets.specs.Sets.{setOf}
 use Rattle.automata.specs.Automata.{acceptsFrom, leads, moved, starting}
+use Rattle.automata.specs.declared.Moved.{Moved}
 use Rattle.automata.specs.declared.StateSets.{StateSets}
 
 -- f 1, f 2, up to f n
@@ -31,6 +33,14 @@ startingSets t = together (starting t)
 
 unfoldable pub movedSets : List ℕ → Role → StateSets → StateSets
 movedSets t r s = together (λ k. moved t k r (setFor s k))
+
+-- the automata that are dead, which is our word: those that the table has and whose set is empty; automaton k counts 2^(k-1)
+unfoldable pub deadSet : List ℕ → StateSets → ℕ
+deadSet t s = setOf (λ k. eqb (getD (s .sets) k 0) 0) (automata t)
+
+-- the moved sets, and the automata that are dead in them
+unfoldable pub movedOn : List ℕ → Role → StateSets → Moved
+movedOn t r s = let next = movedSets t r s in record { states = next; dead = deadSet t next }
 
 -- the automata that accept where their sets are: automaton k counts 2^(k-1)
 unfoldable pub acceptingSet : List ℕ → StateSets → ℕ

@@ -16,7 +16,7 @@ ghost use Rattle.table.specs.Limits.{lastState, mostAutomata};
 ghost use Rattle.table.specs.Layout.{Numbered};
 ghost use Rattle.table.specs.Holding.{WellFormed};
 ghost use Rattle.automata.specs.Automata;
-ghost use Rattle.automata.specs.Together.{acceptingSet, movedSets, setFor, startingSets};
+ghost use Rattle.automata.specs.Together.{acceptingSet, deadSet, movedOn, movedSets, setFor, startingSets};
 
 // As many as a table can have automata.
 pub const AUTOMATA: usize = 8;
@@ -24,6 +24,13 @@ pub const AUTOMATA: usize = 8;
 // The state set of automaton k stands at k - 1; an automaton that is not there has the empty set.
 pub struct StateSets {
     pub sets: [StateSet; AUTOMATA],
+}
+
+// The state sets one role on, and the automata that are dead there: automaton k counts 2^(k-1). An automaton is dead where it is
+// one of the table's and has no state left. Its set stays empty, so it accepts no word that goes on from there.
+pub struct Moved {
+    pub states: StateSets,
+    pub dead: AutomatonSet,
 }
 
 impl StateSets {
@@ -43,8 +50,20 @@ impl StateSets {
         StateSets { sets: sets }
     }
 
+    // Every automaton's set moved along the role, and which automata have no state left then.
+    pub fn moved(self, table: &[Number], role: Role) -> Moved
+        requires { ⌜ WellFormed (now table) ⌝ }
+        ensures { λ r. ⌜ r ≡ movedOn (now (table .entry)) role self ⌝ }
+    {
+        let states = self.next(table, role);
+        Moved {
+            states: states,
+            dead: states.dead(table),
+        }
+    }
+
     // Every automaton's set moved along the role.
-    pub fn moved(self, table: &[Number], role: Role) -> StateSets
+    fn next(self, table: &[Number], role: Role) -> StateSets
         requires { ⌜ WellFormed (now table) ⌝ }
         ensures { λ r. ⌜ r ≡ movedSets (now (table .entry)) role self ⌝ }
     {
@@ -75,6 +94,23 @@ impl StateSets {
         while k < a {
             let automaton = layout::automaton(table, k + 1);
             if self.sets[k] & automaton.accepting != 0 {
+                mask = sets::with_16(mask, k);
+            }
+            k += 1;
+        }
+        mask
+    }
+
+    // The table's automata that have no state, as a set: automaton k counts 2^(k-1).
+    fn dead(self, table: &[Number]) -> AutomatonSet
+        requires { ⌜ WellFormed (now table) ⌝ }
+        ensures { λ r. ⌜ r ≡ deadSet (now (table .entry)) self ⌝ }
+    {
+        let mut mask = 0;
+        let a = layout::automata(table);
+        let mut k = 0;
+        while k < a {
+            if self.sets[k] == 0 {
                 mask = sets::with_16(mask, k);
             }
             k += 1;

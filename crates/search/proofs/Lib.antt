@@ -4,6 +4,7 @@ pub mod Naming
 pub mod Placing
 pub mod Trying
 pub mod Testing
+pub mod Leaving
 pub mod Starting
 pub mod Deriving
 pub mod Searching

@@ -77,13 +77,13 @@ unfolding stepped pick
 led-on t A s w r led asked = rw (ne-eqb A 0 asked, led asked) (sets-after-next t w r)
 
 -- an imposed automaton is one of some
-imposed : (A k : ℕ) → inSet A k ≡ true → A ≡ 0 → ⊥
-imposed A k h empty = false-true (sym (inSet-zero k) ∙ rw empty at h)
+pub some-imposed : (A k : ℕ) → inSet A k ≡ true → A ≡ 0 → ⊥
+some-imposed A k h empty = false-true (sym (inSet-zero k) ∙ rw empty at h)
 
 module _ (t : List ℕ) (wf : WellFormed t) (A : ℕ) (s : StateSets) (word : List Role) (led : Led t A s word) where
   led-accepts : (k : ℕ) → inSet A k ≡ true → inSet (acceptingSet t s) k ≡ acceptsAll t (suc k) (word ∷ [])
   unfolding acceptsAll
-  led-accepts k h = rw (led (imposed A k h)) (accepting-exact t wf word k ∙ sym (and-true _))
+  led-accepts k h = rw (led (some-imposed A k h)) (accepting-exact t wf word k ∙ sym (and-true _))
 
   pub one-word : part A (acceptingSet t s) ≡ true → AllAccept t A (word ∷ [])
   one-word all k h = sym (led-accepts k h) ∙ part-member A _ k all h

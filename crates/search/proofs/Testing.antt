@@ -14,10 +14,11 @@ use Rattle.sets.proofs.Tests.{and-is, and-is-off, failed, passed}
 use Rattle.table.specs.Layout.{credential}
 use Rattle.table.specs.declared.Credential.{Credential}
 use Rattle.table.specs.declared.Role.{Role}
-use Rattle.automata.specs.Together.{acceptingSet, movedSets}
+use Rattle.automata.specs.Together.{acceptingSet, movedOn}
+use Rattle.automata.specs.declared.Moved.{Moved}
 use Rattle.automata.specs.declared.StateSets.{StateSets}
 use Rattle.members.specs.Members.{lesser, roleCell}
-use Rattle.search.specs.Search.{stepped, usable}
+use Rattle.search.specs.Search.{stepped, steppedOn, usable}
 
 -- three tests, one after the other
 module _ {one a : Bool} (first : one ≡ a) where
@@ -53,13 +54,19 @@ pub lesser-second : (k last : ℕ) → last ≤ k → last ≡ lesser k last
 unfolding lesser pick
 lesser-second k last l = rw (le-ltb k last l)
 
-pub stays : (t : List ℕ) (A : ℕ) (r : Role) (s : StateSets) → A ≡ 0 → s ≡ stepped t A r s
-unfolding stepped pick
-stays t A r s none = rw (eq-eqb A 0 none)
+-- the state sets stay where no automaton is imposed, and move where one is
+module _ (t : List ℕ) (A : ℕ) (r : Role) (s : StateSets) where
+  pub stays : A ≡ 0 → record { states = s; dead = 0 } ≡ steppedOn t A r s
+  unfolding steppedOn stepped pick
+  stays none = rw (eq-eqb A 0 none)
 
-pub moves : (t : List ℕ) (A : ℕ) (r : Role) (s s′ : StateSets) → (A ≡ 0 → ⊥) → s′ ≡ movedSets t r s → s′ ≡ stepped t A r s
-unfolding stepped pick
-moves t A r s s′ imposed e = rw (ne-eqb A 0 imposed) e
+  pub moves : (x : Moved) → (A ≡ 0 → ⊥) → x ≡ movedOn t r s → x ≡ steppedOn t A r s
+  unfolding steppedOn stepped movedOn pick
+  moves x imposed e = rw (ne-eqb A 0 imposed) e
+
+  pub steps : {x : Moved} → x ≡ steppedOn t A r s → x .states ≡ stepped t A r s
+  unfolding steppedOn
+  steps e = ap (λ (y : Moved). y .states) e
 
 -- a simple membership names another principal, or the word ends there
 module _ (named person : ℕ) {cell : ℕ} where

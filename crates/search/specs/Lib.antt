@@ -1,3 +1,4 @@
 pub mod Search
+pub mod Promised
 pub mod Admits
 pub mod Relevance

@@ -16,7 +16,8 @@ use Rattle.table.specs.declared.Role.{Role}
 use Rattle.table.specs.declared.Goal.{Goal}
 use Rattle.table.specs.declared.Query.{Query}
 use Rattle.sets.specs.Sets.{inSet, part}
-use Rattle.automata.specs.Together.{acceptingSet, movedSets, startingSets}
+use Rattle.automata.specs.Together.{acceptingSet, deadSet, movedSets, startingSets}
+use Rattle.automata.specs.declared.Moved.{Moved}
 use Rattle.automata.specs.declared.StateSets.{StateSets}
 use Rattle.derivation.specs.Rules.{goal, goalOf}
 use Rattle.derivation.specs.Forest.{Derives, Forest, names}
@@ -47,6 +48,10 @@ pub record Provable (t : List ℕ) (q : Query) (S A : ℕ) : Type 0 where
 -- the state sets one role on; where no automaton is imposed nobody asks for them
 unfoldable pub stepped : List ℕ → ℕ → Role → StateSets → StateSets
 stepped t A r s = pick (eqb A 0) s (movedSets t r s)
+
+-- with them the automata that are dead there
+unfoldable pub steppedOn : List ℕ → ℕ → Role → StateSets → Moved
+steppedOn t A r s = record { states = stepped t A r s; dead = pick (eqb A 0) 0 (deadSet t (movedSets t r s)) }
 
 -- credential c + 1 is in the set, defines the goal's role, and proves the goal, where `one` says which goals are proved below
 -- it, and `word` whether a word may end there

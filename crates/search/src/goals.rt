@@ -2,6 +2,7 @@
 // through a credential, and a credential through the goals of its premises, so each rests on the other one level further down.
 // Goals are asked by the places of principal and role (crate members), and only those that the table of members has.
 use crate::Terms;
+use automata::Moved;
 use automata::StateSets;
 use members::ROW;
 use sets::AutomatonSet;
@@ -30,7 +31,7 @@ ghost use Rattle.search.specs.Search;
 ghost use Rattle.search.specs.Search.{Searched, Stands, Tried, askedBefore, goalAt, proves, provesAt, usable};
 
 // The principal at `person` is proved to be in the role at `place`, with so many levels left, by some allowed credential. The roles
-// on the branch above stand at the places `above`.
+// on the branch above stand at the places `above`. Where an imposed automaton is dead no word is accepted, so the branch is left.
 pub fn goal_search(
     table: &[Number],
     index: &[u8],
@@ -61,6 +62,9 @@ pub fn goal_search(
     }
     let role = role_of(table, place);
     let below = stepped(table, terms.constraints, role, states);
+    if below.dead & terms.constraints != 0 {
+        return false;
+    }
     let deeper = sets::with(above, place);
     let mut i = 0;
     while i < n {
@@ -73,7 +77,7 @@ pub fn goal_search(
                 person,
                 i,
                 levels - 1,
-                below,
+                below.states,
                 deeper,
             ) {
                 return true;
@@ -315,18 +319,16 @@ pub fn role_of(table: &[Number], place: usize) -> Role
     credential.role
 }
 
-// The state sets one role on; where no automaton is imposed nobody asks for them.
-pub fn stepped(
-    table: &[Number],
-    constraints: AutomatonSet,
-    role: Role,
-    states: StateSets,
-) -> StateSets
+// The state sets one role on, with the automata that are dead there; where no automaton is imposed nobody asks for them.
+pub fn stepped(table: &[Number], constraints: AutomatonSet, role: Role, states: StateSets) -> Moved
     requires { ⌜ WellFormed (now table) ⌝ }
-    ensures { λ r. ⌜ r ≡ Search.stepped (now (table .entry)) constraints role states ⌝ }
+    ensures { λ r. ⌜ r ≡ Search.steppedOn (now (table .entry)) constraints role states ⌝ }
 {
     if constraints == 0 {
-        return states;
+        return Moved {
+            states: states,
+            dead: 0,
+        };
     }
     states.moved(table, role)
 }

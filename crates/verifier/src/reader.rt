@@ -123,7 +123,9 @@ pub fn read<'a>(
         *refusal = stopped;
         return rec;
     }
-    let below = states.moved(table, goal.role);
+    // a dead automaton stops nothing: it may belong to no used credential, and 11 to 13 of a later node come before 14
+    let moved = states.moved(table, goal.role);
+    let below = moved.states;
     let len = step.len;
     let goals = step.goals;
     *used = with_credential(*used, step.credential);

@@ -85,7 +85,7 @@ fn walk(
         person,
         place,
         levels - 1,
-        below,
+        below.states,
         deeper,
     );
     put(node.credential, node.middle, at, rec);
@@ -106,7 +106,7 @@ fn walk(
             persons[k],
             places[k],
             levels - 1,
-            below,
+            below.states,
             deeper,
             most,
             next,

@@ -1,12 +1,13 @@
 -- Goal search, credential search and the searches of what a credential asks meet their contracts, by the levels left: each loop
 -- knows that what it has tried so far does not prove the goal, or, over the parts, that none of them has failed. A goal that the
 -- table of members does not have is not proved. Assumes nothing.
-use Prim.Native.Nat.{ℕ, _*_, _+_, _-_, _<_, _≤_}
+use Prim.Native.Nat.{ℕ, _*_, _+_, _-_, _^_, _<_, _≤_}
 use mathlib.Core.Bool.{false}
 use mathlib.Core.List.{List}
 use mathlib.Core.Logic.{inl, inr, ⊎-elim}
 use mathlib.Core.Path.{_≡_, _∙_, refl, sym}
 use native.Mathlib.Omega.{arith}
+use lib.Bits.{bitOr}
 use denote.Ref.{now}
 use Rattle.sets.specs.Logic.{anyBelow}
 use Rattle.sets.specs.Sets.{part}
@@ -16,6 +17,8 @@ use Rattle.automata.specs.Together.{acceptingSet}
 use Rattle.search.specs.Search.{goalAt, proves, provesAt, provesWith}
 use Rattle.search.proofs.Placing.{below-most, cell-named, kind-other, kind-read, level-none, middleTried, most, partMissed}
 use Rattle.search.proofs.Placing.{place-none, place-unlisted, row-fits, searched-fewer}
+use Rattle.search.proofs.Testing.{steps}
+use Rattle.search.proofs.Leaving.{dead-tried}
 use Rattle.search.proofs.Trying.{Entered, Middle, all-proved, linked-first, linked-found, linked-none, linked-second}
 use Rattle.search.proofs.Trying.{linked-skipped, none-proves, part-proved, part-repeated, part-unproved, parts-unlisted}
 use Rattle.search.proofs.Trying.{place-again, proves-here, stands-first, stands-part, stands-second}
@@ -227,8 +230,8 @@ credential-search-returns-5 t c =
 abbrev goal-search-Inv-loop : goal-search-lts.InvT-loop
 goal-search-Inv-loop table index rows terms person place levels above n below deeper i₀ i =
     (i ≤ n) × (anyBelow (provesWith table (terms .allowed)
-    (proves table (terms .allowed) (terms .constraints) (levels - 1) deeper below)
-    (part (terms .constraints) (acceptingSet table below)) (goalAt table person place)) i ≡ false)
+    (proves table (terms .allowed) (terms .constraints) (levels - 1) deeper (below .states))
+    (part (terms .constraints) (acceptingSet table (below .states))) (goalAt table person place)) i ≡ false)
 
 abbrev goal-search-μ-loop : goal-search-lts.MeasureT-loop
 goal-search-μ-loop table index rows terms person place levels above n below deeper i₀ i = n - i
@@ -259,16 +262,22 @@ module _ (t : ℕ) where
   abbrev goal-search-from : goal-search-place goal-search-lts.After-has t → goal-search-place goal-search-lts.Else2 t
   goal-search-from at = at .before .before .before .before
 
-  abbrev goal-search-first : goal-search-place goal-search-lts.After-with t → goal-search-place goal-search-lts.Start t
-  goal-search-first at = goal-search-start (goal-search-from (at .before .before .before .before))
+  abbrev goal-search-first : goal-search-place goal-search-lts.After-stepped t → goal-search-place goal-search-lts.Start t
+  goal-search-first at = goal-search-start (goal-search-from (at .before .before .before))
 
-  goal-search-entered : (at : goal-search-place goal-search-lts.After-with t) → let from = goal-search-first at .args in
+  abbrev goal-search-Entered : goal-search-place goal-search-lts.After-stepped t → ℕ → Type 0
+  goal-search-Entered at deeper =
+      let from = goal-search-first at .args in
       Entered (now (from .table)) (now (from .index)) (now (from .rows)) (from .terms .allowed) (from .levels) (from .terms .last)
-      (from .terms .constraints) (from .above) (at .with .result) (from .states) (at .before .stepped .result)
-      (at .before .before .role-of .result) (from .person) (from .place)
-      (goal-search-from (at .before .before .before .before) .before .credentials .result)
-  goal-search-entered at =
-      let role-of = at .before .before in
+      (from .terms .constraints) (from .above) deeper (from .states) (at .stepped .result .states)
+      (at .before .role-of .result) (from .person) (from .place)
+      (goal-search-from (at .before .before .before) .before .credentials .result)
+
+  goal-search-down : (at : goal-search-place goal-search-lts.After-stepped t) (deeper : ℕ)
+      → deeper ≡ bitOr (goal-search-first at .args .above) (2 ^ goal-search-first at .args .place)
+      → goal-search-Entered at deeper
+  goal-search-down at deeper deeper-is =
+      let role-of = at .before in
       let new = role-of .before in
       let from = goal-search-from (new .before) in
       let pre = goal-search-first at .pre .1 in
@@ -279,10 +288,17 @@ module _ (t : ℕ) where
         left = from .before .before .if1 .left;
         new = sym (new .before .has .ensures) ∙ new .if4 .left;
         read = role-of .role-of .ensures;
-        moved = at .before .stepped .ensures;
-        deeper-is = at .with .ensures;
+        moved = steps _ _ _ _ (at .stepped .ensures);
+        deeper-is = deeper-is;
         all = from .before .credentials .ensures .same;
       }
+
+  abbrev goal-search-stepped : goal-search-place goal-search-lts.After-with t → goal-search-place goal-search-lts.After-stepped t
+  goal-search-stepped at = at .before .before .before .before
+
+  goal-search-entered : (at : goal-search-place goal-search-lts.After-with t)
+      → goal-search-Entered (goal-search-stepped at) (at .with .result)
+  goal-search-entered at = goal-search-down (goal-search-stepped at) (at .with .result) (at .with .ensures)
 
   -- where a credential is looked at
   abbrev goal-search-behind : goal-search-place goal-search-lts.In-loop t → goal-search-place goal-search-lts.After-with t
@@ -330,6 +346,13 @@ goal-search-role-of-requires t c κs = search needs
 goal-search-stepped-requires : goal-search-needs goal-search-lts.Need-stepped-requires
 goal-search-stepped-requires t c κs = search needs
 
+-- an imposed automaton is dead
+goal-search-returns-5 : goal-search-needs goal-search-lts.Need-returns-5
+goal-search-returns-5 t c =
+    let at = c .before .before .before in
+    none-proves (goal-search-down t at _ refl) _ (sym (goal-search-down t at _ refl .all))
+    (dead-tried _ _ _ _ _ (at .stepped .ensures) (c .if5 .taken) _ _ _)
+
 goal-search-with-requires : goal-search-needs goal-search-lts.Need-with-requires
 goal-search-with-requires t c κs = search needs
 
@@ -350,7 +373,7 @@ goal-search-credential-search-requires : goal-search-needs goal-search-lts.Need-
 goal-search-credential-search-requires t c κs =
     let at = goal-search-behind t (c .before .before) in
     let entered = goal-search-entered t at in (
-      omega (arith, goal-search-first t at .pre .0, entered .left),
+      omega (arith, goal-search-first t (goal-search-stepped t at) .pre .0, entered .left),
       (
         searched-fewer _ (omega arith) (entered .searched),
         record {
@@ -361,12 +384,12 @@ goal-search-credential-search-requires t c κs =
       ),
     )
 
-goal-search-returns-5 : goal-search-needs goal-search-lts.Need-returns-5
-goal-search-returns-5 t c =
+goal-search-returns-6 : goal-search-needs goal-search-lts.Need-returns-6
+goal-search-returns-6 t c =
     let used = c .before .before in
     let at = used .before .before in
     proves-here (goal-search-entered t (goal-search-behind t at)) _ (at .loop-test .taken) (used .before .may-use .ensures)
-    (used .if5 .taken) (c .before .credential-search .ensures) (c .if6 .taken)
+    (used .if6 .taken) (c .before .credential-search .ensures) (c .if7 .taken)
 
 goal-search-add-i : goal-search-needs goal-search-lts.Need-add-i
 goal-search-add-i t c = search needs
@@ -383,11 +406,11 @@ goal-search-loop-again t c =
     let next = at .loop-test .taken in (
       omega (arith, next),
       ⊎-elim (λ way. unproved-next entered _ next may-use (way .0 .taken) (way .1 .ensures) so-far (way .2 .left))
-          (λ way. unused-next entered _ next may-use so-far (way .left)) (c .if5 .came),
+          (λ way. unused-next entered _ next may-use so-far (way .left)) (c .if6 .came),
     )
 
-goal-search-returns-6 : goal-search-needs goal-search-lts.Need-returns-6
-goal-search-returns-6 t c =
+goal-search-returns-7 : goal-search-needs goal-search-lts.Need-returns-7
+goal-search-returns-7 t c =
     let loop = c .before .loop in
     none-proves (goal-search-entered t (c .before .before)) _ (omega (arith, c .loop-test .left, loop .inv .0)) (loop .inv .1)
 
@@ -627,10 +650,10 @@ pub +credential-search+goal-search+linked-search+parts-search-spec : {M : Type 1
     (λ t. goal-search-lts.spec (goal-search-claims t) (goal-search-at t) goal-search.Post goal-search-Inv-loop goal-search-μ-loop
     (goal-search-returns t) (goal-search-credentials-requires t) (goal-search-returns-2 t) (goal-search-row-of-requires t)
     (goal-search-is-listed-requires t) (goal-search-returns-3 t) (goal-search-has-requires t) (goal-search-returns-4 t)
-    (goal-search-role-of-requires t) (goal-search-stepped-requires t) (goal-search-with-requires t) (goal-search-loop-holds t)
+    (goal-search-role-of-requires t) (goal-search-stepped-requires t) (goal-search-returns-5 t) (goal-search-with-requires t) (goal-search-loop-holds t)
     (goal-search-may-use-requires t) (goal-search-sub-credential-search t) (goal-search-credential-search-requires t)
-    (goal-search-returns-5 t) (goal-search-add-i t) (goal-search-loop-less t) (goal-search-loop-again t)
-    (goal-search-returns-6 t))
+    (goal-search-returns-6 t) (goal-search-add-i t) (goal-search-loop-less t) (goal-search-loop-again t)
+    (goal-search-returns-7 t))
     (λ t. linked-search-lts.spec (linked-search-claims t) (linked-search-at t) linked-search.Post linked-search-Inv-loop
     linked-search-μ-loop (linked-search-credentials-requires t) (linked-search-row-of-requires t)
     (linked-search-asked-cell-requires t) (linked-search-loop-holds t) (linked-search-link-cell-requires t)

@@ -79,7 +79,7 @@ module _ (t : ℕ) where
 
   walk-entered : (at : walk-place walk-lts.After-with t) → let from = walk-from at .args in
       Entered (now (from .table)) (now (from .index)) (now (from .rows)) (from .terms .allowed) (from .terms .constraints)
-      (from .levels) (from .terms .last) (from .above) (at .with .result) (from .states) (at .before .stepped .result)
+      (from .levels) (from .terms .last) (from .above) (at .with .result) (from .states) (at .before .stepped .result .states)
       (from .person) (from .place)
   walk-entered at =
       let pre = walk-from at .pre .1 in
@@ -87,7 +87,7 @@ module _ (t : ℕ) where
         searched = pre .0;
         stands = pre .1 .0;
         proved = pre .1 .1 .0;
-        moved = rw (at .before .before .role-of .ensures) at (at .before .stepped .ensures);
+        moved = rw (at .before .before .role-of .ensures) at (steps _ _ _ _ (at .before .stepped .ensures));
         deeper-is = at .with .ensures;
       }
 
