@@ -8,6 +8,7 @@ use Rattle.derivation.specs.Held.{noGoal}
 use Rattle.derivation.specs.Forest.{written}
 use Rattle.search.specs.Search.{goalAt}
 use Rattle.search.proofs.Placing.{below-most, searched-fewer}
+use Rattle.search.proofs.Testing.{steps}
 use Rattle.writing.specs.First.{firstForest}
 use Rattle.writing.specs.Walked.{Walked}
 use Rattle.writing.proofs.Nodes.{Entered, chosen-asks, child-beyond, child-last, child-next, child-none, level-left}
@@ -38,8 +39,8 @@ walk-below t = and 4 walk-kinds.ps (falls 4 walk-kinds.ps _<_ μ-walk t) walk.Pr
 
 abbrev walk-Inv-loop : walk-lts.InvT-loop
 walk-Inv-loop table index rows terms person place levels above most at rec₀ below deeper len persons places next₀ k₀ rec next k =
-    (k ≤ len) × Walked next₀ most (written (firstForest table (terms .allowed) (terms .constraints) (levels - 1) deeper below
-    (take k (nodeAsks table (terms .allowed) (terms .constraints) (levels - 1) deeper below (goalAt table person place))))) rec₀ rec next
+    (k ≤ len) × Walked next₀ most (written (firstForest table (terms .allowed) (terms .constraints) (levels - 1) deeper (below .states)
+    (take k (nodeAsks table (terms .allowed) (terms .constraints) (levels - 1) deeper (below .states) (goalAt table person place))))) rec₀ rec next
 
 abbrev walk-μ-loop : walk-lts.MeasureT-loop
 walk-μ-loop table index rows terms person place levels above most at rec₀ below deeper len persons places next₀ k₀ rec next k =
