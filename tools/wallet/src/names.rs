@@ -100,6 +100,7 @@ impl Names {
             Label::Only(role) => self.role(role),
             Label::Any => "any".to_string(),
             Label::Not(role) => format!("not {}", self.role(role)),
+            Label::Of(owner) => format!("any of {}", self.principal(owner)),
         };
         let from = self.state(edge.automaton, edge.from);
         let to = self.state(edge.automaton, edge.to);

@@ -84,6 +84,8 @@ pub enum Label {
     Any,
     /// Label 3: every role but this one.
     Not(Role),
+    /// Label 4: every role of this principal.
+    Of(u16),
 }
 
 impl Label {
@@ -93,6 +95,7 @@ impl Label {
             Label::Only(own) => own == role,
             Label::Any => true,
             Label::Not(own) => own != role,
+            Label::Of(owner) => owner == role.owner,
         }
     }
 }
@@ -192,6 +195,7 @@ fn edge_numbers(edge: &Edge) -> [u16; layout::EDGE] {
         Label::Only(role) => (1, role.owner, role.name),
         Label::Any => (2, 0, 0),
         Label::Not(role) => (3, role.owner, role.name),
+        Label::Of(owner) => (4, owner, 0),
     };
     [edge.automaton, edge.from, label, owner, name, edge.to]
 }
@@ -235,7 +239,8 @@ fn edge(numbers: &[u16]) -> Edge {
         label: match numbers[2] {
             1 => Label::Only(own),
             2 => Label::Any,
-            _ => Label::Not(own),
+            3 => Label::Not(own),
+            _ => Label::Of(own.owner),
         },
         to: numbers[5],
     }

@@ -448,7 +448,12 @@ fn any_table(random: &mut Random) -> Table {
         table.edges.push(Edge {
             automaton: number(random, 2),
             from: *random.pick(&[0, 0, 1, 15, 16]),
-            label: *random.pick(&[Label::Only(role), Label::Any, Label::Not(role)]),
+            label: *random.pick(&[
+                Label::Only(role),
+                Label::Any,
+                Label::Not(role),
+                Label::Of(role.owner),
+            ]),
             to: number(random, 15),
         });
     }

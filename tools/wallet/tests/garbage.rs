@@ -53,7 +53,8 @@ const SHOP: &[u8] = include_bytes!("../../../examples/shop-constrained.wallet");
 /// A text with all kinds of lines.
 const CELLS: &str = "cell 1 = A.r then 2\ncell 2 = B.s\nA.r <- A.r & B.s at cell 1 under c\n\
     A.r <- A.r & B.s & C.t\nconstraint c\nstart x 0\naccept\nx -- not A.r --> y\n\
-    constraint d\nedges of c\n0 -- C.t --> 15\nD in A.r within 16\nprincipals Z = 64\n";
+    constraint d\nedges of c\n0 -- C.t --> 15\n0 -- any of E --> x\n0 -- any --> x\n\
+    D in A.r within 16\nprincipals Z = 64\n";
 
 #[test]
 fn random_bytes() {
@@ -102,6 +103,7 @@ fn random_words_of_the_lines() {
         "B.s",
         "A.r <- ",
         "0 -- any --> 1",
+        "0 -- any of A --> 1",
         "constraint c\n",
         "at cell 1",
     ];

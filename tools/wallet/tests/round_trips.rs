@@ -10,7 +10,7 @@ use reference::random::Random;
 use wallet::parse::parse;
 use wallet::print::print;
 use wallet::program;
-use wallet::table::{Body, Table};
+use wallet::table::{Body, Edge, Label, Table};
 use wallet::Wallet;
 
 const TABLES: usize = 6000;
@@ -177,6 +177,7 @@ struct Seen {
     cells_of_both_sorts: usize,
     edges_in_turn: usize,
     edges_in_order: usize,
+    labels_of_an_owner: usize,
     empty_sets: usize,
     full: usize,
 }
@@ -206,6 +207,8 @@ impl Seen {
         let turns = begins("edges of ");
         self.edges_in_turn += usize::from(turns);
         self.edges_in_order += usize::from(!turns && !table.edges.is_empty());
+        let of_an_owner = |edge: &Edge| matches!(edge.label, Label::Of(_));
+        self.labels_of_an_owner += usize::from(table.edges.iter().any(of_an_owner));
         self.empty_sets += usize::from(table.automata.iter().any(|a| a.start == 0));
         self.full += usize::from(table.credentials.len() == 20 && table.cells.len() == 63);
     }
@@ -219,6 +222,7 @@ impl Seen {
             self.cells_of_both_sorts,
             self.edges_in_turn,
             self.edges_in_order,
+            self.labels_of_an_owner,
             self.empty_sets,
             self.full,
         ];

@@ -70,6 +70,34 @@ fn words_without_a_number_get_the_least_that_is_free() {
 }
 
 #[test]
+fn all_roles_of_an_owner_are_label_4() {
+    let text = "\
+principals A = 1, B = 2, C = 3, D = 4
+names r = 1
+
+A.r <- B
+
+constraint c
+  start 0
+  accept 0
+  0 -- any of C --> 0
+  0 -- any --> 1
+  0 -- any of A --> 2
+
+D in A.r within 1
+";
+    let wallet = read(text);
+    let edges = [[1, 0, 4, 3, 0, 0], [1, 0, 2, 0, 0, 1], [1, 0, 4, 1, 0, 2]];
+    let numbers = wallet.table.numbers();
+    assert_eq!(numbers[numbers.len() - 18..], edges.concat());
+    // An owner whom nothing else names comes back, and has a place in the order
+    // of the names where no line gives it a number.
+    assert_eq!(print(&wallet), text);
+    let (_, unnumbered) = text.split_once("\n\n").expect("a blank line");
+    assert_eq!(print(&read(unnumbered)), text);
+}
+
+#[test]
 fn states_that_are_words_get_the_least_that_is_not_named() {
     let text = "constraint c\naccept b 1\nstart a\n a -- any --> b\n b -- any --> z\n\
                 constraint d\n x -- any --> a\nedges of c\n 3 -- any --> y\n";

@@ -149,9 +149,10 @@ impl Text {
     }
 
     fn add_edge(&mut self, random: &mut Random, states: &[&str]) {
-        let label = match random.below(3) {
+        let label = match random.below(4) {
             0 => "any".to_string(),
             1 => self.role(random),
+            2 => format!("any of {}", self.principal(random)),
             _ => format!("not {}", self.role(random)),
         };
         let (from, to) = (random.pick(states), random.pick(states));

@@ -131,7 +131,7 @@ impl Constraints {
         Ok(())
     }
 
-    /// `0 -- A.r --> 1`; the label's role has been read already.
+    /// `0 -- A.r --> 1`; the label has been read already.
     pub fn edge(
         &mut self,
         from: &StateWord,

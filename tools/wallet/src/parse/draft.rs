@@ -195,6 +195,7 @@ impl Draft {
             LabelWords::Only(role) => Label::Only(self.words.role(role)?),
             LabelWords::Any => Label::Any,
             LabelWords::Not(role) => Label::Not(self.words.role(role)?),
+            LabelWords::Of(owner) => Label::Of(self.words.rank(Sort::Principal, owner)?),
         })
     }
 

@@ -192,6 +192,7 @@ impl Numbers {
                 Label::Only(role) => Label::Only(self.role(role)),
                 Label::Any => Label::Any,
                 Label::Not(role) => Label::Not(self.role(role)),
+                Label::Of(owner) => Label::Of(self.principal(owner)),
             },
             to: states[usize::from(edge.to)],
             ..edge

@@ -10,7 +10,8 @@ use crate::tokens::{Sign, Token};
 
 /// What each kind of line looks like.
 const CREDENTIAL: &str = "`A.r <- D`, `A.r <- B.s`, `A.r <- A.s.t` or `A.r <- B.s & C.t`";
-const EDGE: &str = "`0 -- A.r --> 1`, `0 -- not A.r --> 1` or `0 -- any --> 1`";
+const EDGE: &str =
+    "`0 -- A.r --> 1`, `0 -- not A.r --> 1`, `0 -- any --> 1` or `0 -- any of A --> 1`";
 pub const QUERY: &str = "`D in A.r within 2`";
 
 /// Reads a line that has at least one token.
@@ -140,17 +141,57 @@ fn state(reader: &mut Reader) -> Result<StateWord, Mistake> {
 fn edge(mut reader: Reader) -> Result<Statement, Mistake> {
     let from = state(&mut reader)?;
     reader.sign(&Sign::Dashes)?;
-    let label = if reader.passes_kept("any") {
-        LabelWords::Any
-    } else if reader.passes_kept("not") {
-        LabelWords::Not(role(&mut reader)?)
-    } else {
-        LabelWords::Only(role(&mut reader)?)
-    };
+    let label = label(&mut reader)?;
     reader.sign(&Sign::Onward)?;
     let to = state(&mut reader)?;
     reader.end()?;
     Ok(Statement::Edge(from, label, to))
+}
+
+/// `A.r`, `not A.r`, `any` or `any of A`
+fn label(reader: &mut Reader) -> Result<LabelWords, Mistake> {
+    if reader.passes_kept("any") {
+        return match reader.passes_kept("of") {
+            true => owner(reader).map(LabelWords::Of),
+            false => Ok(LabelWords::Any),
+        };
+    }
+    if reader.passes_kept("not") {
+        return match reader.next() {
+            Some(Sign::Word(word)) if word == "any" => Err(not_any(reader)),
+            _ => role(reader).map(LabelWords::Not),
+        };
+    }
+    role(reader).map(LabelWords::Only)
+}
+
+/// The principal behind `any of`.
+fn owner(reader: &mut Reader) -> Result<Word, Mistake> {
+    let owner = reader.name("a principal")?;
+    if reader.next() == Some(&Sign::Dot) {
+        let all = quoted(&format!("any of {}", owner.text));
+        return Err(owner.place.mistake(
+            "a role stands behind `any of`, which takes an owner alone",
+            format_args!("write {all} for all roles of this owner, or leave `any of` out for one"),
+        ));
+    }
+    Ok(owner)
+}
+
+/// The mistake that `any` stands behind `not`.
+fn not_any(reader: &mut Reader) -> Mistake {
+    let place = reader.place();
+    reader.pass();
+    match reader.passes_kept("of") {
+        true => place.mistake(
+            "there is no label `not any of`",
+            "write an edge like `0 -- any of A --> 1` for every other owner A",
+        ),
+        false => place.mistake(
+            "there is no label `not any`, which no role would match",
+            "leave this edge out",
+        ),
+    }
 }
 
 /// `D in A.r within 2`

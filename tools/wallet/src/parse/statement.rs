@@ -42,6 +42,8 @@ pub enum LabelWords {
     Any,
     /// `not A.r`
     Not(RoleWords),
+    /// `any of A`
+    Of(Word),
 }
 
 /// A query in words.

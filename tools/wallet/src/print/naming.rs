@@ -104,8 +104,12 @@ impl Used {
         }
         table.cells.iter().for_each(|cell| self.add(cell.role));
         for edge in &table.edges {
-            if let Label::Only(role) | Label::Not(role) = edge.label {
-                self.add(role);
+            match edge.label {
+                Label::Only(role) | Label::Not(role) => self.add(role),
+                Label::Of(owner) => {
+                    self.principals.insert(owner);
+                }
+                Label::Any => {}
             }
         }
     }

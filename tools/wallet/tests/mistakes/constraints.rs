@@ -133,3 +133,50 @@ fn edges() {
     let range = "line 2, column 1: `16` is out of range for a state; write a number from 0 to 15";
     assert_eq!(in_constraint("16 -- any --> 1"), range);
 }
+
+#[test]
+fn all_roles_of_an_owner() {
+    // The third line of a text in which School is a principal and student a
+    // role name.
+    let labelled = |label: &str| {
+        let text = format!("School.student <- Ann\nconstraint c\n0 -- {label} --> 1");
+        told(&text)
+    };
+    let at = |column: usize, message: &str| format!("line 3, column {column}: {message}");
+    let stands = |column: usize, sign: &str, what: &str| {
+        at(
+            column,
+            &format!("`{sign}` stands where {what} is expected; {EDGE}"),
+        )
+    };
+    assert_eq!(labelled("any of"), stands(13, "-->", "a principal"));
+    assert_eq!(labelled("any of 2"), stands(13, "2", "a principal"));
+    assert_eq!(labelled("any School"), stands(10, "School", "`-->`"));
+    assert_eq!(labelled("any of School, Ann"), stands(19, ",", "`-->`"));
+    assert_eq!(
+        told("constraint c\n0 -- any of"),
+        format!("line 2, column 12: the line ends where a principal is expected; {EDGE}")
+    );
+    let role = at(
+        13,
+        "a role stands behind `any of`, which takes an owner alone; \
+         write `any of School` for all roles of this owner, or leave `any of` out for one",
+    );
+    for label in [
+        "any of School.student",
+        "any of School .",
+        "any of School.in",
+    ] {
+        assert_eq!(labelled(label), role, "{label}");
+    }
+    let name = "`student` is a principal here, but a role name on line 1, column 8; \
+        write another word for one of them";
+    assert_eq!(labelled("any of student"), at(13, name));
+    let kept = "`any` is kept for the lines and cannot be a principal; write another word";
+    assert_eq!(labelled("any of any"), at(13, kept));
+    let but_one = "there is no label `not any of`; \
+        write an edge like `0 -- any of A --> 1` for every other owner A";
+    assert_eq!(labelled("not any of School"), at(10, but_one));
+    let none = "there is no label `not any`, which no role would match; leave this edge out";
+    assert_eq!(labelled("not any"), at(10, none));
+}

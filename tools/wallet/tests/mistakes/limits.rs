@@ -78,6 +78,15 @@ fn more_names_than_fit() {
         "line 66, column 6: `A65` would be one of 65 principals; write at most 64",
     );
     let edge = |number: usize| match number {
+        1 => "constraint c\n0 -- any of A1 --> 1".to_string(),
+        _ => format!("0 -- any of A{number} --> 1"),
+    };
+    assert_limit(
+        64,
+        edge,
+        "line 66, column 13: `A65` would be one of 65 principals; write at most 64",
+    );
+    let edge = |number: usize| match number {
         1 => "constraint c\n0 -- A.r1 --> 1".to_string(),
         _ => format!("0 -- not A.r{number} --> 1"),
     };

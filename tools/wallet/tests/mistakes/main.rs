@@ -26,8 +26,8 @@ pub fn assert_told(all: &[(&str, &str)]) {
 
 pub const CREDENTIAL: &str =
     "write a line like `A.r <- D`, `A.r <- B.s`, `A.r <- A.s.t` or `A.r <- B.s & C.t`";
-pub const EDGE: &str =
-    "write a line like `0 -- A.r --> 1`, `0 -- not A.r --> 1` or `0 -- any --> 1`";
+pub const EDGE: &str = "write a line like `0 -- A.r --> 1`, `0 -- not A.r --> 1`, \
+    `0 -- any --> 1` or `0 -- any of A --> 1`";
 pub const CELL: &str = "write a line like `cell 1 = B.s then 2` or `cell 2 = C.t`";
 pub const QUERY: &str = "write a line like `D in A.r within 2`";
 pub const PRINCIPALS: &str = "write a line like `principals A = 1, B = 2`";
