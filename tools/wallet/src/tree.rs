@@ -9,6 +9,7 @@ use crate::derivation::{ancestors, numbered, Judged, Node};
 use crate::limits::NAMES;
 use crate::names::Names;
 use crate::refusal;
+use crate::table::Role;
 use crate::words::{roles, run, states, used_credentials, words, Word, Words};
 use crate::Wallet;
 
@@ -280,8 +281,8 @@ fn heading(wallet: &Wallet, judged: &Judged, automaton: u16) -> String {
     )
 }
 
-/// An automaton's run on a word: the sets of states, the roles between them,
-/// and whether it accepts.
+/// An automaton's run on a word: whether it accepts, the sets of states with
+/// the roles between them, and where no state is left.
 fn run_line(wallet: &Wallet, judged: &Judged, automaton: u16, word: &Word) -> String {
     let roles = roles(judged, &judged.nodes[word.leaf]);
     let sets = run(&wallet.table, automaton, &roles);
@@ -296,7 +297,21 @@ fn run_line(wallet: &Wallet, judged: &Judged, automaton: u16, word: &Word) -> St
         }
         line += &format!(" {}", set(names, automaton, *reached));
     }
-    line
+    match dead(names, &roles, &sets) {
+        Some(place) => format!("{line}; {place}"),
+        None => line,
+    }
+}
+
+/// Where a run on these roles has no state left, and so rejects whatever comes
+/// then. No role occurs twice in a word, so the role says it.
+pub fn dead(names: &Names, roles: &[Role], sets: &[u16]) -> Option<String> {
+    let place = sets.iter().position(|set| *set == 0)?;
+    let role = place.checked_sub(1).and_then(|index| roles.get(index));
+    Some(match role {
+        Some(role) => format!("no state left after {}", names.role(*role)),
+        None => "no state to start in".to_string(),
+    })
 }
 
 /// A set of an automaton's states: `{0 2}`.

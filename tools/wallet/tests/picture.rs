@@ -192,7 +192,10 @@ fn rejected_words_are_marked() {
     let parts = check(&picture(&wallet, &judged).expect("a picture"));
     let said = said(&parts);
     for number in [1, 2] {
-        let marked = format!("word {number}: rejected not-for-discounts rejects");
+        let marked = format!(
+            "word {number}: rejected not-for-discounts rejects \
+             no state left after Shop.discount"
+        );
         assert!(said.contains(&marked), "{said}");
     }
     assert_eq!((parts.boxes.len(), parts.marked), (5, 4));

@@ -84,8 +84,8 @@ fn a_constraint_rejects_the_shops_words() {
          |   2  Shop.discount, School.student
          |
          |constraint not-for-discounts, attached to credential 3, accepts in {1}
-         |>> 1  rejected: {0} Shop.discount {} Shop.accredited {}
-         |>> 2  rejected: {0} Shop.discount {} School.student {}
+         |>> 1  rejected: {0} Shop.discount {} Shop.accredited {}; no state left after Shop.discount
+         |>> 2  rejected: {0} Shop.discount {} School.student {}; no state left after Shop.discount
          |
          |refused 14 at 1: constraint not-for-discounts rejects 2 of 2 words",
     );
@@ -136,6 +136,35 @@ fn the_student_may_use_the_constrained_credential() {
          |
          |accepted: used set 4 = credential 3",
     );
+}
+
+#[test]
+fn all_roles_of_an_owner_are_read_and_no_other() {
+    let mut wallet = constrained_shop();
+    wallet.table.automata[0].accept = 1;
+    wallet.table.edges = vec![edge(1, 0, Label::Of(1), 0)];
+    let runs = |wallet: &Wallet| {
+        let text = text(wallet, &judge(wallet, Q, &R));
+        let lines = text.lines().filter(|line| line.contains("ed: {"));
+        lines
+            .map(|line| line.to_string() + "\n")
+            .collect::<String>()
+    };
+    let only_of_the_shop = "
+        |   1  accepted: {0} Shop.discount {0} Shop.accredited {0}
+        |>> 2  rejected: {0} Shop.discount {0} School.student {}; no state left after School.student";
+    assert_eq!(runs(&wallet), lines(only_of_the_shop));
+    // States are left, but none that accepts.
+    wallet.table.edges.push(edge(1, 0, Label::Of(2), 2));
+    let another_state = "
+        |   1  accepted: {0} Shop.discount {0} Shop.accredited {0}
+        |>> 2  rejected: {0} Shop.discount {0} School.student {2}";
+    assert_eq!(runs(&wallet), lines(another_state));
+    wallet.table.automata[0].start = 0;
+    let none_to_start_in = "
+        |>> 1  rejected: {} Shop.discount {} Shop.accredited {}; no state to start in
+        |>> 2  rejected: {} Shop.discount {} School.student {}; no state to start in";
+    assert_eq!(runs(&wallet), lines(none_to_start_in));
 }
 
 #[test]

@@ -3,8 +3,8 @@
 
 use crate::derivation::{numbered, Judged, Node};
 use crate::table::Body;
-use crate::tree::goal;
-use crate::words::{Word, Words};
+use crate::tree::{dead, goal};
+use crate::words::{roles, run, Word, Words};
 use crate::Wallet;
 
 /// A line that goes on with the one above is indented by this.
@@ -68,7 +68,9 @@ pub fn sheets(wallet: &Wallet, judged: &Judged, words: &Words) -> Vec<Sheet> {
     let mut sheets: Vec<Sheet> = nodes.iter().map(sheet).collect();
     for (number, word) in (1..).zip(&words.words) {
         let sheet = &mut sheets[word.leaf];
-        sheet.under = ending(wallet, words, number, word);
+        let rejected = if word.is_rejected() { ": rejected" } else { "" };
+        sheet.under = vec![format!("word {number}{rejected}")];
+        sheet.under.extend(judgements(wallet, judged, words, word));
         sheet.marked = word.is_rejected();
     }
     if let (Some(node), Some(reason)) = (judged.faulty(), judged.reason(&wallet.names)) {
@@ -102,17 +104,19 @@ fn middle(wallet: &Wallet, nodes: &[Node], node: &Node) -> Option<String> {
     (linked && first).then(|| format!("middle {name}"))
 }
 
-/// What stands under the last node of a word.
-fn ending(wallet: &Wallet, words: &Words, number: usize, word: &Word) -> Vec<String> {
-    let rejected = if word.is_rejected() { ": rejected" } else { "" };
-    let mut lines = vec![format!("word {number}{rejected}")];
-    lines.extend(words.automata.iter().map(|&automaton| {
-        let does = match word.rejected_by(automaton) {
-            true => "rejects",
-            false => "accepts",
-        };
-        format!("{} {does}", wallet.names.constraint(automaton))
-    }));
+/// What each automaton says of a word, and where it has no state left.
+fn judgements(wallet: &Wallet, judged: &Judged, words: &Words, word: &Word) -> Vec<String> {
+    let roles = roles(judged, &judged.nodes[word.leaf]);
+    let mut lines = Vec::new();
+    for &automaton in &words.automata {
+        let name = wallet.names.constraint(automaton);
+        lines.push(match word.rejected_by(automaton) {
+            true => format!("{name} rejects"),
+            false => format!("{name} accepts"),
+        });
+        let sets = run(&wallet.table, automaton, &roles);
+        lines.extend(dead(&wallet.names, &roles, &sets));
+    }
     lines
 }
 
