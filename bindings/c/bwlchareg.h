@@ -34,7 +34,7 @@ extern "C" {
  *   4  a credential's field outside what its kind allows                                the credential
  *   5  a part cell's field out of range, or next neither 0 nor a greater cell up to q   the cell
  *   6  a kind 4 chain not of 2 to 4 cells                                               the credential
- *   7  an edge's field out of range, or outside what its label allows                   the edge
+ *   7  an edge's field out of range, or owner and name not as its label allows          the edge
  */
 uint32_t bwlchareg_check(const uint16_t *table, size_t length, uint64_t *position);
 

@@ -19,7 +19,7 @@ use std::fmt;
 /// | 4 | a field of a credential is outside what its kind allows | the credential |
 /// | 5 | a principal or name of a part cell is out of range, or its next is neither 0 nor a greater cell of the table | the part cell |
 /// | 6 | the chain of a credential of kind 4 does not have 2 to 4 cells | the credential |
-/// | 7 | the automaton, a state or the label of an edge is out of range, or its role is not what the label allows | the edge |
+/// | 7 | the automaton, a state or the label of an edge is out of range, or its owner and name are not as the label allows | the edge |
 /// | 8 | a field of the query is out of range | the field: 1 principal, 2 owner, 3 name, 4 depth |
 /// | 9 | there is no minimal set | 0 |
 /// | 10 | there are more minimal sets than cells | 0 |
@@ -145,8 +145,8 @@ fn condition(number: u32) -> &'static str {
         }
         6 => "has a chain that is not of 2 to 4 cells",
         7 => {
-            "has an automaton, state or label out of range, or a role that is \
-             not what its label allows"
+            "has an automaton, state or label out of range, or an owner and name \
+             that are not as its label allows"
         }
         8 => "is out of range",
         Refusal::NONE => "there is no minimal set",

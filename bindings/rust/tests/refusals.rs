@@ -88,7 +88,7 @@ fn records_of_the_table() {
     let table = with(first + 2, 0);
     told(check(&table), 6, 5, "credential 5 has a chain");
     let edge = layout::edge(&TABLE, 1).start;
-    for (field, number) in [(0, 2), (1, 16), (2, 4), (5, 16)] {
+    for (field, number) in [(0, 2), (1, 16), (2, 5), (5, 16)] {
         let table = with(edge + field, number);
         told(
             check(&table),
@@ -97,13 +97,30 @@ fn records_of_the_table() {
             "edge 1 has an automaton, state or label",
         );
     }
-    let table = with(edge + 2, 2);
-    told(
-        check(&table),
-        7,
-        1,
-        "a role that is not what its label allows",
-    );
+}
+
+#[test]
+fn owners_and_names_of_edges() {
+    let edge = layout::edge(&TABLE, 1).start;
+    let words = "an owner and name that are not as its label allows";
+    for label in 1..=4 {
+        for owner in [0, 1, 64, 65] {
+            for name in [0, 1, 64, 65] {
+                let mut table = with(edge + 2, label);
+                table[edge + 3..edge + 5].copy_from_slice(&[owner, name]);
+                let in_range = |number| (1..=64).contains(&number);
+                let allowed = match label {
+                    2 => (owner, name) == (0, 0),
+                    4 => in_range(owner) && name == 0,
+                    _ => in_range(owner) && in_range(name),
+                };
+                match allowed {
+                    true => assert_eq!(check(&table), Ok(())),
+                    false => told(check(&table), 7, 1, words),
+                }
+            }
+        }
+    }
 }
 
 #[test]

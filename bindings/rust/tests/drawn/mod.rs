@@ -153,10 +153,12 @@ fn credential(random: &mut Random, pairs: u16, automata: u16) -> [u16; layout::C
 }
 
 fn edge(random: &mut Random, automata: u16) -> [u16; layout::EDGE] {
-    let label = random.between(1, 3);
+    let label = random.between(1, 4);
+    let [owner, name] = role(random);
     let [owner, name] = match label {
         2 => [0, 0],
-        _ => role(random),
+        4 => [owner, 0],
+        _ => [owner, name],
     };
     let automaton = random.between(1, automata);
     let (from, to) = (random.between(0, 2), random.between(0, 2));
