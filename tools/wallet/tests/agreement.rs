@@ -246,7 +246,7 @@ fn rejected_runs(wallet: &Wallet, judged: &Judged) -> usize {
 }
 
 /// The lowest automaton with a marked run is the one at which the record is
-/// refused.
+/// refused. A run in which no state is left says so.
 fn check_shown_runs(judged: &Judged, text: &str) {
     let mut present = 0;
     let mut lowest = None;
@@ -256,6 +256,7 @@ fn check_shown_runs(judged: &Judged, text: &str) {
             present = number.parse().expect("an automaton's number");
         } else if line.starts_with(">>") && line.contains("rejected:") {
             lowest = lowest.or(Some(present));
+            assert_eq!(line.contains("{}"), line.contains("; no state "), "{line}");
         }
     }
     let refusal = judged.refusal().filter(|refusal| refusal.number == 14);
@@ -353,6 +354,49 @@ fn show(wallet: &Wallet, query: Query, record: &[u16]) -> Judged {
     let drawable = (1..=svg::MOST_NODES).contains(&judged.nodes.len());
     assert_eq!(drawn, drawable);
     judged
+}
+
+/// Attaches a constraint that looks at the owners of roles alone.
+fn constrain_owners(random: &mut Random, table: &mut Table, credential: u16) {
+    table.automata.push(Automaton {
+        start: random.between(1, 3),
+        accept: random.between(1, 3),
+    });
+    let automaton = table.automata.len() as u16;
+    table.credentials[usize::from(credential) - 1].automaton = automaton;
+    for _ in 0..random.between(2, 6) {
+        let owner = random.pick(&table.credentials).role.owner;
+        table.edges.push(Edge {
+            automaton,
+            from: random.between(0, 1),
+            label: Label::Of(owner),
+            to: random.between(0, 1),
+        });
+    }
+}
+
+#[test]
+fn constraints_on_owners_are_shown_as_they_are_judged() {
+    let mut random = Random::new(7);
+    let (mut accepted, mut rejected) = (0, 0);
+    while accepted + rejected < 1_000 {
+        let policy = Policy::new(policies::unconstrained(&mut random));
+        let Some(grown) = Grown::new(&mut random, &policy) else {
+            continue;
+        };
+        let claim = grown.claim();
+        let mut wallet = wallet(&claim).expect("an accepted table");
+        constrain_owners(&mut random, &mut wallet.table, claim.record[0]);
+        match show(&wallet, query(&claim), &claim.record).refusal() {
+            None => accepted += 1,
+            Some(refusal) => {
+                assert_eq!((refusal.number, refusal.position), (14, 1));
+                rejected += 1;
+            }
+        }
+    }
+    let both = accepted > 100 && rejected > 100;
+    assert!(both, "{accepted} accepted, {rejected} rejected");
 }
 
 /// A number from a range that is wrong now and then.
