@@ -90,6 +90,8 @@ pub enum Label {
     Every,
     /// Label 3: every role but this one.
     AllBut(Role),
+    /// Label 4: every role of this owner.
+    OwnedBy(Principal),
 }
 
 impl Table {
@@ -222,6 +224,7 @@ impl Label {
             Label::Exactly(this) => role == this,
             Label::Every => true,
             Label::AllBut(this) => role != this,
+            Label::OwnedBy(owner) => role.owner == owner,
         }
     }
 }
@@ -258,6 +261,7 @@ impl Edge {
             (1, owner, name) => Label::Exactly(Role::read(owner, name)?),
             (2, 0, 0) => Label::Every,
             (3, owner, name) => Label::AllBut(Role::read(owner, name)?),
+            (4, owner, 0) => Label::OwnedBy(Principal::read(owner)?),
             _ => return None,
         };
         Some(Edge {

@@ -5,7 +5,8 @@ use reference::shop::{Q, T, U};
 use reference::{check, check_query, Query, Refusal};
 
 /// A table with two credentials of kind 4, six cells (two chains, one of them
-/// inside the other, and an unused cell), an automaton and three edges.
+/// inside the other, and two unused cells), an automaton and an edge for each
+/// label.
 fn parts() -> Records {
     Records {
         credentials: vec![
@@ -26,6 +27,7 @@ fn parts() -> Records {
             [1, 0, 1, 1, 1, 15],  // edge 1
             [1, 15, 2, 0, 0, 0],  // edge 2
             [1, 3, 3, 64, 64, 3], // edge 3
+            [1, 15, 4, 2, 0, 15], // edge 4
         ],
     }
 }
@@ -180,7 +182,7 @@ fn refusal_7_edges() {
     assert_eq!(changed(&[Edge(2, 1, 16)]), refused(7, 2));
     assert_eq!(changed(&[Edge(3, 5, 16)]), refused(7, 3));
     assert_eq!(changed(&[Edge(3, 2, 0)]), refused(7, 3));
-    assert_eq!(changed(&[Edge(3, 2, 4)]), refused(7, 3));
+    assert_eq!(changed(&[Edge(3, 2, 5)]), refused(7, 3));
     assert_eq!(changed(&[Edge(3, 2, 2)]), refused(7, 3));
     assert_eq!(changed(&[Edge(1, 3, 0)]), refused(7, 1));
     assert_eq!(changed(&[Edge(1, 4, 65)]), refused(7, 1));
@@ -189,6 +191,64 @@ fn refusal_7_edges() {
     assert_eq!(changed(&[Edge(3, 3, 65)]), refused(7, 3));
     assert_eq!(changed(&[Edge(3, 4, 0)]), refused(7, 3));
     assert_eq!(changed(&[Edge(1, 2, 3)]), Ok(()));
+}
+
+/// The answer if edge 4 has this label, owner and name.
+fn labelled(label: u16, owner: u16, name: u16) -> Result<(), Refusal> {
+    changed(&[Edge(4, 2, label), Edge(4, 3, owner), Edge(4, 4, name)])
+}
+
+#[test]
+fn refusal_7_label_4_has_an_owner_and_no_name() {
+    for owner in [1, 2, 63, 64] {
+        assert_eq!(labelled(4, owner, 0), Ok(()), "owner {owner}");
+        for name in [1, owner, 64, 65, 256, 65535] {
+            let answer = labelled(4, owner, name);
+            assert_eq!(answer, refused(7, 4), "owner {owner}, name {name}");
+        }
+    }
+    for owner in [0, 65, 66, 256, 257, 65535] {
+        assert_eq!(labelled(4, owner, 0), refused(7, 4), "owner {owner}");
+        // The two in each other's place, and neither as it should be.
+        assert_eq!(labelled(4, owner, 1), refused(7, 4), "owner {owner}");
+    }
+}
+
+#[test]
+fn refusal_7_no_other_label_has_an_owner_and_no_name() {
+    for label in [0, 1, 2, 3, 5, 6, 260, 65535] {
+        assert_eq!(labelled(label, 2, 0), refused(7, 4), "label {label}");
+    }
+    // What the other labels have is not what label 4 has.
+    assert_eq!(changed(&[Edge(1, 2, 4)]), refused(7, 1));
+    assert_eq!(changed(&[Edge(2, 2, 4)]), refused(7, 2));
+    assert_eq!(changed(&[Edge(3, 2, 4)]), refused(7, 3));
+    for label in [0, 5, 65535] {
+        assert_eq!(labelled(label, 0, 0), refused(7, 4), "label {label}");
+        assert_eq!(labelled(label, 2, 2), refused(7, 4), "label {label}");
+    }
+}
+
+#[test]
+fn refusal_7_the_first_edge_whatever_its_label() {
+    let (name, owner) = (Edge(4, 4, 1), Edge(4, 3, 0));
+    assert_eq!(changed(&[name, Edge(1, 0, 0)]), refused(7, 1));
+    assert_eq!(changed(&[owner, Edge(2, 3, 1)]), refused(7, 2));
+    assert_eq!(changed(&[name, owner, Edge(3, 5, 16)]), refused(7, 3));
+    // Label 4 at an edge with a role, before edges that are wrong in other ways.
+    let others = [Edge(2, 0, 0), Edge(3, 1, 16), Edge(4, 2, 5), owner];
+    for own in [Edge(1, 2, 4), Edge(1, 4, 0)] {
+        let all = [&[own], &others[..]].concat();
+        assert_eq!(changed(&all), refused(7, 1));
+    }
+    // Edge 1 has label 4 as it should be, and is passed.
+    let passed = [Edge(1, 2, 4), Edge(1, 4, 0)];
+    assert_eq!(changed(&passed), Ok(()));
+    assert_eq!(changed(&[&passed[..], &others].concat()), refused(7, 2));
+    // An edge with label 4 has the other fields too.
+    for other in [Edge(4, 0, 0), Edge(4, 0, 2), Edge(4, 1, 16), Edge(4, 5, 16)] {
+        assert_eq!(changed(&[other]), refused(7, 4));
+    }
 }
 
 #[test]
@@ -219,6 +279,11 @@ fn rows_come_before_records() {
     assert_eq!(changed(&[five, six, seven]), refused(5, 1));
     assert_eq!(changed(&[six, seven]), refused(6, 1));
     assert_eq!(changed(&[Edge(3, 0, 0), seven]), refused(7, 1));
+    for seven in [Edge(4, 3, 65), Edge(4, 4, 64)] {
+        assert_eq!(changed(&[four, seven]), refused(4, 3));
+        assert_eq!(changed(&[five, seven]), refused(5, 1));
+        assert_eq!(changed(&[six, seven]), refused(6, 1));
+    }
 }
 
 #[test]
@@ -227,4 +292,12 @@ fn the_table_is_checked_before_the_query() {
     assert_eq!(check_query(&T[..T.len() - 1], query), refused(3, 0));
     assert_eq!(check_query(&[], query), refused(1, 0));
     assert_eq!(check_query(&T, query), refused(8, 4));
+    // Label 4, right and wrong.
+    let mut records = parts();
+    assert_eq!(check_query(&records.numbers(), query), refused(8, 4));
+    for (field, value) in [(3, 0), (3, 65), (4, 1)] {
+        records.edges = parts().edges;
+        records.edges[3][field] = value;
+        assert_eq!(check_query(&records.numbers(), query), refused(7, 4));
+    }
 }

@@ -3,8 +3,8 @@
 mod by_hand_tables;
 
 use by_hand_tables::{
-    from, in_every, kept, linked, member, on, on_all_but, on_every, plain, table, A, ASKED, B, C,
-    D, G,
+    chain, from, in_every, kept, linked, member, on, on_all_but, on_any_of, on_every, plain, table,
+    A, ASKED, B, C, D, G,
 };
 use reference::derivation::NODE;
 use reference::generate::wide;
@@ -270,6 +270,53 @@ fn an_automaton_starts_at_the_goal() {
     assert!(is_none(&table(&middle, &[], 2, &begins_with_a), ASKED));
     let begins_with_g = [on(0, G, 1), on_every(1, 1)];
     assert_eq!(sets(&table(&middle, &[], 2, &begins_with_g), ASKED), [7]);
+}
+
+/// A role of another owner, whose name Gate has too.
+const ELSEWHERE: [u16; 2] = [2, 2];
+
+#[test]
+fn words_may_be_kept_to_an_owner_s_roles() {
+    let own = [on_any_of(0, 1, 0)];
+    let both = [on_any_of(0, 1, 0), on_any_of(0, 2, 0)];
+    let ways = [
+        kept(from(G, A)),
+        member(A, 9),
+        from(A, ELSEWHERE),
+        member(ELSEWHERE, 9),
+    ];
+    assert_eq!(sets(&table(&ways, &[], 1, &own), ASKED), [3]);
+    assert_eq!(sets(&table(&ways, &[], 1, &both), ASKED), [3, 13]);
+    assert!(is_none(&table(&ways, &[], 1, &both[1..]), ASKED));
+    // Nobody is in A but by way of the other owner.
+    let mut away = ways;
+    away[1] = member(A, 8);
+    assert!(is_none(&table(&away, &[], 1, &own), ASKED));
+    assert_eq!(sets(&table(&away, &[], 1, &both), ASKED), [13]);
+}
+
+#[test]
+fn a_dead_automaton_is_met_again_further_down_and_on_other_branches() {
+    let own = [on_any_of(0, 1, 0)];
+    // It is dead at the other owner's role, and used only below, by 3.
+    let below = [
+        from(G, ELSEWHERE),
+        from(ELSEWHERE, A),
+        kept(member(A, 9)),
+        member(A, 9),
+    ];
+    assert_eq!(sets(&table(&below, &[], 1, &own), ASKED), [11]);
+    // It is dead on one branch, and used only on the other, by 2.
+    let beside = [
+        in_every(G, 1),
+        kept(member(A, 9)),
+        member(ELSEWHERE, 9),
+        member(A, 9),
+    ];
+    for parts in [[A, ELSEWHERE], [ELSEWHERE, A]] {
+        let beside = table(&beside, &chain(&parts), 1, &own);
+        assert_eq!(sets(&beside, ASKED), [13]);
+    }
 }
 
 #[test]

@@ -444,6 +444,104 @@ fn label_1_matches_where_owner_and_name_are_the_same() {
 }
 
 #[test]
+fn label_4_matches_every_name_of_its_owner_and_no_other_role() {
+    let roles = [
+        (1, 1),
+        (1, 2),
+        (1, 64),
+        (2, 1),
+        (2, 64),
+        (64, 1),
+        (64, 2),
+        (64, 64),
+    ];
+    // Principal 4 is in each of them, under automaton 1.
+    let members = roles.map(|(owner, name)| [owner, name, 1, 4, 0, 1]);
+    for (owner, matched) in [(1, 1..=3), (2, 4..=5), (3, 0..=0), (64, 6..=8)] {
+        let own = table(&members, &[], &[[1, 2]], &[[1, 0, 4, owner, 0, 1]]);
+        for (number, (of, name)) in (1..).zip(roles) {
+            let query = Query::from_numbers([4, of, name, 1]);
+            let verdict = match matched.contains(&number) {
+                true => Ok(1 << (number - 1)),
+                false => refused(14, 1),
+            };
+            let own = verify(&own, query, &[number, 0]);
+            assert_eq!(own, verdict, "owner {owner}, role {of}.{name}");
+        }
+    }
+}
+
+#[test]
+fn an_automaton_may_want_nothing_but_an_owner_s_roles() {
+    // The words of R: discount, accredited, both Shop's; discount, student.
+    let [shop_s, school_s] = [1, 2].map(|owner| [1, 0, 4, owner, 0, 0]);
+    for (edges, verdict) in [
+        (vec![shop_s], refused(14, 1)),
+        (vec![school_s], refused(14, 1)),
+        (vec![shop_s, school_s], Ok(7)),
+        (vec![school_s, shop_s], Ok(7)),
+        (vec![shop_s, [1, 0, 1, 2, 2, 0]], Ok(7)),
+        (vec![shop_s, [1, 0, 1, 2, 1, 0]], refused(14, 1)),
+        (vec![school_s, [1, 0, 3, 1, 3, 0]], refused(14, 1)),
+    ] {
+        assert_eq!(
+            verify(&shop(1, [1, 1], &edges), Q, &R),
+            verdict,
+            "{edges:?}"
+        );
+    }
+    assert_eq!(verify(&shop(4, [1, 1], &[shop_s]), Q, &[4, 0]), Ok(8));
+    // From one state by Shop's roles to 2, by School's to 3.
+    let parted = [[1, 0, 4, 1, 0, 1], [1, 1, 4, 1, 0, 2], [1, 1, 4, 2, 0, 3]];
+    for (accepting, verdict) in [
+        (4, refused(14, 1)),
+        (8, refused(14, 1)),
+        (4 + 8, Ok(7)),
+        (1 + 2, refused(14, 1)),
+    ] {
+        assert_eq!(verify(&shop(1, [1, accepting], &parted), Q, &R), verdict);
+    }
+}
+
+#[test]
+fn nodes_come_before_an_automaton_that_is_dead() {
+    // The automaton wants nothing but School's roles: it is dead from the goal
+    // on. Only the record that does not use it is accepted.
+    for credential in 1..=3 {
+        let dead = shop(credential, [1, 1], &[[1, 0, 4, 2, 0, 0]]);
+        assert_eq!(verify(&dead, Q, &R), refused(14, 1));
+        assert_eq!(verify(&dead, Q, &[1, 2]), refused(11, 2));
+        assert_eq!(verify(&dead, Q, &[1, 2, 2, 0, 3]), refused(11, 3));
+        assert_eq!(verify(&dead, Q, &[1, 2, 9, 0]), refused(12, 2));
+        assert_eq!(verify(&dead, Q, &[1, 2, 2, 0, 3, 1]), refused(12, 3));
+        assert_eq!(verify(&dead, depth(1), &R), refused(13, 2));
+        assert_eq!(verify(&dead, Q, &[&R[..], &[0]].concat()), refused(11, 4));
+        assert_eq!(verify(&dead, Q, &[4, 0]), Ok(8));
+    }
+    let unused = shop(4, [1, 1], &[[1, 0, 4, 2, 0, 0]]);
+    assert_eq!(verify(&unused, Q, &R), Ok(7));
+}
+
+#[test]
+fn a_lower_automaton_comes_before_one_that_is_dead_earlier() {
+    // Automaton 2 is dead from the goal on, 1 only at the last node.
+    let mut records = Records::read(&T).expect("T is accepted");
+    records.automata.extend([[1, 1], [1, 1]]);
+    records.edges.push([2, 0, 4, 2, 0, 0]);
+    records.edges.push([1, 0, 4, 1, 0, 0]);
+    for (attached, verdict) in [
+        ([2, 1, 0], refused(14, 1)),
+        ([0, 2, 1], refused(14, 1)),
+        ([2, 0, 0], refused(14, 2)),
+    ] {
+        for (credential, automaton) in records.credentials.iter_mut().zip(attached) {
+            credential[5] = automaton;
+        }
+        assert_eq!(verify(&records.numbers(), Q, &R), verdict, "{attached:?}");
+    }
+}
+
+#[test]
 fn only_its_own_edges_move_an_automaton() {
     let mut records = Records::read(&T).expect("T is accepted");
     records.credentials[3][5] = 1;

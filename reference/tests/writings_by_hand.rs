@@ -4,10 +4,11 @@
 mod by_hand_tables;
 
 use by_hand_tables::{
-    chain, from, in_every, kept, linked, member, on, on_every, plain, table, A, ASKED, B, C, D, G,
+    chain, from, in_every, kept, linked, member, on, on_any_of, on_every, plain, table, A, ASKED,
+    B, C, D, G,
 };
 use reference::generate::wide;
-use reference::records::CredentialRecord;
+use reference::records::{CredentialRecord, EdgeRecord};
 use reference::shop::{Q, R, T, U};
 use reference::{list, verify, write, Query, Refusal};
 
@@ -245,18 +246,30 @@ fn the_least_credential_may_be_forbidden_on_one_branch() {
 #[test]
 fn the_least_middle_may_be_forbidden_on_one_branch() {
     // A word that begins with G A may end with 64's T1, one with G B with 7's;
-    // both may end with D, in which the middles are.
-    let edges = [
-        on(0, G, 1),
-        on(1, A, 2),
-        on(1, B, 3),
+    // both may end with D, in which the middles are. The same once more by
+    // owners: then the automaton is dead at the role of the wrong middle.
+    let by_role = [
         on_every(2, 2),
         on_every(3, 3),
-        on(2, D, 4),
-        on(3, D, 4),
         on(2, [64, T1], 4),
         on(3, [7, T1], 4),
     ];
+    let by_owner = [
+        on_any_of(2, 1, 2),
+        on_any_of(3, 1, 3),
+        on_any_of(2, 64, 4),
+        on_any_of(3, 7, 4),
+    ];
+    for ways in [by_role, by_owner] {
+        let parted = [on(0, G, 1), on(1, A, 2), on(1, B, 3)];
+        let middles = [on(2, D, 4), on(3, D, 4)];
+        by_64_then_by_7(&[&parted[..], &middles, &ways].concat());
+    }
+}
+
+/// That the first record goes by the middle 64 below A and by 7 below B, with
+/// these edges of the goal's automaton, which accepts in state 4.
+fn by_64_then_by_7(edges: &[EdgeRecord]) {
     let credentials = [
         kept(in_every(G, 1)),
         from(A, C),
@@ -267,7 +280,7 @@ fn the_least_middle_may_be_forbidden_on_one_branch() {
         member([7, T1], 9),
         member([64, T1], 9),
     ];
-    let one = table(&credentials, &chain(&[A, B]), 16, &edges);
+    let one = table(&credentials, &chain(&[A, B]), 16, edges);
     assert_eq!(sets(&one, ASKED), [255]);
     let by_64 = [2, 0, 4, 64, 6, 0, 8, 0];
     let by_7 = [3, 0, 4, 7, 5, 0, 7, 0];

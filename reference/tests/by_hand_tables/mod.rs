@@ -42,7 +42,8 @@ pub fn kept(mut credential: CredentialRecord) -> CredentialRecord {
     credential
 }
 
-/// An edge of automaton 1 on exactly a role, on every role, on all but one.
+/// An edge of automaton 1 on exactly a role, on every role, on all but one, on
+/// any of an owner.
 pub fn on(from: u16, role: [u16; 2], to: u16) -> EdgeRecord {
     [1, from, 1, role[0], role[1], to]
 }
@@ -53,6 +54,10 @@ pub fn on_every(from: u16, to: u16) -> EdgeRecord {
 
 pub fn on_all_but(from: u16, role: [u16; 2], to: u16) -> EdgeRecord {
     [1, from, 3, role[0], role[1], to]
+}
+
+pub fn on_any_of(from: u16, owner: u16, to: u16) -> EdgeRecord {
+    [1, from, 4, owner, 0, to]
 }
 
 /// The cells of a chain that begins at cell 1.
