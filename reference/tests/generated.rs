@@ -1,7 +1,10 @@
 //! That the generators make what they say, and reach every shape of table.
 
+mod owning;
+
 use std::collections::BTreeSet;
 
+use reference::generate::damage::Damaged;
 use reference::generate::{chains, damage, noise, places, queries, valid, Place};
 use reference::random::Random;
 use reference::records::{Head, Records};
@@ -65,9 +68,15 @@ fn every_kind_and_label_occurs() {
     for kind in 1..=4 {
         assert!(found(|r| r.credentials.iter().any(|c| c[2] == kind)) > 0);
     }
-    for label in 1..=3 {
+    for label in 1..=4 {
         assert!(found(|r| r.edges.iter().any(|e| e[2] == label)) > 0);
     }
+}
+
+#[test]
+fn about_a_third_of_the_automata_have_label_4() {
+    let [with, all] = owning::automata(&valid_tables());
+    assert!((all / 4..all / 2).contains(&with), "{with} of {all}");
 }
 
 #[test]
@@ -140,7 +149,7 @@ fn every_number_of_a_table_is_a_field() {
 }
 
 /// What a single damage leads to: nothing, or one of its place's refusals.
-fn assert_expected(damaged: &damage::Damaged) {
+fn assert_expected(damaged: &Damaged) {
     let answer = check(&damaged.table);
     let expected = match answer {
         Ok(()) => true,
@@ -168,6 +177,31 @@ fn every_field_and_length_of_the_shop() {
         let number = if damaged.table.len() < 4 { 1 } else { 3 };
         assert_eq!(check(&damaged.table), Err(Refusal::new(number, 0u64)));
     }
+}
+
+#[test]
+fn damage_reaches_label_4_with_every_wrong_owner_and_name() {
+    let mut random = Random::new(SEED);
+    let mut met = BTreeSet::new();
+    for records in valid_tables() {
+        let Damaged { table, place } = damage::field(&mut random, &records);
+        let field = match place {
+            Place::EdgeOwner(4) => 3,
+            Place::EdgeName(4) => 4,
+            _ => continue,
+        };
+        if let Err(refusal) = check(&table) {
+            assert_eq!(refusal.number, 7, "{table:?}");
+            let edges = Records::read(&table).expect("a right head").edges;
+            let edge = edges[refusal.position as usize - 1];
+            assert_eq!(edge[2], 4, "{table:?}");
+            met.insert((field, edge[field]));
+        }
+    }
+    let wrong_owners = [0, 65, u16::MAX].map(|owner| (3, owner));
+    let wrong_names = [1, 64, 256, u16::MAX].map(|name| (4, name));
+    assert!(met.is_superset(&wrong_owners.into()), "{met:?}");
+    assert!(met.is_superset(&wrong_names.into()), "{met:?}");
 }
 
 #[test]

@@ -1,6 +1,8 @@
 //! That the generators of records make what they say, and reach every shape
 //! of derivation.
 
+mod owning;
+
 use std::collections::{BTreeMap, BTreeSet};
 
 use reference::derivation::NODE;
@@ -74,9 +76,11 @@ fn policies_have_everything_that_a_table_can_have() {
         assert!(found(&|r| r.head().automata == automaton));
         assert!(found(&|r| r.credentials.iter().any(|c| c[5] == automaton)));
     }
-    for label in 1..=3 {
+    for label in 1..=4 {
         assert!(found(&|r| r.edges.iter().any(|e| e[2] == label)));
     }
+    let [with_4, all] = owning::automata(&drawn);
+    assert!((all / 4..all / 2).contains(&with_4), "{with_4} of {all}");
     assert!(found(&|r| r.head().credentials == Head::LIMITS.credentials));
     let shared = |r: &Records| {
         let mut met = BTreeSet::new();
@@ -212,16 +216,29 @@ fn every_simple_way_of_spoiling_the_shop() {
     assert_eq!(numbers, BTreeSet::from([12]));
 }
 
-/// Whether a constraint accepts a word, given by the names of its roles, all
-/// of one owner.
-fn constraint_accepts(constraint: &Constraint, names: &[u16]) -> bool {
+/// Whether a constraint accepts a word, given by the owners and names of its
+/// roles.
+fn accepts_roles(constraint: &Constraint, roles: &[(u16, u16)]) -> bool {
     let mut records = Records::read(&shop::T).expect("T is accepted");
     constraints::add(&mut Random::new(SEED), &mut records, constraint);
     let table = Table::read(&records.numbers()).expect("accepted");
-    let word = names
-        .iter()
-        .map(|&name| Role::read(9, name).expect("a role"));
+    let roles = roles.iter();
+    let word = roles.map(|&(owner, name)| Role::read(owner, name).expect("a role"));
     accepts(&table, 1, &word.collect::<Vec<Role>>())
+}
+
+/// The same for a word that is given by the names of its roles, all of one owner.
+fn constraint_accepts(constraint: &Constraint, names: &[u16]) -> bool {
+    let roles: Vec<(u16, u16)> = names.iter().map(|&name| (9, name)).collect();
+    accepts_roles(constraint, &roles)
+}
+
+/// The same for a word that is given by the owners of its roles, whose names are
+/// the same the other way round.
+fn owners_accepted(constraint: &Constraint, owners: &[u16]) -> bool {
+    let names = owners.iter().rev();
+    let roles: Vec<(u16, u16)> = owners.iter().copied().zip(names.copied()).collect();
+    accepts_roles(constraint, &roles)
 }
 
 #[test]
@@ -258,6 +275,41 @@ fn constraints_accept_what_they_say() {
         assert!(!rejected
             .iter()
             .any(|word| constraint_accepts(&constraint, word)));
+    }
+}
+
+#[test]
+fn constraints_by_owner_accept_what_they_say() {
+    for (constraint, accepted, rejected) in [
+        (
+            Constraint::owned_by(&[2]),
+            vec![&[2][..], &[2, 2]],
+            vec![&[3][..], &[2, 3], &[3, 2]],
+        ),
+        (
+            Constraint::owned_by(&[2, 3]),
+            vec![&[2], &[3], &[3, 2, 2]],
+            vec![&[1], &[2, 3, 1]],
+        ),
+        (
+            Constraint::handed_over(2, 3),
+            vec![&[2], &[3], &[2, 2, 3, 3]],
+            vec![&[3, 2], &[2, 3, 2], &[1]],
+        ),
+        (
+            Constraint::first_of(2),
+            vec![&[2, 1, 3]],
+            vec![&[1, 2], &[3, 1, 2]],
+        ),
+        (
+            Constraint::last_of(2),
+            vec![&[1, 3, 2], &[2]],
+            vec![&[2, 1], &[2, 1, 3]],
+        ),
+    ] {
+        let accepts = |word: &&[u16]| owners_accepted(&constraint, word);
+        assert!(accepted.iter().all(accepts), "{constraint:?}");
+        assert!(!rejected.iter().any(accepts), "{constraint:?}");
     }
 }
 

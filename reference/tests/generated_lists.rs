@@ -2,13 +2,14 @@
 //! such a table gives; and what the made-up tables are like.
 
 mod every_record;
+mod owning;
 
-use std::collections::BTreeSet;
+use std::collections::{BTreeMap, BTreeSet};
 
 use every_record::records;
 use reference::derivation::NODE;
 use reference::generate::families::{self, Family};
-use reference::generate::listings::{self, Listing};
+use reference::generate::listings::{self, Listing, Source};
 use reference::generate::shapes::{self, Way};
 use reference::generate::wallets::{self, Place, Plan, Wallet};
 use reference::listing::minimal_sets_within;
@@ -16,6 +17,7 @@ use reference::pairs::is_part;
 use reference::patience::Patience;
 use reference::query::DEEPEST;
 use reference::random::Random;
+use reference::records::Records;
 use reference::table::Table;
 use reference::{check, check_query, list, verify, Query, Refusal};
 
@@ -145,6 +147,27 @@ fn patience_ends_or_changes_nothing() {
         }
     }
     assert!((50..300).contains(&ended), "{ended}");
+}
+
+#[test]
+fn about_a_third_of_the_automata_of_listings_have_label_4() {
+    let mut random = Random::new(SEED);
+    let drawn = (0..3_000).map(|_| listings::any(&mut random));
+    let mut by_source: BTreeMap<Source, Vec<Records>> = BTreeMap::new();
+    for Listing { table, source, .. } in drawn {
+        let records = Records::read(&table).into_iter();
+        by_source.entry(source).or_default().extend(records);
+    }
+    let all: Vec<Records> = by_source.values().flatten().cloned().collect();
+    let [with_4, automata] = owning::automata(&all);
+    let right = automata / 4..automata / 2;
+    assert!(right.contains(&with_4), "{with_4} of {automata}");
+    // Automata that accept nothing have no label to speak of.
+    for (source, tables) in by_source {
+        let [with_4, automata] = owning::automata(&tables);
+        let some = automata > 0 && source != Source::Shaped(Family::Barred);
+        assert_eq!(with_4 > 0, some, "{source}");
+    }
 }
 
 #[test]

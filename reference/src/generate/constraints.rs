@@ -1,6 +1,7 @@
 //! Automata that accept some words and reject others, and the credentials
 //! to which they are attached.
 
+use crate::generate::valid;
 use crate::random::Random;
 use crate::records::{EdgeRecord, Head, Records};
 use crate::table::LAST_STATE;
@@ -16,17 +17,43 @@ pub struct Constraint {
     edges: Vec<[u16; 5]>,
 }
 
-/// An edge on every role, on one role, on every role but one.
-fn every(from: u16, to: u16) -> [u16; 5] {
-    [from, 2, 0, 0, to]
+/// What an edge matches, as written: label, owner, name.
+pub type Matched = [u16; 3];
+
+/// Every role.
+pub const EVERY: Matched = [2, 0, 0];
+
+/// One role.
+pub fn one((owner, name): Role) -> Matched {
+    [1, owner, name]
 }
 
-fn exactly(from: u16, (owner, name): Role, to: u16) -> [u16; 5] {
-    [from, 1, owner, name, to]
+/// Every role of an owner.
+pub fn owned(owner: u16) -> Matched {
+    [4, owner, 0]
+}
+
+/// An edge on what it matches.
+fn on(from: u16, [label, owner, name]: Matched, to: u16) -> [u16; 5] {
+    [from, label, owner, name, to]
+}
+
+/// An edge on every role, on one role, on every role but one, on any of an
+/// owner.
+fn every(from: u16, to: u16) -> [u16; 5] {
+    on(from, EVERY, to)
+}
+
+fn exactly(from: u16, role: Role, to: u16) -> [u16; 5] {
+    on(from, one(role), to)
 }
 
 fn all_but(from: u16, (owner, name): Role, to: u16) -> [u16; 5] {
     [from, 3, owner, name, to]
+}
+
+fn any_of(from: u16, owner: u16, to: u16) -> [u16; 5] {
+    on(from, owned(owner), to)
 }
 
 impl Constraint {
@@ -81,13 +108,13 @@ impl Constraint {
         Constraint::new(2 + 4, edges)
     }
 
-    /// The second role of the word is one of these, at most 13, and the last is
-    /// one of those that are given with it.
-    pub fn last_by_second(ways: &[(Role, Vec<Role>)]) -> Constraint {
+    /// The second role of the word is one of these, at most 13, the last is as
+    /// is given with it, and all roles between them are as is said first.
+    pub fn last_by_second(between: Matched, ways: &[(Role, Vec<Matched>)]) -> Constraint {
         let mut edges = vec![every(0, 1)];
         for (state, (second, lasts)) in (2..).zip(ways) {
-            edges.extend([exactly(1, *second, state), every(state, state)]);
-            edges.extend(lasts.iter().map(|&last| exactly(state, last, LAST_STATE)));
+            edges.extend([exactly(1, *second, state), on(state, between, state)]);
+            edges.extend(lasts.iter().map(|&last| on(state, last, LAST_STATE)));
         }
         Constraint::new(1 << LAST_STATE, edges)
     }
@@ -97,6 +124,29 @@ impl Constraint {
         let found = [exactly(0, role, 1), exactly(1, next, 2)];
         let edges = [vec![every(0, 0), every(2, 2)], found.to_vec()].concat();
         Constraint::new(4, edges)
+    }
+
+    /// The word has roles of these owners alone.
+    pub fn owned_by(owners: &[u16]) -> Constraint {
+        let edges = owners.iter().map(|&owner| any_of(0, owner, 0));
+        Constraint::new(1, edges.collect())
+    }
+
+    /// The word has roles of an owner, and from some place on those of another
+    /// alone; there may be none of either.
+    pub fn handed_over(owner: u16, next: u16) -> Constraint {
+        let edges = [any_of(0, owner, 0), any_of(0, next, 1), any_of(1, next, 1)];
+        Constraint::new(1 + 2, edges.to_vec())
+    }
+
+    /// The word begins with a role of an owner.
+    pub fn first_of(owner: u16) -> Constraint {
+        Constraint::new(2, vec![any_of(0, owner, 1), every(1, 1)])
+    }
+
+    /// The word ends with a role of an owner.
+    pub fn last_of(owner: u16) -> Constraint {
+        Constraint::new(2, vec![every(0, 0), any_of(0, owner, 1)])
     }
 
     /// The word has at most so many roles, 15 at the very most.
@@ -117,9 +167,10 @@ impl Constraint {
         for _ in 0..random.between(2, 10) {
             let (from, to) = (random.between(0, last), random.between(0, last));
             let role = *random.pick(roles);
-            edges.push(match random.below(4) {
+            edges.push(match random.below(5) {
                 0 => exactly(from, role, to),
                 1 => all_but(from, role, to),
+                2 => any_of(from, role.0, to),
                 _ => every(from, to),
             });
         }
@@ -132,8 +183,35 @@ impl Constraint {
 
     /// One of the above, about some of these roles; there is at least one.
     pub fn any(random: &mut Random, roles: &[Role]) -> Constraint {
+        let constraint = match random.below(10) {
+            0..=2 => Constraint::by_owner(random, roles),
+            _ => Constraint::by_role(random, roles),
+        };
+        constraint.renamed(random)
+    }
+
+    /// One that goes by the owners of some of these roles, or now and then by
+    /// somebody who perhaps owns none.
+    fn by_owner(random: &mut Random, roles: &[Role]) -> Constraint {
+        let [one, two, three] = [0; 3].map(|_| match random.below(8) {
+            0 => valid::one_to_highest(random),
+            _ => random.pick(roles).0,
+        });
+        match random.below(8) {
+            0 | 1 => Constraint::owned_by(&[one]),
+            2 | 3 => Constraint::owned_by(&[one, two]),
+            4 => Constraint::owned_by(&[one, two, three]),
+            5 => Constraint::handed_over(one, two),
+            6 => Constraint::first_of(one),
+            _ => Constraint::last_of(one),
+        }
+    }
+
+    /// One that goes by some of these roles, or counts them; or edges as they
+    /// come.
+    fn by_role(random: &mut Random, roles: &[Role]) -> Constraint {
         let [role, next] = [*random.pick(roles), *random.pick(roles)];
-        let constraint = match random.below(16) {
+        match random.below(16) {
             0 | 1 => Constraint::everything(),
             2 => Constraint::nothing(random),
             3 => Constraint::first(role),
@@ -145,8 +223,7 @@ impl Constraint {
             11 | 12 => Constraint::at_most(random.between(1, LAST_STATE)),
             13 => Constraint::even_or_odd(random),
             _ => Constraint::haphazard(random, roles),
-        };
-        constraint.renamed(random)
+        }
     }
 
     /// The same automaton with other states in the place of its own.

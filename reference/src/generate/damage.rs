@@ -6,6 +6,7 @@ use crate::generate::noise;
 use crate::generate::places::{fields, Field, Place};
 use crate::random::Random;
 use crate::records::{Head, Records};
+use crate::sorts::HIGHEST;
 
 /// A table, and the one place where it was damaged.
 #[derive(Clone, Debug, PartialEq, Eq)]
@@ -18,7 +19,8 @@ pub struct Damaged {
 
 /// The values that a field is given in turn: the ends of its range and
 /// beyond, its own value and its neighbours, its own value with a high bit
-/// added, and for a cell's next also the numbers about its own.
+/// added, for a cell's next also the numbers about its own, and where only 0 is
+/// allowed also the highest principal or name.
 pub fn values(field: Field, own: u16) -> Vec<u16> {
     let mut values = vec![0, 1, field.limit, u16::MAX];
     values.push(field.limit.saturating_add(1));
@@ -27,6 +29,9 @@ pub fn values(field: Field, own: u16) -> Vec<u16> {
     if field.place == Place::CellNext {
         let number = field.record;
         values.extend([number - 1, number, number + 1]);
+    }
+    if field.limit == 0 {
+        values.push(HIGHEST);
     }
     values.sort();
     values.dedup();

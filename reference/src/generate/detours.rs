@@ -6,7 +6,7 @@
 //! the ways a branch through it may go. So a minimal set has ways that are
 //! right on one branch and wrong on another.
 
-use crate::generate::constraints::{self, Constraint, Role};
+use crate::generate::constraints::{self, one, owned, Constraint, Role, EVERY};
 use crate::generate::families::rename;
 use crate::generate::shapes::{MEMBER, OWNER};
 use crate::generate::wallets::Wallet;
@@ -112,14 +112,23 @@ fn cells(random: &mut Random, parts: u16) -> Vec<CellRecord> {
 
 /// Attaches the constraint to one of the credentials that every derivation
 /// uses. A middle's branch ends in the linking role, which is right everywhere.
+/// Half of the time the constraint goes by owners: a middle owns one role alone,
+/// and all others are the owner's, so it says the same.
 fn constrain(random: &mut Random, records: &mut Records, parts: u16, ends: &[Role]) {
+    let by_owner = random.one_in(2);
+    let matched = |end: &Role| match by_owner && is_by_middle(end) {
+        true => owned(end.0),
+        false => one(*end),
+    };
     let mut ways = Vec::new();
     for part in names(parts) {
-        let mut right = vec![(OWNER, LINKING), *random.pick(ends)];
-        right.extend(ends.iter().filter(|_| random.one_in(3)));
+        let mut right = vec![one((OWNER, LINKING)), matched(random.pick(ends))];
+        let others = ends.iter().filter(|_| random.one_in(3));
+        right.extend(others.map(matched));
         ways.push(((OWNER, part), right));
     }
-    let constraint = Constraint::last_by_second(&ways);
+    let between = if by_owner { owned(OWNER) } else { EVERY };
+    let constraint = Constraint::last_by_second(between, &ways);
     let number = constraints::add(random, records, &constraint);
     let used = random.below(1 + usize::from(parts));
     records.credentials[used][5] = number.expect("there is room for an automaton");

@@ -197,9 +197,13 @@ fn rename_records(records: &mut Records, principal: &impl Fn(&mut u16), name: &i
         name(role);
     }
     for [_, _, label, owner, role, _] in &mut records.edges {
-        if *label != 2 {
-            principal(owner);
-            name(role);
+        match label {
+            2 => {}
+            4 => principal(owner),
+            _ => {
+                principal(owner);
+                name(role);
+            }
         }
     }
 }

@@ -1,6 +1,8 @@
 //! Records that are right number by number, but do not fit their goal, their
 //! query or their table.
 
+use std::collections::BTreeSet;
+
 use crate::derivation::NODE;
 use crate::generate::claims::{levels, numbers, query, written, Claim, Grown};
 use crate::generate::constraints::{Constraint, Role};
@@ -208,6 +210,20 @@ pub fn broken<'a>(random: &mut Random, grown: &Grown<'a>) -> Option<Grown<'a>> {
     if constraints.is_empty() {
         return None;
     }
-    let constraint = random.pick(&constraints);
-    grown.constrained(random, at.credential, constraint)
+    let constraint = match by_owner(&through, &others) {
+        Some(constraint) if random.one_in(3) => constraint,
+        _ => random.pick(&constraints).clone(),
+    };
+    grown.constrained(random, at.credential, &constraint)
+}
+
+/// That words have roles of the owners of these branches alone, if that rejects
+/// a word of others.
+fn by_owner(through: &[Branch], others: &[Branch]) -> Option<Constraint> {
+    let roles = through.iter().flatten();
+    let owners: BTreeSet<u16> = roles.map(|(role, _)| role.0).collect();
+    let mut other_roles = others.iter().flatten();
+    let rejects = other_roles.any(|(role, _)| !owners.contains(&role.0));
+    let owners: Vec<u16> = owners.into_iter().collect();
+    rejects.then(|| Constraint::owned_by(&owners))
 }

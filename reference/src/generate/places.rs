@@ -93,8 +93,8 @@ impl Place {
         places.extend([Place::CellName, Place::CellNext, Place::Chain]);
         places.extend([Place::AutomatonStarting, Place::AutomatonAccepting]);
         places.extend([Place::EdgeAutomaton, Place::EdgeFrom, Place::EdgeLabel]);
-        places.extend([1, 2, 3].map(Place::EdgeOwner));
-        places.extend([1, 2, 3].map(Place::EdgeName));
+        places.extend([1, 2, 3, 4].map(Place::EdgeOwner));
+        places.extend([1, 2, 3, 4].map(Place::EdgeName));
         places.push(Place::EdgeTo);
         places.extend(Place::QUERY);
         places.sort();
@@ -249,13 +249,14 @@ fn automaton_places() -> Vec<(Place, u16)> {
 /// The places and limits of an edge's fields.
 fn edge_places(record: &EdgeRecord, head: Head) -> Vec<(Place, u16)> {
     let label = record[2];
-    let role = if label == 2 { 0 } else { HIGHEST };
+    let owner = if label == 2 { 0 } else { HIGHEST };
+    let name = if label == 2 || label == 4 { 0 } else { HIGHEST };
     vec![
         (Place::EdgeAutomaton, head.automata),
         (Place::EdgeFrom, LAST_STATE),
-        (Place::EdgeLabel, 3),
-        (Place::EdgeOwner(label), role),
-        (Place::EdgeName(label), role),
+        (Place::EdgeLabel, 4),
+        (Place::EdgeOwner(label), owner),
+        (Place::EdgeName(label), name),
         (Place::EdgeTo, LAST_STATE),
     ]
 }

@@ -61,7 +61,7 @@ pub fn records(random: &mut Random, head: Head) -> Records {
         credential(random, &starts, head.automata)
     });
     let automata = (0..head.automata).map(|_| automaton(random)).collect();
-    let edges = repeating(random, head.edges, |random| edge(random, head.automata));
+    let edges = edges(random, head);
     Records {
         credentials,
         cells,
@@ -154,13 +154,25 @@ fn automaton(random: &mut Random) -> AutomatonRecord {
     [set(), set()]
 }
 
-/// An edge of one of the automata, of which there is at least one.
-fn edge(random: &mut Random, automata: u16) -> EdgeRecord {
-    let automaton = random.between(1, automata);
+/// The edges. Only every second automaton may have label 4, so that in a table
+/// of many edges there are automata without it too.
+fn edges(random: &mut Random, head: Head) -> Vec<EdgeRecord> {
+    let may_have_4: Vec<bool> = (0..head.automata).map(|_| random.one_in(2)).collect();
+    repeating(random, head.edges, |random| edge(random, &may_have_4))
+}
+
+/// An edge of one of the automata, of which there is at least one; it says of
+/// each whether it may have label 4.
+fn edge(random: &mut Random, may_have_4: &[bool]) -> EdgeRecord {
+    let automaton = random.between(1, may_have_4.len() as u16);
     let from = random.between(0, LAST_STATE);
-    let label = random.between(1, 3);
+    let label = match may_have_4[usize::from(automaton) - 1] {
+        true if random.one_in(2) => 4,
+        _ => random.between(1, 3),
+    };
     let (owner, name) = match label {
         2 => (0, 0),
+        4 => (one_to_highest(random), 0),
         _ => (one_to_highest(random), one_to_highest(random)),
     };
     let to = random.between(0, LAST_STATE);
