@@ -100,6 +100,14 @@ impl Standing {
         let rejecting = each.filter(|(_, (reached, automaton))| !meets(reached, automaton));
         rejecting.map(|(index, _)| 1 << index).sum()
     }
+
+    /// The automata that are dead, in no state at all: automaton i counts
+    /// 2^(i-1).
+    pub fn dead(&self) -> u32 {
+        let numbered = self.0.iter().enumerate();
+        let dead = numbered.filter(|&(_, reached)| *reached == states(0));
+        dead.map(|(index, _)| 1 << index).sum()
+    }
 }
 
 /// Whether the automaton with this number accepts a word: whether it can end

@@ -7,7 +7,10 @@ use reference::derivation::{Derivation, NODE};
 use reference::generate::claims::Claim;
 use reference::query::DEEPEST;
 use reference::table::{Members, Table};
-use reference::words::every_word;
+use reference::words::{comply, every_word};
+
+use crate::dead;
+use crate::owners::{by_owner, matching_none};
 
 /// Something that an accepted record can be or have.
 #[derive(Clone, Copy, Debug, PartialEq, Eq, PartialOrd, Ord)]
@@ -20,6 +23,12 @@ pub enum Feature {
     AutomatonAndWords,
     /// A credential that is not used has an automaton that is not used.
     UnusedAutomaton,
+    /// A used automaton has label 4.
+    ByOwner,
+    /// So it is, and without its edges with label 4 it would reject a word.
+    OwnersRole,
+    /// An automaton that is not used is dead on a word.
+    DeadAutomaton,
     /// A credential of this kind is used.
     Kind(u16),
     /// The deepest node is as deep as the query allows.
@@ -35,6 +44,8 @@ impl Feature {
     pub fn all() -> Vec<Feature> {
         let mut features = vec![Feature::Automaton, Feature::Automata];
         features.extend([Feature::AutomatonAndWords, Feature::UnusedAutomaton]);
+        features.extend([Feature::ByOwner, Feature::OwnersRole]);
+        features.push(Feature::DeadAutomaton);
         features.extend([1, 2, 3, 4].map(Feature::Kind));
         features.extend([Feature::AtTheLimit, Feature::SixteenLevels]);
         features.push(Feature::ManyNodes);
@@ -57,11 +68,18 @@ impl Feature {
         let derivation = derivation.expect("an accepted record");
         let uses = Uses::of(&table, derivation.used_set());
         let shape = Shape::of(&derivation);
+        let uses_owner = uses.any_of(by_owner(&table));
         let has = |feature: Feature| match feature {
             Feature::Automaton => !uses.automata.is_empty(),
             Feature::Automata => uses.automata.len() > 1,
             Feature::AutomatonAndWords => !uses.automata.is_empty() && shape.words > 1,
             Feature::UnusedAutomaton => !uses.other_automata.is_empty(),
+            Feature::ByOwner => uses_owner,
+            Feature::OwnersRole => {
+                uses_owner && comply(&matching_none(table.clone()), &derivation).is_err()
+            }
+            // The record is accepted, so no used automaton is dead.
+            Feature::DeadAutomaton => dead::on_words(&table, &derivation) != 0,
             Feature::Kind(kind) => uses.kinds.contains(&kind),
             Feature::AtTheLimit => shape.levels == usize::from(asked.depth),
             Feature::SixteenLevels => shape.levels == usize::from(DEEPEST),
@@ -97,6 +115,13 @@ impl Uses {
         }
         uses.other_automata = &uses.other_automata - &uses.automata;
         uses
+    }
+
+    /// Whether one of the automata attached to the record's credentials is in a
+    /// set, in which automaton i counts 2^(i-1).
+    pub fn any_of(&self, set: u32) -> bool {
+        let mut automata = self.automata.iter();
+        automata.any(|number| (set >> (number - 1)) & 1 == 1)
     }
 }
 
@@ -138,6 +163,9 @@ impl fmt::Display for Feature {
             Feature::Automata => "uses several automata".into(),
             Feature::AutomatonAndWords => "uses an automaton, has several words".into(),
             Feature::UnusedAutomaton => "leaves an automaton unused".into(),
+            Feature::ByOwner => "uses an automaton with label 4".into(),
+            Feature::OwnersRole => "label 4 matches, and is needed".into(),
+            Feature::DeadAutomaton => "an unused automaton is dead".into(),
             Feature::Kind(kind) => format!("uses a credential of kind {kind}"),
             Feature::AtTheLimit => "as deep as the query allows".into(),
             Feature::SixteenLevels => "sixteen levels".into(),

@@ -12,6 +12,7 @@ use reference::Refusal;
 
 use crate::buffers::{Row, Size};
 use crate::marks::Mark;
+use crate::owners::Automata;
 use crate::report::{line, listed, outcome, Outcome, PRINTED};
 use crate::word::Word;
 use crate::{library_query, same_refusal};
@@ -56,6 +57,7 @@ pub struct Lists {
     sizes: BTreeMap<(Size, u32), u64>,
     sources: BTreeMap<Source, u64>,
     marks: BTreeMap<Mark, u64>,
+    automata: Automata,
     word: Word,
 }
 
@@ -74,6 +76,7 @@ impl Lists {
             sizes: BTreeMap::new(),
             sources: BTreeMap::new(),
             marks: BTreeMap::new(),
+            automata: Automata::default(),
             word: Word::default(),
         }
     }
@@ -82,6 +85,7 @@ impl Lists {
     /// asks for the verifier's word.
     pub fn compare(&mut self, random: &mut Random, listing: &Listing, sizes: &[Size]) {
         self.listings += 1;
+        self.automata.count(&listing.table);
         let Some(expected) = expected(listing) else {
             self.passed_over += 1;
             return;
@@ -163,6 +167,7 @@ impl Lists {
     /// Every count, what it is of, and how great it must be.
     fn lines(&self) -> Vec<(String, Option<u64>, u64)> {
         let mut lines = vec![("lists that agree".into(), Some(self.agreed), LEAST)];
+        lines.extend(self.automata.lines());
         for number in 0..=GREATEST {
             let count = self.answers.get(&number).copied();
             lines.push((outcome(number), count, 1));
@@ -216,6 +221,7 @@ impl Add for Lists {
             sizes: together(self.sizes, other.sizes),
             sources: together(self.sources, other.sources),
             marks: together(self.marks, other.marks),
+            automata: self.automata + other.automata,
             word: self.word + other.word,
         }
     }

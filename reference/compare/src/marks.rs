@@ -8,9 +8,11 @@ use reference::listing::{minimal_sets_within, Minimal};
 use reference::pairs::is_part;
 use reference::query::DEEPEST;
 use reference::table::Table;
+use reference::words::Standing;
 
 use crate::features::Uses;
 use crate::lists::patience;
+use crate::owners::{by_owner, matching_every};
 
 /// Something that a listing can be or have.
 #[derive(Clone, Copy, Debug, PartialEq, Eq, PartialOrd, Ord)]
@@ -23,6 +25,12 @@ pub enum Mark {
     Automata,
     /// There is an automaton on a credential of no listed set.
     UnusedAutomaton,
+    /// A listed set has a credential with an automaton that has label 4.
+    ByOwner,
+    /// If label 4 matched every role there would be other sets.
+    OtherOwner,
+    /// There is a set, and an automaton that is dead at the goal already.
+    DeadAtTheGoal,
     /// Two listed sets have different numbers of credentials.
     Sizes,
     /// A credential is in no listed set.
@@ -48,6 +56,7 @@ impl Mark {
     pub fn all() -> Vec<Mark> {
         let mut marks: Vec<Mark> = [1, 2, 3, 4].map(Mark::Kind).to_vec();
         marks.extend([Mark::Automaton, Mark::Automata, Mark::UnusedAutomaton]);
+        marks.extend([Mark::ByOwner, Mark::OtherOwner, Mark::DeadAtTheGoal]);
         marks.extend([Mark::Sizes, Mark::Needless, Mark::Twenty]);
         marks.extend([Mark::Constrained, Mark::NoneForConstraints, Mark::Larger]);
         marks.extend([Mark::Deep, Mark::Deepest, Mark::NoneForDepth]);
@@ -59,7 +68,7 @@ impl Mark {
         let table = Table::read(&listing.table).expect("an accepted table");
         let sets: Vec<u32> = sets.iter().map(|minimal| minimal.set).collect();
         let uses: Vec<Uses> = sets.iter().map(|&set| Uses::of(&table, set)).collect();
-        let others = Others::of(listing, &table);
+        let others = Others::of(listing, &table, &sets);
         let any = |holds: &dyn Fn(&Uses) -> bool| uses.iter().any(holds);
         let used = sets.iter().fold(0, |one, other| one | other);
         let sizes: BTreeSet<u32> = sets.iter().map(|set| set.count_ones()).collect();
@@ -68,6 +77,9 @@ impl Mark {
             Mark::Automaton => any(&|uses| !uses.automata.is_empty()),
             Mark::Automata => any(&|uses| uses.automata.len() > 1),
             Mark::UnusedAutomaton => !Uses::of(&table, used).other_automata.is_empty(),
+            Mark::ByOwner => any(&|uses| uses.any_of(by_owner(&table))),
+            Mark::OtherOwner => others.any_owner != sets,
+            Mark::DeadAtTheGoal => !sets.is_empty() && is_dead_at_the_goal(listing, &table),
             Mark::Sizes => sizes.len() > 1,
             Mark::Needless => {
                 !sets.is_empty() && used.count_ones() < table.credentials.len() as u32
@@ -85,11 +97,20 @@ impl Mark {
     }
 }
 
+/// Whether an automaton is dead once it has read the goal's role.
+fn is_dead_at_the_goal(listing: &Listing, table: &Table) -> bool {
+    let asked = listing.query.read().expect("a valid query");
+    let standing = Standing::start(table).after(table, asked.goal.role);
+    standing.dead() != 0
+}
+
 /// The minimal sets that there would be otherwise; none where it takes too
 /// long to know.
 struct Others {
     /// Without automata.
     free: Vec<u32>,
+    /// With label 4 matching every role.
+    any_owner: Vec<u32>,
     /// With a depth limit one lower; at 1 there is none.
     shallower: Vec<u32>,
     /// With a depth limit one higher; at 16 there is none.
@@ -97,14 +118,21 @@ struct Others {
 }
 
 impl Others {
-    fn of(listing: &Listing, table: &Table) -> Others {
+    /// What there would be in the place of these sets.
+    fn of(listing: &Listing, table: &Table, own: &[u32]) -> Others {
         let mut free = table.clone();
         for credential in &mut free.credentials {
             credential.automaton = None;
         }
         let depth = listing.query.depth;
+        // Where nothing is changed the sets are the same.
+        let sets_with = |changed: Table| match changed == *table {
+            true => own.to_vec(),
+            false => sets(listing, &changed, depth),
+        };
         Others {
-            free: sets(listing, &free, depth),
+            free: sets_with(free),
+            any_owner: sets_with(matching_every(table.clone())),
             shallower: sets(listing, table, depth - 1),
             deeper: sets(listing, table, depth + 1),
         }
@@ -138,6 +166,9 @@ impl fmt::Display for Mark {
             Mark::Automaton => "an automaton in a set".into(),
             Mark::Automata => "several automata in a set".into(),
             Mark::UnusedAutomaton => "an automaton in no set".into(),
+            Mark::ByOwner => "an automaton with label 4 in a set".into(),
+            Mark::OtherOwner => "other sets if label 4 matched all".into(),
+            Mark::DeadAtTheGoal => "a set, an automaton dead at the goal".into(),
             Mark::Sizes => "sets of different sizes".into(),
             Mark::Needless => "a credential in no set".into(),
             Mark::Twenty => "credential 20 in a set".into(),

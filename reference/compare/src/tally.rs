@@ -5,6 +5,7 @@ use std::collections::BTreeMap;
 use reference::generate::Place;
 
 use crate::cases::Case;
+use crate::owners::Automata;
 use crate::report::{line, listed, outcome, Outcome, PRINTED};
 use crate::Answer;
 
@@ -37,6 +38,7 @@ pub struct Tally {
     differed: u64,
     answers: BTreeMap<(Call, u32), u64>,
     places: BTreeMap<(Place, u32), u64>,
+    automata: Automata,
 }
 
 impl Tally {
@@ -49,6 +51,7 @@ impl Tally {
             differed: 0,
             answers: BTreeMap::new(),
             places: BTreeMap::new(),
+            automata: Automata::default(),
         }
     }
 
@@ -71,6 +74,9 @@ impl Tally {
         if let Some(place) = place {
             *self.places.entry((place, number)).or_default() += 1;
         }
+        if call == Call::Table && number == 0 {
+            self.automata.count(&case.table);
+        }
     }
 
     /// Prints what is needed to look into a difference.
@@ -88,23 +94,25 @@ impl Tally {
     /// Prints the counts; tells how many passed and failed.
     pub fn report(&self) -> Outcome {
         println!("tables {}", self.tables);
-        let zeros = self.report_answers(Call::Table)
+        let too_few = self.report_answers(Call::Table)
             + self.report_answers(Call::Query)
-            + self.report_places();
+            + self.report_places()
+            + self.report_automata();
         let tests = self.tests();
-        println!("counts that are zero {zeros} of {tests}");
+        println!("counts that are too low {too_few} of {tests}");
         println!("differences {}", self.differed);
         Outcome {
-            passed: self.agreed + tests - zeros,
-            failed: self.differed + zeros,
+            passed: self.agreed + tests - too_few,
+            failed: self.differed + too_few,
         }
     }
 
-    /// How many counts must not be zero.
+    /// How many counts must not be too low.
     fn tests(&self) -> u64 {
         let calls = [Call::Table, Call::Query].map(|call| call.described().1 as usize + 1);
         let places = Place::all().into_iter().map(|place| expected(place).len());
-        (calls.into_iter().sum::<usize>() + places.sum::<usize>()) as u64
+        let automata = self.automata.lines().len();
+        (calls.into_iter().sum::<usize>() + places.sum::<usize>() + automata) as u64
     }
 
     /// Prints how often a call gave each answer; tells how many never came.
@@ -130,6 +138,16 @@ impl Tally {
             }
         }
         zeros
+    }
+
+    /// Prints how many automata the accepted tables have; tells how many of the
+    /// counts are too low.
+    fn report_automata(&self) -> u64 {
+        println!("in accepted tables");
+        let lines = self.automata.lines().into_iter();
+        lines
+            .map(|(what, count, least)| line(&what, count, least))
+            .sum()
     }
 }
 

@@ -14,7 +14,9 @@ use reference::sorts::Goal;
 use reference::table::{Members, Table};
 use reference::writing::First;
 
+use crate::dead;
 use crate::features::Uses;
+use crate::owners::by_owner;
 
 /// A record of so many levels and more is a deep one.
 const DEEP: usize = 4;
@@ -28,6 +30,10 @@ pub enum Trait {
     Kind(u16),
     /// A used credential has an automaton.
     Automaton,
+    /// It has one with label 4.
+    ByOwner,
+    /// An automaton that is not used is dead on a word.
+    DeadAutomaton,
     /// There are four levels or more.
     Deep,
     /// There are sixteen levels.
@@ -45,16 +51,20 @@ pub enum Trait {
     OtherMiddle,
     /// It has another credential where they part.
     OtherCredential,
+    /// Other records come before it so, under an automaton with label 4.
+    OtherByOwner,
 }
 
 impl Trait {
     /// Every trait that there is.
     pub fn all() -> Vec<Trait> {
         let mut traits: Vec<Trait> = [1, 2, 3, 4].map(Trait::Kind).to_vec();
-        traits.extend([Trait::Automaton, Trait::Deep, Trait::SixteenLevels]);
+        traits.extend([Trait::Automaton, Trait::ByOwner, Trait::DeadAutomaton]);
+        traits.extend([Trait::Deep, Trait::SixteenLevels]);
         traits.extend([Trait::Long, Trait::Repeated]);
         traits.extend([Trait::LesserMiddle, Trait::LesserCredential]);
         traits.extend([Trait::OtherMiddle, Trait::OtherCredential]);
+        traits.push(Trait::OtherByOwner);
         traits
     }
 
@@ -72,9 +82,13 @@ impl Trait {
             set,
         };
         let parting = view.parting(&record, first);
+        let uses_owner = uses.any_of(by_owner(&table));
         let has = |quality: Trait| match quality {
             Trait::Kind(kind) => uses.kinds.contains(&kind),
             Trait::Automaton => !uses.automata.is_empty(),
+            Trait::ByOwner => uses_owner,
+            // The record is accepted, so no used automaton is dead.
+            Trait::DeadAutomaton => dead::on_words(&table, &derivation) != 0,
             Trait::Deep => levels(&derivation) >= DEEP,
             Trait::SixteenLevels => levels(&derivation) == usize::from(DEEPEST),
             Trait::Long => record.len() > usize::from(u16::MAX),
@@ -85,6 +99,7 @@ impl Trait {
             }
             Trait::OtherMiddle => parting.is_some_and(|index| index % NODE == 1),
             Trait::OtherCredential => parting.is_some_and(|index| index % NODE == 0),
+            Trait::OtherByOwner => parting.is_some() && uses_owner,
         };
         let all = Trait::all().into_iter();
         all.filter(|&quality| has(quality)).collect()
@@ -165,6 +180,8 @@ impl fmt::Display for Trait {
             Trait::Kind(3) => "has a middle".into(),
             Trait::Kind(kind) => format!("uses a credential of kind {kind}"),
             Trait::Automaton => "under a constraint".into(),
+            Trait::ByOwner => "under a constraint with label 4".into(),
+            Trait::DeadAutomaton => "an unused automaton is dead".into(),
             Trait::Deep => format!("{DEEP} levels or more"),
             Trait::SixteenLevels => "sixteen levels".into(),
             Trait::Long => "more than 65,535 numbers".into(),
@@ -173,6 +190,7 @@ impl fmt::Display for Trait {
             Trait::LesserCredential => "a lesser credential will not do".into(),
             Trait::OtherMiddle => "a lesser middle derives, but breaks".into(),
             Trait::OtherCredential => "a lesser credential derives, but breaks".into(),
+            Trait::OtherByOwner => "so it is under label 4".into(),
         };
         out.pad(&words)
     }

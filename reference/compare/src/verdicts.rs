@@ -3,10 +3,13 @@
 use std::collections::BTreeMap;
 
 use reference::generate::wrongs::Wrong;
+use reference::Refusal;
 
 use crate::claims::Submitted;
 use crate::features::Feature;
+use crate::owners::Automata;
 use crate::report::{line, listed, outcome, Outcome, PRINTED};
+use crate::signs::Sign;
 use crate::Verdict;
 
 /// So many verdicts must be compared at the least.
@@ -15,6 +18,8 @@ const LEAST: u64 = 300_000;
 const ANSWERS: [u32; 13] = [0, 1, 2, 3, 4, 5, 6, 7, 8, 11, 12, 13, 14];
 /// The refusals whose position is a node.
 const AT_NODES: [u32; 3] = [11, 12, 13];
+/// The signs of one in so many refused records are looked for.
+const SIGNED: u64 = 7;
 
 /// What has been counted so far. Verdicts are counted where the two sides
 /// agree; an accepted record counts under number 0.
@@ -26,7 +31,10 @@ pub struct Verdicts {
     /// Refusals at a node beyond 65,535.
     far: BTreeMap<u32, u64>,
     features: BTreeMap<Feature, u64>,
+    signs: BTreeMap<Sign, u64>,
     wrongs: BTreeMap<(Wrong, u32), u64>,
+    /// The automata of the tables of records that derive their query.
+    automata: Automata,
 }
 
 impl Verdicts {
@@ -39,7 +47,9 @@ impl Verdicts {
             answers: BTreeMap::new(),
             far: BTreeMap::new(),
             features: BTreeMap::new(),
+            signs: BTreeMap::new(),
             wrongs: BTreeMap::new(),
+            automata: Automata::default(),
         }
     }
 
@@ -62,12 +72,16 @@ impl Verdicts {
                 if refusal.position > u64::from(u16::MAX) {
                     *self.far.entry(refusal.number).or_default() += 1;
                 }
+                if self.agreed.is_multiple_of(SIGNED) {
+                    self.count_signs(submitted, refusal);
+                }
                 refusal.number
             }
         };
         *self.answers.entry(number).or_default() += 1;
-        if let Some(wrong) = submitted.wrong {
-            *self.wrongs.entry((wrong, number)).or_default() += 1;
+        match submitted.wrong {
+            Some(wrong) => *self.wrongs.entry((wrong, number)).or_default() += 1,
+            None => self.automata.count(&submitted.claim.table),
         }
     }
 
@@ -75,6 +89,13 @@ impl Verdicts {
     fn count_features(&mut self, submitted: &Submitted) {
         for feature in Feature::of(&submitted.claim) {
             *self.features.entry(feature).or_default() += 1;
+        }
+    }
+
+    /// Counts the signs of a refused claim.
+    fn count_signs(&mut self, submitted: &Submitted, refusal: Refusal) {
+        for sign in Sign::of(&submitted.claim, refusal) {
+            *self.signs.entry(sign).or_default() += 1;
         }
     }
 
@@ -114,6 +135,7 @@ impl Verdicts {
     /// Every count, what it is of, and how great it must be.
     fn lines(&self) -> Vec<(String, Option<u64>, u64)> {
         let mut lines = vec![("verdicts that agree".into(), Some(self.agreed), LEAST)];
+        lines.extend(self.automata.lines());
         for number in ANSWERS {
             let count = self.answers.get(&number).copied();
             lines.push((outcome(number), count, 1));
@@ -125,6 +147,10 @@ impl Verdicts {
         for feature in Feature::all() {
             let count = self.features.get(&feature).copied();
             lines.push((format!("accepted: {feature}"), count, feature.least()));
+        }
+        for sign in Sign::all() {
+            let count = self.signs.get(&sign).copied();
+            lines.push((format!("one in {SIGNED}: {sign}"), count, 1));
         }
         for wrong in Wrong::all() {
             for number in wrong.expected() {

@@ -14,6 +14,7 @@ use reference::Refusal;
 
 use crate::buffers::{Row, Size};
 use crate::lists::expected;
+use crate::owners::Automata;
 use crate::relations::Relation;
 use crate::report::{line, listed, outcome, Outcome, PRINTED};
 use crate::traits::Trait;
@@ -73,6 +74,7 @@ pub struct Writings {
     sizes: BTreeMap<(Size, u32), u64>,
     sources: BTreeMap<Source, u64>,
     traits: BTreeMap<Trait, u64>,
+    automata: Automata,
     /// Written records that the verifier accepts with just the set, and others.
     proved: u64,
     unproved: u64,
@@ -92,6 +94,7 @@ impl Writings {
             sizes: BTreeMap::new(),
             sources: BTreeMap::new(),
             traits: BTreeMap::new(),
+            automata: Automata::default(),
             proved: 0,
             unproved: 0,
         }
@@ -106,6 +109,7 @@ impl Writings {
     /// Makes the writing call on both sides for sets of a listing, each with a
     /// buffer of every size, or of one.
     pub fn compare(&mut self, random: &mut Random, listing: &Listing, every_size: bool) {
+        self.automata.count(&listing.table);
         match expected(listing) {
             None => self.passed_over += 1,
             Some(Err(refusal)) => {
@@ -251,6 +255,7 @@ impl Writings {
             ("writings that agree".into(), Some(self.agreed), LEAST),
             ("answered by the reference".into(), Some(answered), most),
         ];
+        lines.extend(self.automata.lines());
         for number in ANSWERS {
             let count = self.answers.get(&number).copied();
             lines.push((outcome(number), count, 1));
