@@ -25,7 +25,7 @@ const MOST_CELLS: usize = 64;
 /// So often it lists.
 pub const LISTS: usize = 4;
 /// What a cell for a set holds beforehand. No set is so great.
-const UNTOUCHED: u32 = 2863311530;
+pub const UNTOUCHED: u32 = 2863311530;
 /// What a cell for a number of a record holds beforehand. No such number is so
 /// great.
 const UNTOUCHED_NUMBER: u16 = 43690;

@@ -92,9 +92,9 @@ fn shop() -> Vec<Case> {
     ]
 }
 
-/// A wallet with every kind and label. Principal 9 is in 1.1 by credentials 1,
-/// 2, 3 and 7; by 1 to 6 too, but for automaton 2, which rejects every word
-/// with 1.4. Automaton 1 accepts the words that begin with 1.1.
+/// A wallet with every kind, and every label but 4. Principal 9 is in 1.1 by
+/// credentials 1, 2, 3 and 7; by 1 to 6 too, but for automaton 2, which rejects
+/// every word with 1.4. Automaton 1 accepts the words that begin with 1.1.
 fn wallet() -> Records {
     Records {
         credentials: vec![
@@ -125,6 +125,13 @@ const ASKED: Query = Query {
     depth: 3,
 };
 
+/// Principal 9 in 3.5, which is credential 6 alone.
+const OWNED_BY_3: Query = Query {
+    owner: 3,
+    name: 5,
+    ..ASKED
+};
+
 /// The wallet with a change, as numbers.
 fn changed(change: impl FnOnce(&mut Records)) -> Vec<u16> {
     let mut wallet = wallet();
@@ -132,8 +139,21 @@ fn changed(change: impl FnOnce(&mut Records)) -> Vec<u16> {
     wallet.numbers()
 }
 
+/// The wallet with label 4: its second automaton accepts the words that have
+/// roles of these owners alone. Credential 6, to which it is attached, is for a
+/// role of 3.
+fn owned_by(owners: &[u16]) -> Records {
+    let mut wallet = wallet();
+    wallet.edges.truncate(2);
+    let edges = owners.iter().map(|&owner| [2, 0, 4, owner, 0, 0]);
+    wallet.edges.extend(edges);
+    wallet
+}
+
 /// Lists of the wallet, of the wallet without its second constraint, which has
-/// two sets, and of a chain of four roles that two credentials define each.
+/// two sets, and of a chain of four roles that two credentials define each; then
+/// lists with label 4: of one set, of both, and of none, since the automaton is
+/// dead at the goal.
 fn lists() -> Vec<Case> {
     let wallet = wallet().numbers();
     let free = changed(|wallet| wallet.credentials[5][5] = 0);
@@ -157,10 +177,14 @@ fn lists() -> Vec<Case> {
         list(&free, ASKED, 1),
         list(&chain.numbers(), ASKED, 16),
         list(&chain.numbers(), ASKED, 15),
+        list(&owned_by(&[1, 2]).numbers(), ASKED, 2),
+        list(&owned_by(&[1, 2, 3]).numbers(), ASKED, 2),
+        list(&owned_by(&[1, 2]).numbers(), OWNED_BY_3, 1),
     ]
 }
 
-/// Every refusal of a table, 1 to 7, by one damage to the wallet.
+/// Every refusal of a table, 1 to 7, by one damage to the wallet; label 4 with a
+/// name, with 0 and with 65 for its owner, and a label that there is not.
 fn refused_tables() -> Vec<Case> {
     let wallet = wallet().numbers();
     vec![
@@ -172,13 +196,16 @@ fn refused_tables() -> Vec<Case> {
         list(&changed(|wallet| wallet.cells[0][2] = 0), ASKED, 2),
         list(&changed(|wallet| wallet.edges[2][2] = 4), ASKED, 2),
         verify(&changed(|wallet| wallet.edges[1][4] = 1), ASKED, &[]),
+        list(&changed(|wallet| wallet.edges[1][2] = 4), ASKED, 2),
+        verify(&owned_by(&[1, 65]).numbers(), ASKED, &[]),
+        verify(&changed(|wallet| wallet.edges[2][2] = 5), ASKED, &[]),
     ]
 }
 
 /// Records for the wallet, and one of 85 nodes.
 fn verdicts() -> Vec<Case> {
     let wallet = wallet().numbers();
-    vec![
+    let mut cases = vec![
         verify(&wallet, ASKED, &[1, 0, 2, 0, 3, 0, 7, 0]),
         verify(&wallet, ASKED, &[1, 0, 2, 0, 3, 0, 7, 0, 1]),
         verify(&wallet, ASKED, &[1, 0, 2, 0, 3, 0, 4, 65, 5, 0, 6, 0]),
@@ -189,5 +216,30 @@ fn verdicts() -> Vec<Case> {
             wide::query(4),
             &wide::record(4),
         ),
+    ];
+    cases.extend(verdicts_by_owner());
+    cases
+}
+
+/// Records for the wallet with label 4: its automaton rejects, accepts, and is
+/// dead where it is not used; then it is dead from the goal on and is used, but
+/// 11, 12 and 13 come first.
+fn verdicts_by_owner() -> Vec<Case> {
+    let [by_7, by_6] = [
+        &[1, 0, 2, 0, 3, 0, 7, 0][..],
+        &[1, 0, 2, 0, 3, 0, 4, 3, 5, 0, 6, 0],
+    ];
+    let mut dead = owned_by(&[3]);
+    dead.credentials[1][5] = 2;
+    let dead = dead.numbers();
+    let two_levels = Query { depth: 2, ..ASKED };
+    vec![
+        verify(&owned_by(&[1, 2]).numbers(), ASKED, by_6),
+        verify(&owned_by(&[1, 2, 3]).numbers(), ASKED, by_6),
+        verify(&owned_by(&[1]).numbers(), ASKED, by_7),
+        verify(&dead, ASKED, by_7),
+        verify(&dead, ASKED, &by_7[..6]),
+        verify(&dead, ASKED, &[1, 0, 2, 0, 3, 0, 9, 0]),
+        verify(&dead, two_levels, by_7),
     ]
 }

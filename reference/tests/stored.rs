@@ -3,10 +3,11 @@
 
 use std::collections::BTreeSet;
 
-use reference::blocks::{self, LISTS, UNLISTED};
-use reference::list;
+use reference::blocks::{self, LISTS, UNLISTED, UNTOUCHED};
 use reference::records::Records;
 use reference::stored::{cases, Case, Given};
+use reference::table::{Label, Table};
+use reference::{check, list};
 
 const STDOUT: &str = include_str!("../../crates/rows/stdout");
 
@@ -118,16 +119,46 @@ fn records_are_written_for_listed_sets_alone() {
     }
 }
 
+/// The answers to the cases of accepted tables with label 4, in their order.
+#[test]
+fn label_4_is_judged_as_it_should_be() {
+    let mut told = Vec::new();
+    for (case, line) in cases().iter().zip(lines()) {
+        let table = Table::read(&case.table);
+        let mut edges = table.iter().flat_map(|table| &table.edges);
+        if edges.any(|edge| matches!(edge.label, Label::OwnedBy(_))) {
+            told.push(line);
+        }
+    }
+    let lists = [
+        vec![0, 1, 71, UNTOUCHED],
+        vec![0, 2, 63, 71],
+        vec![9, 0, UNTOUCHED],
+    ];
+    assert_eq!(told[..3], lists);
+    let verdicts = [
+        [14, 2],
+        [0, 63],
+        [0, 71],
+        [14, 2],
+        [11, 4],
+        [12, 4],
+        [13, 3],
+    ];
+    assert_eq!(told[3..], verdicts);
+}
+
 #[test]
 fn every_kind_and_label_is_among_them() {
     let tables = cases().into_iter().map(|case| case.table);
-    let records: Vec<Records> = tables.flat_map(|table| Records::read(&table)).collect();
+    let accepted = tables.filter(|table| check(table).is_ok());
+    let records: Vec<Records> = accepted.flat_map(|table| Records::read(&table)).collect();
     let credentials = records.iter().flat_map(|records| &records.credentials);
     let kinds: BTreeSet<u16> = credentials.map(|credential| credential[2]).collect();
     let edges = records.iter().flat_map(|records| &records.edges);
     let labels: BTreeSet<u16> = edges.map(|edge| edge[2]).collect();
-    assert!(kinds.is_superset(&(1..=4).collect()), "{kinds:?}");
-    assert!(labels.is_superset(&(1..=3).collect()), "{labels:?}");
+    assert_eq!(kinds, (1..=4).collect());
+    assert_eq!(labels, (1..=4).collect());
 }
 
 /// No cell, too few, just enough and more, by the answer's number, the number of
