@@ -11,20 +11,24 @@ use crate::climb::{Call, Climb};
 pub const USAGE: &str = "\
 usage: bench
        bench writing
+       bench dead [--before FILE]
        bench peers [--limit SECONDS] [--plot FILE]
-       bench page [--limit SECONDS] [--plot FILE]
+       bench page [--limit SECONDS] [--plot FILE] [--before FILE]
        bench climb [--writing] [--steps NUMBER] [--seed NUMBER] [--limit SECONDS]
 
 Without a word the calls of the library and of the reference are timed, then the
 writing of records, and the lines are in columns. With `writing` the latter is
-timed alone, and the tables are Markdown. With `peers` several ways of listing
-are timed on the same wallets, and the tables are Markdown. With `page` all this
-is done, all tables are Markdown, and a table about the machine comes first. With
-`climb` tables on which the library's list takes long are looked for, and the
-slowest ones printed.
+timed alone, and the tables are Markdown. With `dead` tables whose constraint
+dies early are timed, beside twins whose constraint does not, and the tables are
+Markdown. With `peers` several ways of listing are timed on the same wallets, and
+the tables are Markdown. With `page` all this is done, all tables are Markdown,
+and a table about the machine comes first. With `climb` tables on which the
+library's list takes long are looked for, and the slowest ones printed.
 
 --limit SECONDS   how long a call may take for one wallet, 1 if not given
 --plot FILE       where a plot of the ways is written, as SVG
+--before FILE     an older build of the library that is timed beside the present
+                  one, as a shared object; docs/PERFORMANCE.md says how it is made
 --steps NUMBER    how many steps a climb has, 1000 if not given
 --seed NUMBER     where the climbs begin, 2015 if not given
 --writing         climb on the time of writing a record for each of its cells";
@@ -32,6 +36,11 @@ slowest ones printed.
 /// The steps of a climb and its seed if none are given.
 const STEPS: usize = 1_000;
 const SEED: u64 = 2015;
+
+/// The options of each task.
+const PEERS: &[&str] = &["--limit", "--plot"];
+const PAGE: &[&str] = &["--limit", "--plot", "--before"];
+const DEAD: &[&str] = &["--before"];
 
 /// The limit if none is given.
 const LIMIT: Duration = Duration::from_secs(1);
@@ -47,6 +56,9 @@ pub enum Task {
     Calls,
     /// Time the writing of records.
     Writing,
+    /// Time tables whose constraint dies early, beside an older build if one is
+    /// given.
+    Dead(Option<PathBuf>),
     /// Time several ways of listing.
     Peers(Options),
     /// All of this, as tables for the page.
@@ -55,13 +67,15 @@ pub enum Task {
     Climb(Climb),
 }
 
-/// How the ways of listing are timed.
+/// How the page's tables are made, or those of them about the ways of listing.
 #[derive(Clone, Debug, PartialEq, Eq)]
 pub struct Options {
     /// How long a way may take for one wallet.
     pub limit: Duration,
     /// Where the plot is written, if at all.
     pub plot: Option<PathBuf>,
+    /// Where an older build is, if one is timed.
+    pub before: Option<PathBuf>,
 }
 
 /// The task that some arguments ask for, or what is wrong with them.
@@ -72,8 +86,9 @@ pub fn task(arguments: impl IntoIterator<Item = OsString>) -> Result<Task, Strin
     };
     match first.to_str() {
         Some("writing") => alone(arguments, Task::Writing),
-        Some("peers") => Ok(Task::Peers(options(arguments)?)),
-        Some("page") => Ok(Task::Page(options(arguments)?)),
+        Some("dead") => Ok(Task::Dead(options(arguments, DEAD)?.before)),
+        Some("peers") => Ok(Task::Peers(options(arguments, PEERS)?)),
+        Some("page") => Ok(Task::Page(options(arguments, PAGE)?)),
         Some("climb") => Ok(Task::Climb(climb(arguments)?)),
         Some("--help") => Ok(Task::Help),
         _ => Err(unknown(&first)),
@@ -86,14 +101,19 @@ fn alone(mut rest: impl Iterator<Item = OsString>, task: Task) -> Result<Task, S
         .map_or(Ok(task), |argument| Err(unknown(&argument)))
 }
 
-/// The options that the rest of the arguments give, each at most once.
-fn options(mut arguments: impl Iterator<Item = OsString>) -> Result<Options, String> {
-    let (mut limit_given, mut plot) = (None, None);
+/// The options that the rest of the arguments give, each at most once, and no
+/// others than these.
+fn options(
+    mut arguments: impl Iterator<Item = OsString>,
+    these: &[&str],
+) -> Result<Options, String> {
+    let (mut limit_given, mut plot, mut before) = (None, None, None);
     while let Some(argument) = arguments.next() {
         let mut value = || arguments.next().ok_or(missing(&argument));
-        let again = match argument.to_str() {
+        let again = match argument.to_str().filter(|name| these.contains(name)) {
             Some("--limit") => limit_given.replace(limit(&value()?)?).is_some(),
             Some("--plot") => plot.replace(PathBuf::from(value()?)).is_some(),
+            Some("--before") => before.replace(PathBuf::from(value()?)).is_some(),
             _ => return Err(unknown(&argument)),
         };
         if again {
@@ -103,6 +123,7 @@ fn options(mut arguments: impl Iterator<Item = OsString>) -> Result<Options, Str
     Ok(Options {
         limit: limit_given.unwrap_or(LIMIT),
         plot,
+        before,
     })
 }
 
@@ -171,6 +192,7 @@ mod tests {
         Options {
             limit: Duration::from_millis(milliseconds),
             plot: plot.map(Into::into),
+            before: None,
         }
     }
 
@@ -189,6 +211,8 @@ mod tests {
             ("", Task::Calls),
             ("--help", Task::Help),
             ("writing", Task::Writing),
+            ("dead", Task::Dead(None)),
+            ("dead --before a.so", Task::Dead(Some("a.so".into()))),
             ("peers", Task::Peers(options(1_000, None))),
             ("peers --limit 2", Task::Peers(options(2_000, None))),
             ("page --limit 0.25", Task::Page(options(250, None))),
@@ -207,6 +231,13 @@ mod tests {
                 "page --plot --limit --limit 3600",
                 Task::Page(options(3_600_000, Some("--limit"))),
             ),
+            (
+                "page --before a.so",
+                Task::Page(Options {
+                    before: Some("a.so".into()),
+                    ..options(1_000, None)
+                }),
+            ),
         ];
         for (words, task) in right {
             assert_eq!(asked(words), Ok(task), "{words}");
@@ -220,6 +251,11 @@ mod tests {
             ("--limit 1", "unknown argument --limit"),
             ("peers 5", "unknown argument 5"),
             ("writing --limit 1", "unknown argument --limit"),
+            ("dead a.so", "unknown argument a.so"),
+            ("dead --limit 1", "unknown argument --limit"),
+            ("dead --before", "something is missing after --before"),
+            ("dead --before a --before b", "--before is given twice"),
+            ("peers --before a", "unknown argument --before"),
             ("page --plots a", "unknown argument --plots"),
             ("peers --limit", "something is missing after --limit"),
             ("peers --plot", "something is missing after --plot"),

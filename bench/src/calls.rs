@@ -54,24 +54,28 @@ fn report_checks(sheet: &Sheet, what: &str, tables: &[Vec<u16>]) {
 pub fn time_verdicts(random: &mut Random, form: Form) {
     let title = format!("median of {ROUNDS} rounds, time of one verdict");
     let sheet = Sheet::begin(form, Unit::Nanoseconds(1), &title, "records", RATIO);
-    let claim = |table: &[u16], record: &[u16]| Claim {
-        table: table.to_vec(),
-        query: shop::Q,
-        record: record.to_vec(),
-    };
-    let by_hand = [
-        ("the shop's R with T, accepted", claim(&shop::T, &shop::R)),
-        ("the shop's R with U, refused", claim(&shop::U, &shop::R)),
-        ("the shop's 4 0 with U, accepted", claim(&shop::U, &[4, 0])),
-    ];
-    for (what, claim) in by_hand {
+    for (what, claim) in by_hand() {
         report_verdicts(&sheet, what, &[claim]);
     }
     report_verdicts(&sheet, "1,000 grown records, accepted", &grown(random));
 }
 
+/// The shop's records.
+pub fn by_hand() -> [(&'static str, Claim); 3] {
+    let claim = |table: &[u16], record: &[u16]| Claim {
+        table: table.to_vec(),
+        query: shop::Q,
+        record: record.to_vec(),
+    };
+    [
+        ("the shop's R with T, accepted", claim(&shop::T, &shop::R)),
+        ("the shop's R with U, refused", claim(&shop::U, &shop::R)),
+        ("the shop's 4 0 with U, accepted", claim(&shop::U, &[4, 0])),
+    ]
+}
+
 /// A thousand grown records that are accepted and use an automaton.
-fn grown(random: &mut Random) -> Vec<Claim> {
+pub fn grown(random: &mut Random) -> Vec<Claim> {
     let mut claims = Vec::new();
     while claims.len() < 1_000 {
         let policy = Policy::new(policies::records(random));
@@ -131,7 +135,7 @@ fn report_nodes(sheet: &Sheet, levels: u16, automata: u16) {
 
 /// The table with an automaton attached to each of so many credentials, from
 /// the first on. Each accepts words of at most 15 roles.
-fn constrained(mut records: Records, automata: u16) -> Records {
+pub fn constrained(mut records: Records, automata: u16) -> Records {
     let mut random = Random::new(EDGES_SEED);
     for index in 0..usize::from(automata) {
         let constraint = Constraint::at_most(15);

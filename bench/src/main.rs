@@ -11,18 +11,21 @@
 //! judges nothing.
 //!
 //! With `writing` it times the writing of records beside verifying and listing,
-//! and the refusals of writing. With `peers` it times the library's list, the
-//! reference's, an enumeration of proofs and an answer set solver on the same
-//! wallets, and compares what they list. With `page` it does all this, and its
-//! tables are those of docs/PERFORMANCE.md. With `climb` it looks for tables on
-//! which one list of the library, or the writing of a record, takes long.
+//! and the refusals of writing. With `dead` it times tables whose constraint dies
+//! early, and, if asked, an older build of the library beside the present one.
+//! With `peers` it times the library's list, the reference's, an enumeration of
+//! proofs and an answer set solver on the same wallets, and compares what they
+//! list. With `page` it does all this, and its tables are those of
+//! docs/PERFORMANCE.md. With `climb` it looks for tables on which one list of the
+//! library, or the writing of a record, takes long.
 
-#![forbid(unsafe_code)]
+#![deny(unsafe_code)]
 #![warn(missing_docs)]
 
 mod arguments;
 mod calls;
 mod climb;
+mod dead;
 mod families;
 mod listing;
 mod lists;
@@ -43,12 +46,15 @@ use std::process::ExitCode;
 use reference::random::Random;
 
 use arguments::{Options, Task};
+use dead::Older;
 use sheet::Form;
 
 /// The seed of the tables and records.
 const SEED: u64 = 2015;
 /// How the program is called from the repository's root.
 const COMMAND: &str = "cargo run --release --offline -p bench --";
+/// The head of the page's section about constraints that die early.
+const DEAD: &str = "### Constraints that die early";
 /// The code for wrong arguments.
 const WRONG_ARGUMENTS: u8 = 2;
 
@@ -71,6 +77,7 @@ fn done(task: Task) -> ExitCode {
             writing::time(Form::Columns);
         }
         Task::Writing => print_writing(),
+        Task::Dead(before) => return time_dead(before.as_deref()),
         Task::Peers(options) => return time_peers(&options, false),
         Task::Page(options) => return time_peers(&options, true),
         Task::Climb(climb) => climb::run(climb),
@@ -88,13 +95,18 @@ fn time_calls(form: Form) {
 }
 
 /// Times the ways of listing, prints the tables and writes the plot. For the
-/// page there are tables of the machine, of the calls and of writing beside them. It fails
-/// if two ways list different sets, or if the plot cannot be written.
+/// page there are tables of the machine, of the calls, of writing and of
+/// constraints that die early beside them. It fails if two ways list different
+/// sets, if the plot cannot be written, or if the older build cannot be loaded.
 fn time_peers(options: &Options, page: bool) -> ExitCode {
     let plot = options.plot.as_deref();
     if let Some(Err(error)) = plot.map(can_be_written) {
         return unwritten(&error);
     }
+    let older = match loaded(options.before.as_deref()) {
+        Ok(older) => older,
+        Err(code) => return code,
+    };
     if page {
         print_heading();
     }
@@ -106,12 +118,28 @@ fn time_peers(options: &Options, page: bool) -> ExitCode {
         time_calls(Form::Markdown);
         println!();
         print_writing();
+        println!("\n{DEAD}");
+        dead::time(Form::Markdown, older.as_ref());
     }
     match drawn {
         Some(Err(error)) => unwritten(&error),
         _ if comparison.faults > 0 => ExitCode::FAILURE,
         _ => ExitCode::SUCCESS,
     }
+}
+
+/// Times constraints that die early, beside an older build if one is given. It
+/// fails if that cannot be loaded.
+fn time_dead(before: Option<&Path>) -> ExitCode {
+    let older = match loaded(before) {
+        Ok(older) => older,
+        Err(code) => return code,
+    };
+    println!("{DEAD}\n\nThis section was printed by\n");
+    print_command();
+    machine::print();
+    dead::time(Form::Markdown, older.as_ref());
+    ExitCode::SUCCESS
 }
 
 /// Prints the page's section about writing.
@@ -122,15 +150,29 @@ fn print_writing() {
 
 /// Prints what comes first on the page: the command and the machine.
 fn print_heading() {
+    println!("## Figures\n\nThis section was printed by\n");
+    print_command();
+    println!("### Machine\n");
+    machine::print();
+    println!("\n### Ways of listing\n");
+}
+
+/// Prints how the program was called.
+fn print_command() {
     let arguments: Vec<String> = env::args_os()
         .skip(1)
         .map(|argument| argument.display().to_string())
         .collect();
-    println!("## Figures\n\nThis section was printed by\n");
     println!("    {COMMAND} {}\n", arguments.join(" "));
-    println!("### Machine\n");
-    machine::print();
-    println!("\n### Ways of listing\n");
+}
+
+/// The older build, if there is to be one, or the code for one that cannot be
+/// loaded, which is said.
+fn loaded(before: Option<&Path>) -> Result<Option<Older>, ExitCode> {
+    before.map(Older::load).transpose().map_err(|error| {
+        eprintln!("the older build cannot be loaded: {error}");
+        ExitCode::FAILURE
+    })
 }
 
 /// Says that the plot cannot be written.

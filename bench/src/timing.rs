@@ -86,7 +86,8 @@ const LONG_TURNS: Duration = Duration::from_secs(1);
 /// The times of two calls in nanoseconds, each the median of some rounds that
 /// last so long at the least. The rounds take turns, so that whatever slows the
 /// machine slows both. The first turns show how many calls there can be in a
-/// round, and count only if they take very long.
+/// round. If they take very long there are no others, but a round of the call of
+/// which there can be several: the first alone would say little of it.
 pub fn in_turns<One, Other>(
     round: Duration,
     mut one: impl FnMut() -> One,
@@ -101,9 +102,18 @@ pub fn in_turns<One, Other>(
         times[1].push(repeated(passes[1], &mut other));
     }
     if times[0].is_empty() {
-        return firsts;
+        let one = settled(passes[0], firsts[0], &mut one);
+        return [one, settled(passes[1], firsts[1], &mut other)];
     }
     times.map(median)
+}
+
+/// The time of one call over so many, of which the first is known.
+fn settled<Value>(calls: u32, first: f64, call: &mut impl FnMut() -> Value) -> f64 {
+    match calls {
+        1 => first,
+        calls => repeated(calls, call),
+    }
 }
 
 /// How many calls fill a round, if one takes so many nanoseconds.
@@ -149,7 +159,7 @@ fn median(mut values: Vec<f64>) -> f64 {
 
 #[cfg(test)]
 mod tests {
-    use super::{filling, in_turns, median};
+    use super::{filling, in_turns, median, settled};
     use std::cell::RefCell;
     use std::time::Duration;
 
@@ -161,6 +171,15 @@ mod tests {
         in_turns(Duration::ZERO, one, other);
         let made = made.into_inner();
         assert!(made.chunks(2).all(|turn| turn == ["one", "other"]));
+    }
+
+    #[test]
+    fn beside_a_long_call_a_short_one_has_a_round() {
+        let mut calls = 0;
+        assert_eq!(settled(1, 5e9, &mut || calls += 1), 5e9);
+        assert_eq!(calls, 0);
+        settled(3, 300.0, &mut || calls += 1);
+        assert_eq!(calls, 3);
     }
 
     #[test]

@@ -244,7 +244,7 @@ fn change_edge(random: &mut Random, wallet: &mut Wallet) {
     let index = random.below(edges.len());
     let state = random.between(0, LAST_STATE);
     let [owner, name, ..] = *random.pick(&wallet.records.credentials);
-    match random.below(5) {
+    match random.below(6) {
         0 => edges[index][1] = state,
         1 => edges[index][5] = state,
         2 => edges[index][2..5].copy_from_slice(&[2, 0, 0]),
@@ -252,6 +252,7 @@ fn change_edge(random: &mut Random, wallet: &mut Wallet) {
             let label = *random.pick(&[1, 3]);
             edges[index][2..5].copy_from_slice(&[label, owner, name]);
         }
+        4 => edges[index][2..5].copy_from_slice(&[4, owner, 0]),
         _ => {
             edges.remove(index);
         }
@@ -265,6 +266,7 @@ mod tests {
     use reference::generate::wallets::Wallet;
     use reference::random::Random;
     use reference::shop;
+    use std::collections::BTreeSet;
 
     /// The wallets that come one after the other, change by change.
     fn several(seed: u64, count: usize, automata: Automata) -> Vec<Wallet> {
@@ -298,6 +300,14 @@ mod tests {
         let some = |wallet: &Wallet| wallet.records.head().automata > 0;
         assert!(!several(1, 500, Automata::Without).iter().any(some));
         assert!(several(1, 500, Automata::With).iter().any(some));
+    }
+
+    #[test]
+    fn edges_get_every_label() {
+        let wallets = several(1, 1_000, Automata::With);
+        let edges = wallets.iter().flat_map(|wallet| &wallet.records.edges);
+        let labels: BTreeSet<u16> = edges.map(|edge| edge[2]).collect();
+        assert!(labels.into_iter().eq(1..=4));
     }
 
     #[test]

@@ -72,6 +72,26 @@ fn one_goal_in_two_places() {
     assert_eq!(listed(&solver, &records.numbers(), query), [63]);
 }
 
+/// The goal's two credentials have a constraint by which only roles of the owner
+/// may come: of the two ways, the one by another owner's role fails.
+#[test]
+fn all_roles_of_one_owner() {
+    let Some(solver) = solver() else { return };
+    let records = Records {
+        credentials: vec![
+            [1, 1, 2, 1, 2, 1],
+            [1, 1, 2, 2, 2, 1],
+            [1, 2, 1, 9, 0, 0],
+            [2, 2, 1, 9, 0, 0],
+        ],
+        cells: vec![],
+        automata: vec![[1, 1]],
+        edges: vec![[1, 0, 4, 1, 0, 0]],
+    };
+    let query = Query::from_numbers([9, 1, 1, 16]);
+    assert_eq!(listed(&solver, &records.numbers(), query), [5]);
+}
+
 /// A derivation of three levels, whose middle one is proved through one of these
 /// credentials and whose lowest role has this name. Only words of three roles
 /// are accepted.

@@ -9,11 +9,11 @@
 //! - [`refusals`]: sets that are not on the list, and buffers that are too short
 
 pub mod harder;
-mod parts;
+pub mod parts;
 mod plain;
 mod record;
 mod refusals;
-mod wallets;
+pub mod wallets;
 
 use std::time::Duration;
 
@@ -94,7 +94,7 @@ fn report(form: Form, lines: &Lines, what: &str, wallet: &Wallet) {
 
 /// The median, the 99th percentile and the worst of some figures, of which there
 /// is at least one.
-fn spread(mut figures: Vec<f64>) -> [f64; 3] {
+pub fn spread(mut figures: Vec<f64>) -> [f64; 3] {
     figures.sort_by(f64::total_cmp);
     let last = figures.len() - 1;
     [last / 2, last * 99 / 100, last].map(|index| figures[index])

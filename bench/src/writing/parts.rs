@@ -2,6 +2,7 @@
 
 use reference::generate::shapes::OWNER;
 use reference::records::{CellRecord, Records};
+use reference::table::LAST_STATE;
 
 /// How many roles each level of a tree has below the first, and how many times
 /// a chain names each of the next level's.
@@ -43,4 +44,14 @@ pub fn chain(cell: u16, names: &[u16]) -> Vec<CellRecord> {
     cells
         .map(|(&name, cell)| [OWNER, name, next(cell)])
         .collect()
+}
+
+/// Adds an automaton of as many edges as it has states. It is always in all of
+/// its states and accepts every word: so derivations are the same with it, and at
+/// every node every edge is taken.
+pub fn add_busy(records: &mut Records) {
+    records.automata.push([u16::MAX, u16::MAX]);
+    let (automaton, states) = (records.head().automata, LAST_STATE + 1);
+    let around = |state: u16| [automaton, state, 2, 0, 0, (state + 1) % states];
+    records.edges.extend((0..states).map(around));
 }

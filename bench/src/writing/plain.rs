@@ -3,10 +3,9 @@
 
 use reference::generate::shapes::{self, from_records as wallet, Way, GOAL, MEMBER};
 use reference::generate::wallets::Wallet;
-use reference::records::{EdgeRecord, Head};
-use reference::table::LAST_STATE;
+use reference::records::Head;
 
-use super::parts::{add_tree, Tree};
+use super::parts::{add_busy, add_tree, Tree};
 use crate::families::Named;
 
 /// The tables, the shortest records first.
@@ -75,19 +74,11 @@ fn only(tree: Tree) -> Wallet {
 }
 
 /// The same table with all automata and edges for which there is room, on its
-/// first credentials. Each automaton is always in all of its states, by as many
-/// edges, and accepts every word: so the derivations are the same, and at every
-/// node every edge is taken.
+/// first credentials.
 pub fn constrained(mut wallet: Wallet) -> Wallet {
-    let states = LAST_STATE + 1;
-    let around = |automaton: u16, state: u16| -> EdgeRecord {
-        [automaton, state, 2, 0, 0, (state + 1) % states]
-    };
     let automata = 1..=Head::LIMITS.automata;
-    for automaton in automata.clone() {
-        wallet.records.automata.push([u16::MAX, u16::MAX]);
-        let edges = (0..states).map(|state| around(automaton, state));
-        wallet.records.edges.extend(edges);
+    for _ in automata.clone() {
+        add_busy(&mut wallet.records);
     }
     for (credential, automaton) in wallet.records.credentials.iter_mut().zip(automata) {
         credential[5] = automaton;

@@ -1,0 +1,164 @@
+//! The older build beside the present one: on the tables whose constraint dies
+//! early, and on the tables and records on which each call is timed anyway.
+
+use std::time::Duration;
+
+use reference::generate::claims::Claim;
+use reference::generate::wide;
+use reference::random::Random;
+use reference::records::{Head, Records};
+use reference::shop;
+
+use super::{first_set, same, tables, Older, ROUND};
+use crate::calls;
+use crate::families::{self, Named};
+use crate::listing::{Listing, CELLS};
+use crate::peers::wallets::{of_size, sizes};
+use crate::sheet::{Form, Lines};
+use crate::writing::{harder, spread, wallets};
+use crate::SEED;
+
+/// So many cells are lent for a record, enough for that of the longest ladder.
+const RECORD_CELLS: usize = 1 << 17;
+/// The levels of the records whose nodes are counted.
+const LEVELS: u16 = 9;
+
+/// Prints all tables about both builds.
+pub fn time(form: Form, older: &Older) {
+    time_lists(form, older);
+    time_writings(form, older);
+    time_verdicts(form, older);
+    time_nodes(form, older);
+}
+
+/// Prints the head of some lines about both builds.
+fn begin(form: Form, title: &str, inputs: &str) -> Lines {
+    let title = form.timed(&format!("before and after, {title}"));
+    let heads = [inputs, "before", "after", "before / after"];
+    Lines::begin(form, &title, &heads)
+}
+
+/// Prints a line about both builds. Where they are close, the ratio has more
+/// digits than others have.
+fn print(form: Form, lines: &Lines, what: &str, [before, after]: [f64; 2]) {
+    let ratio = match before / after {
+        close if close < 10.0 => format!("{close:.2}"),
+        far => form.ratio(far),
+    };
+    let [before, after] = [before, after].map(|time| form.time(time, 1));
+    lines.line(&[what, &before, &after, &ratio]);
+}
+
+/// Times the list of all tables of known shapes, and of grown wallets.
+fn time_lists(form: Form, older: &Older) {
+    let lines = begin(form, "time of one list", "lists");
+    let shop = [("the shop's T", &shop::T[..]), ("the shop's U", &shop::U)];
+    let shop = shop.map(|(what, table)| (what.to_string(), families::shop(table)));
+    for (what, wallet) in [early(tables::lists()), shop.to_vec(), families::growing()].concat() {
+        let times = list(older, ROUND, &what, &Listing::of(&wallet));
+        print(form, &lines, &what, times);
+    }
+    let grown = sizes().flat_map(of_size);
+    let times = grown.map(|wallet| list(older, wallets::ROUND, "a grown wallet", &wallet));
+    let times: Vec<[f64; 2]> = times.collect();
+    let [before, after] = [0, 1].map(|side| spread(times.iter().map(|both| both[side]).collect()));
+    let what = ["grown wallets: median", "99th percentile", "worst"];
+    for (index, what) in what.iter().enumerate() {
+        print(form, &lines, what, [before[index], after[index]]);
+    }
+}
+
+/// Tables whose constraint dies early, with where it does.
+fn early(tables: Vec<tables::Early>) -> Vec<Named> {
+    let named = |table: tables::Early| {
+        let what = format!("{}, dies at {}", table.what, table.dies);
+        (what, table.wallet)
+    };
+    tables.into_iter().map(named).collect()
+}
+
+/// The times of one list by both builds.
+fn list(older: &Older, round: Duration, what: &str, listing: &Listing) -> [f64; 2] {
+    let (mut before, mut after) = ([0; CELLS], [0; CELLS]);
+    let list = || older.list(listing, &mut before);
+    let times = same(round, what, list, || listing.library(&mut after));
+    assert!(before == after, "{what}");
+    times
+}
+
+/// Times the writing of records in which what comes first fails.
+fn time_writings(form: Form, older: &Older) {
+    let lines = begin(form, "time of writing one record", "records");
+    let (mut before, mut after) = (vec![0; RECORD_CELLS], vec![0; RECORD_CELLS]);
+    for (what, wallet) in [early(tables::writings()), harder::tables()].concat() {
+        let listing = Listing::of(&wallet);
+        let set = first_set(&listing);
+        let write = || older.write(&listing, set, &mut before);
+        let times = same(ROUND, &what, write, || listing.write(set, &mut after));
+        assert!(before == after, "{what}");
+        print(form, &lines, &what, times);
+    }
+}
+
+/// Times the verdicts on small records.
+fn time_verdicts(form: Form, older: &Older) {
+    let lines = begin(form, "time of one verdict", "records");
+    let grown = calls::grown(&mut Random::new(SEED));
+    let by_hand = calls::by_hand();
+    let by_hand = by_hand.map(|(what, claim)| (what, vec![claim]));
+    let all = by_hand
+        .into_iter()
+        .chain([("1,000 grown records, accepted", grown)]);
+    for (what, claims) in all {
+        let times = verdicts(older, what, claims);
+        print(form, &lines, what, times);
+    }
+}
+
+/// Times the verdicts on records of very many nodes, of which each node moves
+/// eight automata, with more or fewer edges, or none.
+fn time_nodes(form: Form, older: &Older) {
+    let nodes = wide::nodes(LEVELS);
+    let title = format!("verifying a record of {nodes} nodes, time of one node");
+    let lines = begin(form, &title, "records");
+    for (automata, attached) in [(0, 0), (8, 0), (8, 1), (8, 8)] {
+        let records = with_automata(automata, attached);
+        let Head {
+            automata, edges, ..
+        } = records.head();
+        let what = format!("automata {automata}, edges {edges}");
+        let claim = Claim {
+            table: records.numbers(),
+            query: wide::query(LEVELS),
+            record: wide::record(LEVELS),
+        };
+        let times = verdicts(older, &what, vec![claim]);
+        print(form, &lines, &what, times.map(|time| time / nodes as f64));
+    }
+}
+
+/// The table of the levels with so many automata, of which the first ones, so
+/// many, have fifteen edges each and are attached. The others have no edges, so
+/// they are dead, and are attached to nothing.
+fn with_automata(automata: usize, attached: u16) -> Records {
+    let mut records = calls::constrained(wide::records(LEVELS), attached);
+    records.automata.resize(automata, [0; 2]);
+    records
+}
+
+/// The times of one verdict by both builds, over some claims.
+fn verdicts(older: &Older, what: &str, claims: Vec<Claim>) -> [f64; 2] {
+    let claims = claims.into_iter().map(|claim| {
+        let (table, query) = (claim.table, claim.query);
+        (Listing { table, query }, claim.record)
+    });
+    let claims: Vec<(Listing, Vec<u16>)> = claims.collect();
+    let before = |(listing, record): &(Listing, Vec<u16>)| older.verify(listing, record);
+    let after = |(listing, record): &(Listing, Vec<u16>)| listing.verify(record);
+    for claim in &claims {
+        assert_eq!(before(claim), after(claim), "{what}");
+    }
+    let before = || claims.iter().filter(|claim| before(claim).is_ok()).count();
+    let after = || claims.iter().filter(|claim| after(claim).is_ok()).count();
+    same(ROUND, what, before, after).map(|time| time / claims.len() as f64)
+}
