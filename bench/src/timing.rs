@@ -84,15 +84,34 @@ const ROUNDS_IN_TURNS: usize = 15;
 const LONG_TURNS: Duration = Duration::from_secs(1);
 
 /// The times of two calls in nanoseconds, each the median of some rounds that
-/// last so long at the least. The rounds take turns, so that whatever slows the
-/// machine slows both. The first turns show how many calls there can be in a
-/// round. If they take very long there are no others, but a round of the call of
-/// which there can be several: the first alone would say little of it.
+/// last so long at the least and take turns.
 pub fn in_turns<One, Other>(
+    round: Duration,
+    one: impl FnMut() -> One,
+    other: impl FnMut() -> Other,
+) -> [f64; 2] {
+    turns(round, one, other).map(median)
+}
+
+/// The same with the least of the rounds, for two calls that may take nearly the
+/// same time: whatever disturbs a round makes it longer.
+pub fn least_in_turns<One, Other>(
+    round: Duration,
+    one: impl FnMut() -> One,
+    other: impl FnMut() -> Other,
+) -> [f64; 2] {
+    turns(round, one, other).map(least)
+}
+
+/// The times of the rounds of two calls. The rounds take turns, so that whatever
+/// slows the machine slows both. The first turns show how many calls there can be
+/// in a round. If they take very long there are no others, but a round of the
+/// call of which there can be several: the first alone would say little of it.
+fn turns<One, Other>(
     round: Duration,
     mut one: impl FnMut() -> One,
     mut other: impl FnMut() -> Other,
-) -> [f64; 2] {
+) -> [Vec<f64>; 2] {
     let start = Instant::now();
     let firsts = [repeated(1, &mut one), repeated(1, &mut other)];
     let passes = firsts.map(|first| filling(round, first));
@@ -102,10 +121,10 @@ pub fn in_turns<One, Other>(
         times[1].push(repeated(passes[1], &mut other));
     }
     if times[0].is_empty() {
-        let one = settled(passes[0], firsts[0], &mut one);
-        return [one, settled(passes[1], firsts[1], &mut other)];
+        times[0].push(settled(passes[0], firsts[0], &mut one));
+        times[1].push(settled(passes[1], firsts[1], &mut other));
     }
-    times.map(median)
+    times
 }
 
 /// The time of one call over so many, of which the first is known.
@@ -151,6 +170,11 @@ pub fn each<Input>(
     Some(times)
 }
 
+/// The least of some values.
+fn least(values: Vec<f64>) -> f64 {
+    values.into_iter().fold(f64::INFINITY, f64::min)
+}
+
 /// The middle one of some values, the higher of two.
 fn median(mut values: Vec<f64>) -> f64 {
     values.sort_by(f64::total_cmp);
@@ -159,7 +183,7 @@ fn median(mut values: Vec<f64>) -> f64 {
 
 #[cfg(test)]
 mod tests {
-    use super::{filling, in_turns, median, settled};
+    use super::{filling, in_turns, least, median, settled};
     use std::cell::RefCell;
     use std::time::Duration;
 
@@ -187,6 +211,11 @@ mod tests {
         let round = Duration::from_micros(1);
         let calls = [0.0, 1.0, 300.0, 5e9].map(|one| filling(round, one));
         assert_eq!(calls, [1_001, 1_001, 4, 1]);
+    }
+
+    #[test]
+    fn the_least_is_what_it_says() {
+        assert_eq!(least(vec![3.0, 1.0, 2.0]), 1.0);
     }
 
     #[test]

@@ -14,7 +14,7 @@ use std::time::Duration;
 
 use crate::listing::{Listing, CELLS};
 use crate::sheet::{Form, Lines};
-use crate::timing::in_turns;
+use crate::timing::least_in_turns;
 pub use older::Older;
 use tables::Early;
 
@@ -101,7 +101,7 @@ fn same<Answer: PartialEq + Debug>(
     mut other: impl FnMut() -> Answer,
 ) -> [f64; 2] {
     let (mut ones, mut others) = (None, None);
-    let times = in_turns(round, || ones = Some(one()), || others = Some(other()));
+    let times = least_in_turns(round, || ones = Some(one()), || others = Some(other()));
     assert_eq!(ones, others, "{what}");
     times
 }
