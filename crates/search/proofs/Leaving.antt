@@ -88,11 +88,10 @@ told-empty t A r s told k imposed dead =
 
 -- the code has found an imposed automaton among the dead: below its sets no credential proves a goal
 pub dead-tried : (t : List ℕ) (S A : ℕ) (r : Role) (s : StateSets) {x : Moved} → x ≡ steppedOn t A r s
-    → (bitAnd (x .dead) A ≡ 0 → ⊥) → (levels above : ℕ) (g : Goal)
+    → meets A (x .dead) ≡ true → (levels above : ℕ) (g : Goal)
     → anyBelow (provesWith t S (proves t S A levels above (x .states)) (part A (acceptingSet t (x .states))) g) (credentials t)
     ≡ false
-unfolding meets
 dead-tried t S A r s {x} told found levels above g =
-    let (k, dead, imposed) = meets-common (x .dead) A (ap not (ne-eqb (bitAnd (x .dead) A) 0 found)) in
+    let (k, imposed, dead) = meets-common A (x .dead) found in
     let empty = told-empty t A r s told k imposed dead in
     none-tried t S A k imposed (x .states) empty _ (empty-proves-nothing t S A k imposed levels above (x .states) empty) g

@@ -22,7 +22,7 @@ ghost use lib.Dec.{eqb};
 ghost use Rattle.sets.specs.Logic.{_and_};
 ghost use Rattle.table.specs.Layout.{credential, credentials};
 ghost use Rattle.table.specs.Holding.{WellFormed};
-ghost use Rattle.sets.specs.Sets.{inSet, part};
+ghost use Rattle.sets.specs.Sets.{inSet, meets, part};
 ghost use Rattle.automata.specs.Together.{acceptingSet};
 ghost use Rattle.members.specs.Places.{isPerson};
 ghost use Rattle.members.specs.Trying.{provesBy};
@@ -62,7 +62,7 @@ pub fn goal_search(
     }
     let role = role_of(table, place);
     let below = stepped(table, terms.constraints, role, states);
-    if below.dead & terms.constraints != 0 {
+    if any_dead(terms.constraints, below.dead) {
         return false;
     }
     let deeper = sets::with(above, place);
@@ -331,6 +331,13 @@ pub fn stepped(table: &[Number], constraints: AutomatonSet, role: Role, states: 
         };
     }
     states.moved(table, role)
+}
+
+// Some automaton that is imposed is dead.
+fn any_dead(constraints: AutomatonSet, dead: AutomatonSet) -> bool
+    ensures { λ r. ⌜ r ≡ meets constraints dead ⌝ }
+{
+    constraints & dead != 0
 }
 
 // Credential i + 1 is allowed and defines the role at `place`.

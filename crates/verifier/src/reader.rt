@@ -124,12 +124,11 @@ pub fn read<'a>(
         return rec;
     }
     // a dead automaton stops nothing: it may belong to no used credential, and 11 to 13 of a later node come before 14
-    let moved = states.moved(table, goal.role);
-    let below = moved.states;
+    let below = states.moved(table, goal.role);
     let len = step.len;
     let goals = step.goals;
     *used = with_credential(*used, step.credential);
-    *every = after_node(table, *every, below, len);
+    *every = after_node(table, *every, below.states, len);
     let deeper = branch.with(goal);
     let mut rest = &rec[2..];
     let mut i = 0;
@@ -139,7 +138,7 @@ pub fn read<'a>(
             rest,
             goals[i],
             levels - 1,
-            below,
+            below.states,
             deeper,
             used,
             nodes,

@@ -41,6 +41,7 @@ use Rattle.search.proofs.goals.+credential_search+goal_search+linked_se
 use Rattle.members.proofs.asked_cell.Reads as asked-cell-reads
 use Rattle.members.proofs.link_cell.Reads as link-cell-reads
 use Rattle.members.proofs.asked_members.Reads as asked-members-reads
+use Rattle.search.proofs.goals.any_dead.Reads as any-dead-reads
 use Rattle.search.proofs.goals.ends_word.Reads as ends-word-reads
 use Rattle.search.proofs.goals.is_asked_before.Reads as is-asked-before-reads
 use Rattle.search.proofs.goals.is_listed.Reads as is-listed-reads
@@ -125,6 +126,8 @@ goal-search-claims t = (
   role-of-reads.Learnt,
   stepped-reads.Asked,
   stepped-reads.Learnt,
+  any-dead-reads.Asked,
+  any-dead-reads.Learnt,
   with-reads.Asked,
   with-reads.Learnt,
   may-use-reads.Asked,
@@ -294,7 +297,7 @@ module _ (t : ℕ) where
       }
 
   abbrev goal-search-stepped : goal-search-place goal-search-lts.After-with t → goal-search-place goal-search-lts.After-stepped t
-  goal-search-stepped at = at .before .before .before .before
+  goal-search-stepped at = at .before .before .before
 
   goal-search-entered : (at : goal-search-place goal-search-lts.After-with t)
       → goal-search-Entered (goal-search-stepped at) (at .with .result)
@@ -346,12 +349,15 @@ goal-search-role-of-requires t c κs = search needs
 goal-search-stepped-requires : goal-search-needs goal-search-lts.Need-stepped-requires
 goal-search-stepped-requires t c κs = search needs
 
+goal-search-any-dead-requires : goal-search-needs goal-search-lts.Need-any-dead-requires
+goal-search-any-dead-requires t c κs = search needs
+
 -- an imposed automaton is dead
 goal-search-returns-5 : goal-search-needs goal-search-lts.Need-returns-5
 goal-search-returns-5 t c =
-    let at = c .before .before .before in
+    let at = c .before .before in
     none-proves (goal-search-down t at _ refl) _ (sym (goal-search-down t at _ refl .all))
-    (dead-tried _ _ _ _ _ (at .stepped .ensures) (c .if5 .taken) _ _ _)
+    (dead-tried _ _ _ _ _ (at .stepped .ensures) (sym (c .before .any-dead .ensures) ∙ c .if5 .taken) _ _ _)
 
 goal-search-with-requires : goal-search-needs goal-search-lts.Need-with-requires
 goal-search-with-requires t c κs = search needs
@@ -650,7 +656,7 @@ pub +credential-search+goal-search+linked-search+parts-search-spec : {M : Type 1
     (λ t. goal-search-lts.spec (goal-search-claims t) (goal-search-at t) goal-search.Post goal-search-Inv-loop goal-search-μ-loop
     (goal-search-returns t) (goal-search-credentials-requires t) (goal-search-returns-2 t) (goal-search-row-of-requires t)
     (goal-search-is-listed-requires t) (goal-search-returns-3 t) (goal-search-has-requires t) (goal-search-returns-4 t)
-    (goal-search-role-of-requires t) (goal-search-stepped-requires t) (goal-search-returns-5 t) (goal-search-with-requires t) (goal-search-loop-holds t)
+    (goal-search-role-of-requires t) (goal-search-stepped-requires t) (goal-search-any-dead-requires t) (goal-search-returns-5 t) (goal-search-with-requires t) (goal-search-loop-holds t)
     (goal-search-may-use-requires t) (goal-search-sub-credential-search t) (goal-search-credential-search-requires t)
     (goal-search-returns-6 t) (goal-search-add-i t) (goal-search-loop-less t) (goal-search-loop-again t)
     (goal-search-returns-7 t))

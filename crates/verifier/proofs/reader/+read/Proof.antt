@@ -32,7 +32,7 @@ read-below t = and 6 read-kinds.ps (falls 6 read-kinds.ps _<_ μ-read t) read.Pr
 
 abbrev read-Inv-loop : read-lts.InvT-loop
 read-Inv-loop table rec levels used₀ nodes₀ every₀ refusal₀ stopped below len goals deeper rest₀ i₀ used nodes every refusal rest i =
-    Onward table (levels - 1) (above deeper) goals len below rest₀ used₀ nodes₀ every₀ rest used nodes every refusal i
+    Onward table (levels - 1) (above deeper) goals len (below .states) rest₀ used₀ nodes₀ every₀ rest used nodes every refusal i
 
 abbrev read-μ-loop : read-lts.MeasureT-loop
 read-μ-loop table rec levels used₀ nodes₀ every₀ refusal₀ stopped below len goals deeper rest₀ i₀ used nodes every refusal rest i =
@@ -72,12 +72,12 @@ module _ (t : ℕ) where
   Children = read-lts.After-rest (read-claims t) (read-at t) read.Post read-Inv-loop read-μ-loop
 
   abbrev entered : Children → Entered
-  entered at = at .before .before .before .before .before .before .before .before .before
+  entered at = at .before .before .before .before .before .before .before .before
 
   down : (at : Children) → let from = start (entered at) .args in
       let step = entered at .before .enter .result in
       let deeper = at .before .with .result in
-      let below = at .before .before .before .before .before .before .before .before .moved .result .states in
+      let below = at .before .before .before .before .before .before .before .moved .result .states in
       let used₀ = at .before .before .before .before .with-credential .result in
       let every₀ = at .before .before .after-node .result in
       Down (now (from .table)) (from .branch) (from .goal) (from .states) step (now (from .used)) (now (from .every))
@@ -85,7 +85,7 @@ module _ (t : ℕ) where
   down at =
       record {
         branches = at .before .with .ensures .1 .1;
-        moves = states-moved _ _ _ (at .before .before .before .before .before .before .before .before .moved .ensures);
+        moves = states-moved _ _ _ (at .before .before .before .before .before .before .before .moved .ensures);
         uses = at .before .before .before .before .with-credential .ensures;
         keeps = at .before .before .after-node .ensures;
       }
@@ -115,23 +115,23 @@ read-moved-requires t c κs = start t c .pre .1 .0
 
 read-with-credential-requires : (t : ℕ)
     → read-lts.Need-with-credential-requires (read-claims t) (read-at t) read.Post read-Inv-loop read-μ-loop
-read-with-credential-requires t c κs = node-credential (node t (c .before .before .before .before))
+read-with-credential-requires t c κs = node-credential (node t (c .before .before .before))
 
 read-after-node-requires : (t : ℕ)
     → read-lts.Need-after-node-requires (read-claims t) (read-at t) read.Post read-Inv-loop read-μ-loop
-read-after-node-requires t c κs = start t (c .before .before .before .before .before .before) .pre .1 .0
+read-after-node-requires t c κs = start t (c .before .before .before .before .before) .pre .1 .0
 
 read-with-requires : (t : ℕ) → read-lts.Need-with-requires (read-claims t) (read-at t) read.Post read-Inv-loop read-μ-loop
 read-with-requires t c κs =
-    let at = c .before .before .before .before .before .before .before in
+    let at = c .before .before .before .before .before .before in
     let pre = start t at .pre in
     (pre .1 .1 .0 .0, omega (arith, pre .1 .1 .0 .1, node-level (node t at)))
 
 read-sub-rest : (t : ℕ) → read-lts.Need-sub-rest (read-claims t) (read-at t) read.Post read-Inv-loop read-μ-loop
-read-sub-rest t c = omega (arith, node-long (node t (c .before .before .before .before .before .before .before .before)))
+read-sub-rest t c = omega (arith, node-long (node t (c .before .before .before .before .before .before .before)))
 
 read-part-rest-start : (t : ℕ) → read-lts.Need-part-rest-start (read-claims t) (read-at t) read.Post read-Inv-loop read-μ-loop
-read-part-rest-start t c = omega (arith, node-long (node t (c .before .before .before .before .before .before .before .before)))
+read-part-rest-start t c = omega (arith, node-long (node t (c .before .before .before .before .before .before .before)))
 
 read-part-rest-end : (t : ℕ) → read-lts.Need-part-rest-end (read-claims t) (read-at t) read.Post read-Inv-loop read-μ-loop
 read-part-rest-end t c = omega arith
