@@ -1,6 +1,4 @@
 -- Laws that belong to no one function; crates above cite those marked `pub mod`.
-pub mod Regions
-pub mod Growing
 pub mod Counting
 pub mod Stopping
 pub mod Whole

@@ -25,9 +25,9 @@ use Rattle.table.specs.Checks.{requestOutcome}
 use Rattle.table.specs.declared.Query.{Query}
 use Rattle.search.specs.Admits.{admits}
 use Rattle.listing.specs.Minimal.{Tells, afterwards, bufferAfter, isMinimal, minimalSets}
-use Rattle.listing.specs.Below.{Bears, Ended, Held, andLeast}
+use Rattle.regions.specs.Below.{Bears, Ended, Held, andLeast}
 use Rattle.listing.proofs.Counting.{listed-counted, more-counted, none-counted}
-use Rattle.listing.proofs.Regions.{admits-monotone}
+use Rattle.regions.proofs.Regions.{admits-monotone}
 
 -- nothing is chosen, and all that bears on the test is free
 module _ (p : ℕ → Bool) (n usable : ℕ) (few : usable < 2 ^ n) where

@@ -1,10 +1,7 @@
 // The holder's end: every minimal set of credentials that proves the queried membership, ascending (docs/DEFINITION.md,
-// "The list"). It knows of derivations only which sets of credentials admit an accepted record (crate search).
-// specs/Minimal.antt says what the answer and the buffer are; specs/Demands.antt states that this is the list that the
+// "The list"). It knows of derivations only which sets of credentials admit an accepted record (crate search), and leaves the
+// search over sets to crate regions. specs/Minimal.antt says what the answer and the buffer are; specs/Demands.antt states that this is the list that the
 // definition means.
-mod below; // below.rt: the search over sets, by cuts
-
-pub use below::is_minimal;
 use checks::QueryCheck;
 use sets::CredentialSet;
 use table::Number;
@@ -84,7 +81,7 @@ fn list_admitted(
     let cells = sets.len();
     let mut count = 0;
     let mut found = 0;
-    below::below(
+    regions::below(
         table,
         query,
         index,

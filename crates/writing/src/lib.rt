@@ -63,7 +63,7 @@ fn is_listed(table: &[Number], query: Query, index: &[u8], set: CredentialSet) -
     if !search::admits(table, query, index, set) {
         return false;
     }
-    listing::is_minimal(table, query, index, set)
+    regions::is_minimal(table, query, index, set)
 }
 
 // Row 16, or the record. The length is known before the first cell is written: the record is walked without cells first, up to
