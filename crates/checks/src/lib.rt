@@ -1,7 +1,6 @@
 // The checks that stop a bad table or a bad query: rows 1 to 8 of docs/DEFINITION.md, "Where each input is stopped". Every slice
 // of every length gets "accepted" or exactly its refusal, and nothing is written. What the checks mean is in table's
 // specs/Checks.antt.
-mod ranges; // ranges.rt: what a single record or query must be
 mod rows; // rows.rt: the rows of checks over all records
 
 use rows::Row;

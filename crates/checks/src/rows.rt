@@ -1,7 +1,6 @@
 // The rows of checks over a whole table: the head, then the records by ascending number. A row's refusal names the first record
 // that fails; the rows after the head are asked only of a table with the length that its head says.
 use crate::TableCheck;
-use crate::ranges;
 use table::INTERSECTION_CONTAINMENT;
 use table::Number;
 use table::Reason;

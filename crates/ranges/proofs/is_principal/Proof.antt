@@ -1,8 +1,8 @@
--- `checks::ranges::is_principal` meets its contract: by that of `within`. Assumes nothing.
+-- `ranges::is_principal` meets its contract: by that of `within`. Assumes nothing.
 use borrow.Author.Needs.{needs}
 use Rattle.table.specs.Checks.{isPrincipal}
-use Rattle.checks.proofs.ranges.is_principal.Statement.{statement}
-use Rattle.checks.proofs.ranges.is_principal.Tie as tie
+use Rattle.ranges.proofs.is_principal.Statement.{statement}
+use Rattle.ranges.proofs.is_principal.Tie as tie
 
 cast-within : tie.Need-cast-within
 cast-within c = search needs

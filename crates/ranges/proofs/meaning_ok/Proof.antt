@@ -1,10 +1,10 @@
--- `checks::ranges::meaning_ok` meets its contract: kind by kind. Assumes nothing.
+-- `ranges::meaning_ok` meets its contract: kind by kind. Assumes nothing.
 use mathlib.Core.Path.{_∙_, sym}
 use borrow.Author.Needs.{needs}
 use Rattle.table.proofs.Meanings.{kind-1, kind-2, kind-3, kind-4, kind-none}
 use Rattle.sets.proofs.Tests.{flag-off, flag-on}
-use Rattle.checks.proofs.ranges.meaning_ok.Statement.{statement}
-use Rattle.checks.proofs.ranges.meaning_ok.Tie as tie
+use Rattle.ranges.proofs.meaning_ok.Statement.{statement}
+use Rattle.ranges.proofs.meaning_ok.Tie as tie
 
 is-principal-requires : tie.Need-is-principal-requires
 is-principal-requires c κs = search needs

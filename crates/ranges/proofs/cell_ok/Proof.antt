@@ -1,11 +1,11 @@
--- `checks::ranges::cell_ok` meets its contract: the role, then that next is 0 or a greater cell. Assumes nothing.
+-- `ranges::cell_ok` meets its contract: the role, then that next is 0 or a greater cell. Assumes nothing.
 use mathlib.Core.Path.{_∙_}
 use borrow.Author.Needs.{needs}
 use borrow.Author.Tests.{eq-eqb, le-ltb, lt-ltb, ne-eqb}
 use Rattle.sets.proofs.Tests.{and-off, and-on, flag-off, flag-on, or-off, or-on}
 use Rattle.table.specs.Checks.{cellOk}
-use Rattle.checks.proofs.ranges.cell_ok.Statement.{statement}
-use Rattle.checks.proofs.ranges.cell_ok.Tie as tie
+use Rattle.ranges.proofs.cell_ok.Statement.{statement}
+use Rattle.ranges.proofs.cell_ok.Tie as tie
 
 wide-requires : tie.Need-wide-requires
 wide-requires c κs = search needs

@@ -1,11 +1,11 @@
--- `checks::ranges::edge_ok` meets its contract: the automaton, the two states, then the label. Assumes nothing.
+-- `ranges::edge_ok` meets its contract: the automaton, the two states, then the label. Assumes nothing.
 use mathlib.Core.Path.{_∙_}
 use borrow.Author.Needs.{needs}
 use borrow.Author.Tests.{le-leb, lt-leb}
 use Rattle.sets.proofs.Tests.{and-off, and-on, flag-off, flag-on}
 use Rattle.table.specs.Checks.{edgeOk}
-use Rattle.checks.proofs.ranges.edge_ok.Statement.{statement}
-use Rattle.checks.proofs.ranges.edge_ok.Tie as tie
+use Rattle.ranges.proofs.edge_ok.Statement.{statement}
+use Rattle.ranges.proofs.edge_ok.Tie as tie
 
 within-requires : tie.Need-within-requires
 within-requires c κs = search needs

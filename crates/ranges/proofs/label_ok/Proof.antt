@@ -1,11 +1,11 @@
--- `checks::ranges::label_ok` meets its contract: label by label. Assumes nothing.
+-- `ranges::label_ok` meets its contract: label by label. Assumes nothing.
 use mathlib.Core.Path.{_∙_, sym}
 use borrow.Author.Needs.{needs}
 use borrow.Author.Tests.{eq-eqb, ne-eqb}
 use Rattle.table.proofs.Meanings.{label-1, label-2, label-3, label-4, label-none}
 use Rattle.sets.proofs.Tests.{and-off, and-on, flag-off, flag-on}
-use Rattle.checks.proofs.ranges.label_ok.Statement.{statement}
-use Rattle.checks.proofs.ranges.label_ok.Tie as tie
+use Rattle.ranges.proofs.label_ok.Statement.{statement}
+use Rattle.ranges.proofs.label_ok.Tie as tie
 
 is-role-requires : tie.Need-is-role-requires
 is-role-requires c κs = search needs

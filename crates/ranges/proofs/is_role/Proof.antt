@@ -1,10 +1,10 @@
--- `checks::ranges::is_role` meets its contract: the owner is tested, then the name. Assumes nothing.
+-- `ranges::is_role` meets its contract: the owner is tested, then the name. Assumes nothing.
 use mathlib.Core.Path.{_∙_}
 use borrow.Author.Needs.{needs}
 use Rattle.sets.proofs.Tests.{flag-off, flag-on}
 use Rattle.table.specs.Checks.{isName, isRole}
-use Rattle.checks.proofs.ranges.is_role.Statement.{statement}
-use Rattle.checks.proofs.ranges.is_role.Tie as tie
+use Rattle.ranges.proofs.is_role.Statement.{statement}
+use Rattle.ranges.proofs.is_role.Tie as tie
 
 is-principal-requires : tie.Need-is-principal-requires
 is-principal-requires c κs = search needs

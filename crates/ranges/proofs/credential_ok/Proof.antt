@@ -1,10 +1,10 @@
--- `checks::ranges::credential_ok` meets its contract: the role, what the kind allows, then the automaton. Assumes nothing.
+-- `ranges::credential_ok` meets its contract: the role, what the kind allows, then the automaton. Assumes nothing.
 use mathlib.Core.Path.{_∙_}
 use borrow.Author.Needs.{needs}
 use Rattle.sets.proofs.Tests.{flag-off, flag-on}
 use Rattle.table.specs.Checks.{credentialOk}
-use Rattle.checks.proofs.ranges.credential_ok.Statement.{statement}
-use Rattle.checks.proofs.ranges.credential_ok.Tie as tie
+use Rattle.ranges.proofs.credential_ok.Statement.{statement}
+use Rattle.ranges.proofs.credential_ok.Tie as tie
 
 is-role-requires : tie.Need-is-role-requires
 is-role-requires c κs = search needs

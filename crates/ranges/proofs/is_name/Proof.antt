@@ -1,8 +1,8 @@
--- `checks::ranges::is_name` meets its contract: by that of `within`. Assumes nothing.
+-- `ranges::is_name` meets its contract: by that of `within`. Assumes nothing.
 use borrow.Author.Needs.{needs}
 use Rattle.table.specs.Checks.{isName}
-use Rattle.checks.proofs.ranges.is_name.Statement.{statement}
-use Rattle.checks.proofs.ranges.is_name.Tie as tie
+use Rattle.ranges.proofs.is_name.Statement.{statement}
+use Rattle.ranges.proofs.is_name.Tie as tie
 
 cast-within : tie.Need-cast-within
 cast-within c = search needs

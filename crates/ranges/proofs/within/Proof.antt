@@ -1,10 +1,10 @@
--- `checks::ranges::within` meets its contract: each test decides its part. Assumes nothing.
+-- `ranges::within` meets its contract: each test decides its part. Assumes nothing.
 use borrow.Author.Needs.{needs}
 use borrow.Author.Tests.{le-leb, lt-leb}
 use Rattle.sets.proofs.Tests.{and-off, and-on}
 use Rattle.table.specs.Checks.{within}
-use Rattle.checks.proofs.ranges.within.Statement.{statement}
-use Rattle.checks.proofs.ranges.within.Tie as tie
+use Rattle.ranges.proofs.within.Statement.{statement}
+use Rattle.ranges.proofs.within.Tie as tie
 
 wide-requires : tie.Need-wide-requires
 wide-requires c κs = search needs
