@@ -1,7 +1,7 @@
 // The holder's end: every minimal set of credentials that proves the queried membership, ascending (docs/DEFINITION.md,
 // "The list"). It knows of derivations only which sets of credentials admit an accepted record (crate search), and leaves the
-// search over sets to crate regions. specs/Minimal.antt says what the answer and the buffer are; specs/Demands.antt states that this is the list that the
-// definition means.
+// search over sets to crate regions. specs/Minimal.antt says what the answer and the buffer are; specs/Demands.antt states that
+// this is the list that the definition means.
 use checks::QueryCheck;
 use sets::CredentialSet;
 use table::Number;
@@ -15,7 +15,7 @@ ghost use Rattle.table.specs.Holding.{WellFormed};
 ghost use Rattle.table.specs.Checks.{Valid, numberOf};
 ghost use Rattle.table.specs.Outcome.{Outcome};
 ghost use Rattle.search.specs.Search.{Prepared};
-ghost use Rattle.search.specs.Relevance.{Relevant};
+ghost use Rattle.relevance.specs.Relevance.{Relevant};
 ghost use Rattle.search.specs.Admits.{admits};
 ghost use Rattle.listing.specs.Minimal.{Tells, bufferAfter, listing, listingTold};
 
@@ -55,7 +55,7 @@ fn list_checked(table: &[Number], query: Query, room: usize, sets: &mut [Credent
     ensures { λ r. ⌜ Tells (now (table .entry)) query (now (sets .entry)) (now (sets .exit)) (listingTold r) ⌝ }
 {
     let index = members::index(table, query);
-    let usable = search::relevant(table, query, &index);
+    let usable = relevance::relevant(table, query, &index);
     if !search::admits(table, query, &index, usable) {
         return refused(Reason::NoMinimalSet);
     }

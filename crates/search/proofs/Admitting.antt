@@ -28,7 +28,6 @@ use Rattle.derivation.specs.Attached.{automataOf}
 use Rattle.derivation.specs.Accepted.{Accepted}
 use Rattle.search.specs.Search.{UsesOnly, provable}
 use Rattle.search.specs.Admits.{Admits, admits, admitsBy, without}
-use Rattle.search.specs.Relevance.{Relevant}
 use Rattle.derivation.proofs.Using.{automaton-imposed, automaton-reached, automaton-shows, named-numbered, placed}
 use Rattle.derivation.proofs.Using.{used-at, used-named, uses-reached, uses-shows}
 use Rattle.search.proofs.Searching.{AllAccept, provable-by, provable-exact}
@@ -211,21 +210,6 @@ module _ (t : List ℕ) (wf : WellFormed t) (q : Query) where
 
   pub admits-mono : (S S′ : ℕ) → part S S′ ≡ true → admits t q S ≡ true → admits t q S′ ≡ true
   admits-mono S S′ more h = admits-exact S′ .1 (admits-more S S′ more (admits-exact S .0 h))
-
-  -- what bears on the query decides
-  pub relevant-admits : (R : ℕ) → Relevant t q R → (Y : ℕ) → admits t q (bitAnd Y R) ≡ admits t q Y
-  relevant-admits R relevant Y =
-      same-test _ _ (admits-mono (bitAnd Y R) Y (part-shown _ Y (λ s h. and-first _ _ (sym (inSet-and Y R s) ∙ h))))
-      (λ h.
-      let a = admits-exact Y .0 h in
-      let only = relevant .every (a .forest) (a .derives) in
-      admits-exact (bitAnd Y R) .1
-      record {
-        forest = a .forest;
-        derives = a .derives;
-        usesOnly = λ c named. inSet-and Y R (c - 1) ∙ and-both (a .usesOnly c named) (only c named);
-        complies = a .complies;
-      })
 
   -- the used set of an accepted record admits, and a set that does has such a record's used set as a part
   pub accepted-admits : (rec : List ℕ) (S : ℕ) → Accepted t q rec S → admits t q S ≡ true

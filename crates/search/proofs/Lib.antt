@@ -10,5 +10,3 @@ pub mod Deriving
 pub mod Searching
 pub mod Admitting
 pub mod Deciding
-pub mod Bearing
-pub mod Reaching

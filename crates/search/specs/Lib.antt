@@ -1,4 +1,3 @@
 pub mod Search
 pub mod Promised
 pub mod Admits
-pub mod Relevance

@@ -1,10 +1,9 @@
 // The search: whether the credentials of a set prove a membership when every word must be accepted by each of some automata,
-// whether some accepted record uses only credentials of a set, and which of them bear on a query at all (docs/DEFINITION.md, "The
-// list"). It knows of derivations what `derivation` promises: which goals a credential asks, and what may not repeat on a branch.
-// specs/Search.antt, specs/Admits.antt and specs/Relevance.antt say what the answers mean.
+// and whether some accepted record uses only credentials of a set (docs/DEFINITION.md, "The list"). It knows of derivations what
+// `derivation` promises: which goals a credential asks, and what may not repeat on a branch.
+// specs/Search.antt and specs/Admits.antt say what the answers mean.
 mod admission; // admission.rt: whether some accepted record uses only credentials of a set
 mod goals; // goals.rt: a goal through a credential, and a credential through the goals of its premises
-mod relevance; // relevance.rt: which credentials bear on a query
 
 pub use admission::admits;
 use automata::StateSets;
@@ -15,7 +14,6 @@ pub use goals::may_use;
 pub use goals::role_of;
 pub use goals::row_of;
 pub use goals::stepped;
-pub use relevance::relevant;
 use sets::AutomatonSet;
 use sets::CredentialSet;
 use table::Number;

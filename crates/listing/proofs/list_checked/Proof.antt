@@ -7,7 +7,7 @@ use native.Mathlib.Omega.{arith}
 use lib.ListN.{length-take}
 use Rattle.sets.proofs.Tests.{failed, passed}
 use Rattle.table.specs.Checks.{numberOf}
-use Rattle.search.proofs.Admitting.{relevant-admits}
+use Rattle.relevance.proofs.Narrowing.{relevant-admits}
 use Rattle.listing.proofs.Whole.{none-told, start-none, told-instead}
 use borrow.Author.Needs.{needs}
 use Rattle.listing.proofs.list_checked.Statement.{statement}
@@ -34,10 +34,12 @@ refused-requires c κs = search needs
 returns : tie.Need-returns
 unfolding numberOf
 returns c =
-    let few = c .before .before .before .before .relevant .ensures .fits in
-    let bears = relevant-admits _ (c .before .before .before .before .before .before .before .before .before .pre .0) _ _ (c .before .before .before .before .relevant .ensures) in
+    let wf = c .before .before .before .before .before .before .before .before .before .pre .0 in
+    let relevant = c .before .before .before .before .relevant .ensures in
+    let bears = relevant-admits _ wf _ _ relevant in
+    let unproved = failed (c .before .before .admits .ensures) (c .before .if1 .taken) in
     told-instead (c .refused .ensures)
-    (none-told _ _ _ _ _ (start-none _ _ _ few bears (c .before .before .before .before .before .before .before .before .before .pre .0) (failed (c .before .before .admits .ensures) (c .before .if1 .taken)) _) refl)
+    (none-told _ _ _ _ _ (start-none _ _ _ (relevant .fits) bears wf unproved _) refl)
 
 slice-aggregate-list-admitted : tie.Need-slice-aggregate-list-admitted
 slice-aggregate-list-admitted c = search needs
@@ -53,10 +55,14 @@ slice-aggregate-list-admitted-2 : tie.Need-slice-aggregate-list-admitted-2
 slice-aggregate-list-admitted-2 c = simp length-take (omega (arith, few-fits (c .before .before)))
 
 list-admitted-requires : tie.Need-list-admitted-requires
-list-admitted-requires c κs = (
-  record { wellFormed = c .before .before .before .before .before .before .before .before .before .before .before .before .pre .0; valid = c .before .before .before .before .before .before .before .before .before .before .before .before .pre .1; indexed = c .before .before .before .before .before .before .before .before .before .index .ensures .0; aimed = c .before .before .before .before .before .before .before .before .before .index .ensures .1 },
-  (c .before .before .before .before .before .before .before .relevant .ensures, passed (c .before .before .before .before .before .admits .ensures) (c .before .before .before .before .if1 .left)),
-)
+list-admitted-requires c κs =
+    let passed-by = c .before .before .before .before in
+    let relevant = passed-by .before .before .before in
+    let index = relevant .before .before in
+    let pre = index .before .before .before .pre in (
+      record { wellFormed = pre .0; valid = pre .1; indexed = index .index .ensures .0; aimed = index .index .ensures .1 },
+      (relevant .relevant .ensures, passed (passed-by .before .admits .ensures) (passed-by .if1 .left)),
+    )
 
 same-length : tie.Need-same-length
 same-length c = search needs

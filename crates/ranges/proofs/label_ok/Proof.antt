@@ -48,4 +48,14 @@ returns-7 c = let no = c .match .rest in sym (label-none _ _ (no .0 .0 .0 .1) (n
 pub label-ok-spec : {M : Type 1} → statement M
 label-ok-spec =
     tie.close
-    (tie.spec is-role-requires is-role-requires-2 is-principal-requires returns returns-2 returns-3 returns-4 returns-5 returns-6 returns-7)
+    (tie.spec
+    is-role-requires
+    is-role-requires-2
+    is-principal-requires
+    returns
+    returns-2
+    returns-3
+    returns-4
+    returns-5
+    returns-6
+    returns-7)

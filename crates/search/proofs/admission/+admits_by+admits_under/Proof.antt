@@ -58,10 +58,34 @@ admits-under-below t =
     admits-under.Pre
 
 abbrev admits-by-claims : ℕ → admits-by-lts.Claims
-admits-by-claims t = (has-16-reads.Asked, has-16-reads.Learnt, admits-by-below t, admits-by.Post, without-reads.Asked, without-reads.Learnt, admits-under-below t, admits-under.Post, with-16-reads.Asked, with-16-reads.Learnt, provable-reads.Asked, provable-reads.Learnt)
+admits-by-claims t = (
+  has-16-reads.Asked,
+  has-16-reads.Learnt,
+  admits-by-below t,
+  admits-by.Post,
+  without-reads.Asked,
+  without-reads.Learnt,
+  admits-under-below t,
+  admits-under.Post,
+  with-16-reads.Asked,
+  with-16-reads.Learnt,
+  provable-reads.Asked,
+  provable-reads.Learnt,
+)
 
 abbrev admits-under-claims : ℕ → admits-under-lts.Claims
-admits-under-claims t = (wide-reads.Asked, wide-reads.Learnt, fill-reads.Asked, fill-reads.Learnt, provable-reads.Asked, provable-reads.Learnt, automata-of-reads.Asked, automata-of-reads.Learnt, admits-by-below t, admits-by.Post)
+admits-under-claims t = (
+  wide-reads.Asked,
+  wide-reads.Learnt,
+  fill-reads.Asked,
+  fill-reads.Learnt,
+  provable-reads.Asked,
+  provable-reads.Learnt,
+  automata-of-reads.Asked,
+  automata-of-reads.Learnt,
+  admits-by-below t,
+  admits-by.Post,
+)
 
 -- what `admits_by` needs, whatever its measure is
 abbrev admits-by-needs :
@@ -193,7 +217,9 @@ admits-under-slice-aggregate-provable : admits-under-needs admits-under-lts.Need
 admits-under-slice-aggregate-provable t c = search needs
 
 admits-under-provable-requires : admits-under-needs admits-under-lts.Need-provable-requires
-admits-under-provable-requires t c κs = (c .before .before .before .before .before .before .before .pre .1 .0, rw (c .before .before .before .before .wide .ensures .0) at (c .before .before .fill .ensures))
+admits-under-provable-requires t c κs =
+    let pre = c .before .before .before .before .before .before .before .pre .1 in
+    (pre .0, rw (c .before .before .before .before .wide .ensures .0) at (c .before .before .fill .ensures))
 
 admits-under-returns : admits-under-needs admits-under-lts.Need-returns
 admits-under-returns t c = sym (and-is-off _ (failed (c .before .provable .ensures) (c .if1 .taken)))
@@ -206,10 +232,14 @@ admits-under-automata-of-requires t c κs = search needs
 
 admits-under-admits-by-requires : admits-under-needs admits-under-lts.Need-admits-by-requires
 admits-under-admits-by-requires t c κs =
-    (omega (arith, c .before .before .before .before .before .before .before .before .before .before .before .pre .0), (c .before .before .before .before .before .before .before .before .before .before .before .pre .1 .0, (rw (c .before .before .before .before .before .before .before .before .wide .ensures .0) at (c .before .before .before .before .before .before .fill .ensures), (c .automata-of .ensures, c .before .before .before .before .before .before .before .before .before .before .before .pre .1 .1))))
+    let pre = c .before .before .before .before .before .before .before .before .before .before .before .pre in
+    let members = rw (c .before .before .before .before .before .before .before .before .wide .ensures .0) at (c .before .before .before .before .before .before .fill .ensures) in
+    (omega (arith, pre .0), (pre .1 .0, (members, (c .automata-of .ensures, pre .1 .1))))
 
 admits-under-returns-2 : admits-under-needs admits-under-lts.Need-returns-2
-admits-under-returns-2 t c = sym (and-is (passed (c .before .before .before .before .provable .ensures) (c .before .before .before .if1 .left)) (sym (c .admits-by .ensures)))
+admits-under-returns-2 t c =
+    let provable = passed (c .before .before .before .before .provable .ensures) (c .before .before .before .if1 .left) in
+    sym (and-is provable (sym (c .admits-by .ensures)))
 
 pub +admits-by+admits-under-spec : {M : Type 1} → statement M
 +admits-by+admits-under-spec = close μ-admits-by μ-admits-under (λ t. admits-by-lts.spec (admits-by-claims t) (admits-by-at t)

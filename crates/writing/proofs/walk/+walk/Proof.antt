@@ -39,8 +39,10 @@ walk-below t = and 4 walk-kinds.ps (falls 4 walk-kinds.ps _<_ μ-walk t) walk.Pr
 
 abbrev walk-Inv-loop : walk-lts.InvT-loop
 walk-Inv-loop table index rows terms person place levels above most at rec₀ below deeper len persons places next₀ k₀ rec next k =
-    (k ≤ len) × Walked next₀ most (written (firstForest table (terms .allowed) (terms .constraints) (levels - 1) deeper (below .states)
-    (take k (nodeAsks table (terms .allowed) (terms .constraints) (levels - 1) deeper (below .states) (goalAt table person place))))) rec₀ rec next
+    let S = terms .allowed in
+    let A = terms .constraints in
+    let asks = nodeAsks table S A (levels - 1) deeper (below .states) (goalAt table person place) in
+    (k ≤ len) × Walked next₀ most (written (firstForest table S A (levels - 1) deeper (below .states) (take k asks))) rec₀ rec next
 
 abbrev walk-μ-loop : walk-lts.MeasureT-loop
 walk-μ-loop table index rows terms person place levels above most at rec₀ below deeper len persons places next₀ k₀ rec next k =

@@ -1,9 +1,9 @@
--- `search::relevance::with_roles` meets its contract: by the credential's kind nothing is asked, four roles, or also those that
+-- `relevance::with_roles` meets its contract: by the credential's kind nothing is asked, four roles, or also those that
 -- it asks with a middle. Assumes nothing.
-use Rattle.search.proofs.Reaching.{roles-asked, roles-linked, roles-none}
+use Rattle.relevance.proofs.Reaching.{roles-asked, roles-linked, roles-none}
 use borrow.Author.Needs.{needs}
-use Rattle.search.proofs.relevance.with_roles.Statement.{statement}
-use Rattle.search.proofs.relevance.with_roles.Tie as tie
+use Rattle.relevance.proofs.with_roles.Statement.{statement}
+use Rattle.relevance.proofs.with_roles.Tie as tie
 
 add-credential : tie.Need-add-credential
 add-credential c = search needs

@@ -1,15 +1,15 @@
--- `search::relevance::at_places` meets its contract: of the first i credentials those are found whose role stands at one of the
+-- `relevance::at_places` meets its contract: of the first i credentials those are found whose role stands at one of the
 -- places. Assumes nothing.
 use mathlib.Core.Path.{_∙_, _≡_, refl, sym}
 use mathlib.Core.Logic.{⊎-elim}
 use Prim.Native.Nat.{_-_, _≤_}
 use native.Mathlib.Omega.{arith}
 use Rattle.sets.specs.Sets.{setOf}
-use Rattle.search.specs.Relevance.{definedAt}
-use Rattle.search.proofs.Reaching.{defined-more, defined-not}
+use Rattle.relevance.specs.Relevance.{definedAt}
+use Rattle.relevance.proofs.Reaching.{defined-more, defined-not}
 use borrow.Author.Needs.{needs}
-use Rattle.search.proofs.relevance.at_places.Statement.{statement}
-use Rattle.search.proofs.relevance.at_places.Tie as tie
+use Rattle.relevance.proofs.at_places.Statement.{statement}
+use Rattle.relevance.proofs.at_places.Tie as tie
 
 abbrev Inv-loop : tie.InvT-loop
 Inv-loop index n places found₀ i₀ found i = (i ≤ n) × (found ≡ definedAt index places i)

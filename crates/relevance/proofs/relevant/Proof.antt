@@ -1,8 +1,8 @@
--- `search::relevance::relevant` meets its contract: the credentials whose role is reached. Assumes nothing.
-use Rattle.search.proofs.Bearing.{relevant-found}
+-- `relevance::relevant` meets its contract: the credentials whose role is reached. Assumes nothing.
+use Rattle.relevance.proofs.Bearing.{relevant-found}
 use borrow.Author.Needs.{needs}
-use Rattle.search.proofs.relevance.relevant.Statement.{statement}
-use Rattle.search.proofs.relevance.relevant.Tie as tie
+use Rattle.relevance.proofs.relevant.Statement.{statement}
+use Rattle.relevance.proofs.relevant.Tie as tie
 
 credentials-requires : tie.Need-credentials-requires
 credentials-requires c κs = search needs

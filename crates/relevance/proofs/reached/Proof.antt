@@ -1,4 +1,4 @@
--- `search::relevance::reached` meets its contract: the rounds begin with the query's role and lose nothing, and where a round has
+-- `relevance::reached` meets its contract: the rounds begin with the query's role and lose nothing, and where a round has
 -- brought nothing in, all is there. Assumes nothing.
 use mathlib.Core.Path.{_≡_}
 use mathlib.Core.Bool.{true}
@@ -9,11 +9,11 @@ use Rattle.sets.specs.Sets.{inSet}
 use Rattle.sets.proofs.Members.{part-member}
 use Rattle.table.specs.Layout.{credentials}
 use Rattle.members.specs.Members.{goalRole}
-use Rattle.search.specs.Relevance.{Round}
-use Rattle.search.proofs.Reaching.{round-first, round-less, with-has}
+use Rattle.relevance.specs.Relevance.{Round}
+use Rattle.relevance.proofs.Reaching.{round-first, round-less, with-has}
 use borrow.Author.Needs.{needs}
-use Rattle.search.proofs.relevance.reached.Statement.{statement}
-use Rattle.search.proofs.relevance.reached.Tie as tie
+use Rattle.relevance.proofs.reached.Statement.{statement}
+use Rattle.relevance.proofs.reached.Tie as tie
 
 abbrev Inv-loop : tie.InvT-loop
 Inv-loop table index before₀ places₀ before places =

@@ -1,15 +1,15 @@
--- `search::relevance::with_links` meets its contract: the middles that stand below j have been looked at. Assumes nothing.
+-- `relevance::with_links` meets its contract: the middles that stand below j have been looked at. Assumes nothing.
 use mathlib.Core.Path.{_∙_, _≡_, sym}
 use mathlib.Core.Logic.{⊎-elim}
 use Prim.Native.Nat.{_-_, _≤_}
 use native.Mathlib.Omega.{arith}
 use denote.Ref.{now}
 use Rattle.table.specs.Layout.{credentials}
-use Rattle.search.specs.Relevance.{WithLinks}
-use Rattle.search.proofs.Reaching.{linked-more, linked-none, linked-not}
+use Rattle.relevance.specs.Relevance.{WithLinks}
+use Rattle.relevance.proofs.Reaching.{linked-more, linked-none, linked-not}
 use borrow.Author.Needs.{needs}
-use Rattle.search.proofs.relevance.with_links.Statement.{statement}
-use Rattle.search.proofs.relevance.with_links.Tie as tie
+use Rattle.relevance.proofs.with_links.Statement.{statement}
+use Rattle.relevance.proofs.with_links.Tie as tie
 
 abbrev Inv-loop : tie.InvT-loop
 Inv-loop table index i places n more₀ j₀ more j = (j ≤ n) × WithLinks table index i j places more

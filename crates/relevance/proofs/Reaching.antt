@@ -19,7 +19,7 @@ use Rattle.table.specs.Layout.{credential, credentials}
 use Rattle.table.specs.declared.Credential.{Credential}
 use Rattle.members.specs.Places.{isPerson}
 use Rattle.members.specs.Members.{askedCell, linkCell, roleCell}
-use Rattle.search.specs.Relevance.{AsksIn, Round, WithAsked, WithLinks, WithRoles, definedAt}
+use Rattle.relevance.specs.Relevance.{AsksIn, Round, WithAsked, WithLinks, WithRoles, definedAt}
 
 -- one more below n + 1
 below-next : (At : ℕ → Type 0) (i : ℕ) → ((k : ℕ) → k < i → At k) → At i → (k : ℕ) → k < i + 1 → At k

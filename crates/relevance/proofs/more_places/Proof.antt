@@ -1,4 +1,4 @@
--- `search::relevance::more_places` meets its contract: the first i credentials have been looked at, and what those at the places
+-- `relevance::more_places` meets its contract: the first i credentials have been looked at, and what those at the places
 -- ask has been taken in, or was there. Assumes nothing.
 use mathlib.Core.Path.{_≡_}
 use mathlib.Core.Logic.{⊎-elim}
@@ -6,11 +6,11 @@ use Prim.Native.Nat.{_-_, _≤_}
 use native.Mathlib.Omega.{arith}
 use denote.Ref.{now}
 use Rattle.table.specs.Layout.{credentials}
-use Rattle.search.specs.Relevance.{Round}
-use Rattle.search.proofs.Reaching.{round-old, round-starts, round-with}
+use Rattle.relevance.specs.Relevance.{Round}
+use Rattle.relevance.proofs.Reaching.{round-old, round-starts, round-with}
 use borrow.Author.Needs.{needs}
-use Rattle.search.proofs.relevance.more_places.Statement.{statement}
-use Rattle.search.proofs.relevance.more_places.Tie as tie
+use Rattle.relevance.proofs.more_places.Statement.{statement}
+use Rattle.relevance.proofs.more_places.Tie as tie
 
 abbrev Inv-loop : tie.InvT-loop
 Inv-loop table index before places n more₀ i₀ more i = (i ≤ n) × Round table index i places more

@@ -1,12 +1,12 @@
--- `search::relevance::with_asked` meets its contract: the first k of the four are taken in. Assumes nothing.
+-- `relevance::with_asked` meets its contract: the first k of the four are taken in. Assumes nothing.
 use mathlib.Core.Path.{_≡_}
 use Prim.Native.Nat.{_-_, _≤_}
 use native.Mathlib.Omega.{arith}
-use Rattle.search.specs.Relevance.{WithAsked}
-use Rattle.search.proofs.Reaching.{asked-more, asked-none}
+use Rattle.relevance.specs.Relevance.{WithAsked}
+use Rattle.relevance.proofs.Reaching.{asked-more, asked-none}
 use borrow.Author.Needs.{needs}
-use Rattle.search.proofs.relevance.with_asked.Statement.{statement}
-use Rattle.search.proofs.relevance.with_asked.Tie as tie
+use Rattle.relevance.proofs.with_asked.Statement.{statement}
+use Rattle.relevance.proofs.with_asked.Tie as tie
 
 abbrev Inv-loop : tie.InvT-loop
 Inv-loop index i places more₀ k₀ more k = (k ≤ 4) × WithAsked index i k places more

@@ -16,8 +16,8 @@ ghost use Rattle.sets.specs.Sets.{inSet};
 ghost use Rattle.table.specs.Layout.{credentials};
 ghost use Rattle.table.specs.Holding.{WellFormed};
 ghost use Rattle.members.specs.Members.{Indexed, Placed, goalRole};
 ghost use Rattle.search.specs.Search.{Prepared};
-ghost use Rattle.search.specs.Relevance.{Relevant, Round, WithAsked, WithLinks, WithRoles, definedAt};
+ghost use Rattle.relevance.specs.Relevance.{Relevant, Round, WithAsked, WithLinks, WithRoles, definedAt};
 
 // The credentials whose role can be reached from the query's role: every derivation of the queried membership uses only these. The
 // index is that of the table and the query (`members::index`).

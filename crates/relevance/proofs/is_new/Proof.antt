@@ -1,10 +1,10 @@
--- `search::relevance::is_new` meets its contract: both sets are looked at. Assumes nothing.
+-- `relevance::is_new` meets its contract: both sets are looked at. Assumes nothing.
 use mathlib.Core.Bool.{not}
 use mathlib.Core.Path.{_∙_, ap, sym}
 use Rattle.sets.proofs.Tests.{and-is-off, and-on, failed, passed}
 use borrow.Author.Needs.{needs}
-use Rattle.search.proofs.relevance.is_new.Statement.{statement}
-use Rattle.search.proofs.relevance.is_new.Tie as tie
+use Rattle.relevance.proofs.is_new.Statement.{statement}
+use Rattle.relevance.proofs.is_new.Tie as tie
 
 has-requires : tie.Need-has-requires
 has-requires c κs = search needs

@@ -29,10 +29,10 @@ use Rattle.members.specs.Trying.{everyGoal}
 use Rattle.members.specs.Members.{Indexed, goalRole, padded, rolesAsked}
 use Rattle.members.proofs.ByKind.{middleRole, parts-few}
 use Rattle.members.proofs.Places.{person-is, person-stands}
 use Rattle.search.specs.Search.{Prepared, UsesOnly}
-use Rattle.search.specs.Relevance.{AsksIn, Relevant, Round, definedAt}
+use Rattle.relevance.specs.Relevance.{AsksIn, Relevant, Round, definedAt}
 use Rattle.search.proofs.Naming.{IsMiddle, middle-tried}
 use Rattle.search.proofs.Within.{only-end, only-node}
 
 -- the roles of a list of at most n are all among the first n, the last one repeated behind it
 padded-every : (one : Goal → Bool) (f : Role → Goal) (roles : List Role) (n : ℕ) → length roles ≤ n
