@@ -22,25 +22,6 @@ pub fn query(query: reference::Query) -> bwlchareg::Query {
 
 /// An accepted table of any shape, and a query.
 pub fn made_up(random: &mut Random) -> (Vec<u16>, bwlchareg::Query) {
-    let (mut numbers, query) = without_owners(random);
-    give_owners(random, &mut numbers);
-    (numbers, query)
-}
-
-/// Lets some edges that name a role match every role of its owner.
-fn give_owners(random: &mut Random, numbers: &mut [u16]) {
-    for number in 1..=layout::counts(numbers)[3] {
-        let place = layout::edge(numbers, number);
-        let [_, _, label, owner, name, _] = &mut numbers[place] else {
-            panic!("an edge has six numbers");
-        };
-        if *owner != 0 && random.one_in(4) {
-            (*label, *name) = (4, 0);
-        }
-    }
-}
-
-fn without_owners(random: &mut Random) -> (Vec<u16>, bwlchareg::Query) {
     let (records, asked) = match random.below(8) {
         0..=3 => any_valid(random),
         4 => (policies::records(random), queries::valid(random)),
