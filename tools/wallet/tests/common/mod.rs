@@ -2,7 +2,6 @@
 
 #![allow(dead_code)]
 
-use bwlchareg::layout;
 use reference::generate::{chains, crossed, listings, policies, queries, valid, wallets, wide};
 use reference::random::Random;
 use reference::records::Records;
