@@ -1,24 +1,22 @@
 -- Ticket 2, as far as labels and moves go, proved sentence by sentence.
 use mathlib.Core.Path.{_≡_, refl, sym, ap, _∙_}
 use mathlib.Core.List.{List, [], _∷_, _++_}
-use mathlib.Core.Bool.{Bool, true, false}
+use mathlib.Core.Bool.{true}
 use mathlib.Core.Logic.{_↔_}
 use Prim.Native.Nat.{ℕ, suc, _<_}
 use native.Mathlib.Numerals.{sub-one}
 use lib.ListN.{getD}
 use lib.Dec.{eqb}
 use borrow.Author.Tests.{eq-eqb, eqb-true, leb-true, le-leb, lt-ltb, ltb-true}
-use Rattle.sets.specs.Logic.{_and_}
 use Rattle.sets.specs.Sets.{inSet, meets}
 use Rattle.sets.proofs.Tests.{and-both, and-parts, false-true, refuted}
 use Rattle.sets.proofs.Members.{inSet-zero, same-members, setOf-members}
 use Rattle.table.specs.Limits.{mostPrincipals}
-use Rattle.table.specs.Layout.{Numbered, automata, edge, edges}
+use Rattle.table.specs.Layout.{automata, edge, edges}
 use Rattle.table.specs.Checks.{isPrincipal, within}
 use Rattle.table.specs.declared.Role.{Role}
-use Rattle.table.specs.declared.Edge.{Edge}
 use Rattle.table.proofs.Meanings as meanings
-use Rattle.automata.specs.Automata.{accepts, acceptsFrom, leads, matches, moved, movedBy, run, starting}
+use Rattle.automata.specs.Automata.{accepts, acceptsFrom, leads, moved, movedBy, run, starting}
 use Rattle.automata.specs.Promised.{EmptyStays, EmptyWhere, MatchesOwner, NamesOwner, TellsEmpty}
 use Rattle.automata.specs.Together.{deadSet, movedOn, movedSets, setFor}
 use Rattle.automata.specs.declared.StateSets.{StateSets}

@@ -11,7 +11,7 @@ use lib.ListN.{length, getD, set, replicate, length-set, getD-replicate, List·g
 use lib.Seq.{getD-set-same, getD-set-other}
 use lib.Bits.{bitAnd, bitOr}
 use lib.Dec.{eqb, ltb}
-use borrow.Author.Tests.{eq-eqb, ne-eqb, lt-ltb, le-ltb, le-leb}
+use borrow.Author.Tests.{ne-eqb, lt-ltb, le-ltb, le-leb}
 use Rattle.sets.specs.Logic.{_and_, pick}
 use Rattle.table.specs.Limits.{lastState, mostAutomata}
 use Rattle.table.specs.Layout.{Numbered, automata, automaton, edge, edges}
@@ -22,7 +22,7 @@ use Rattle.table.proofs.WellFormed.{wf-edge}
 use Rattle.table.specs.declared.Role.{Role}
 use Rattle.table.specs.declared.Automaton.{Automaton}
 use Rattle.table.specs.declared.Edge.{Edge}
-use Rattle.sets.specs.Sets.{meets, setOf}
+use Rattle.sets.specs.Sets.{setOf}
 use Rattle.automata.specs.Automata.{acceptsFrom, leads, moved, movedBy}
 use Rattle.automata.specs.Together.{acceptingSet, deadSet, movedOn, movedSets, withEdge}
 use Rattle.automata.specs.Automata.{starting}
@@ -31,7 +31,7 @@ use Rattle.automata.specs.declared.Moved.{Moved}
 use Rattle.automata.specs.declared.StateSets.{StateSets}
 use Rattle.automata.proofs.Each.{each-at, each-ext, each-length}
 use Rattle.automata.proofs.Moves.{moved-empty}
-use Rattle.sets.proofs.Members.{ltb-next}
+use Rattle.sets.proofs.Members.{ltb-next, meets-not, meets-some, set-more, set-not}
 
 -- the sets of the first k automata are their starting sets, and the others are empty
 pub record Started (t : List ℕ) (k : ℕ) (l : List ℕ) : Type 0 where
@@ -208,12 +208,12 @@ module _ (t : List ℕ) (s : StateSets) where
   -- automaton k + 1, which the code has read as m, accepts or does not
   module _ (k : ℕ) {mask : ℕ} (so-far : mask ≡ setOf acceptsAt k) {m : Automaton} (read : m ≡ automaton t (k + 1)) where
     pub accepting-more : (bitAnd (getD (s .sets) k 0) (m .accepting) ≡ 0 → ⊥) → bitOr mask (2 ^ k) ≡ setOf acceptsAt (k + 1)
-    unfolding setOf acceptsFrom meets pick
-    accepting-more h = rw (so-far, add-one k, ne-eqb _ 0 (rw (read, add-one k) at h))
+    unfolding acceptsFrom
+    accepting-more h = set-more acceptsAt mask k so-far (meets-some _ _ (rw (read, add-one k) at h))
 
     pub accepting-same : bitAnd (getD (s .sets) k 0) (m .accepting) ≡ 0 → mask ≡ setOf acceptsAt (k + 1)
-    unfolding setOf acceptsFrom meets pick
-    accepting-same h = rw (so-far, add-one k, eq-eqb _ 0 (rw (read, add-one k) at h))
+    unfolding acceptsFrom
+    accepting-same h = set-not acceptsAt mask k so-far (meets-not _ _ (rw (read, add-one k) at h))
 
   pub accepting-all : (k : ℕ) → k ≡ automata t → setOf acceptsAt k ≡ acceptingSet t s
   unfolding acceptingSet

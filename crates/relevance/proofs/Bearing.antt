@@ -8,7 +8,7 @@ use Prim.Native.Nat.{ℕ, zero, suc, _-_, _^_, _<_, _≤_}
 use native.Mathlib.Omega.{arith}
 use lib.ListN.{getD, length}
 use borrow.Author.Tests.{lt-ltb, ltb-true}
-use Rattle.sets.specs.Logic.{_and_, pick}
+use Rattle.sets.specs.Logic.{pick}
 use Rattle.sets.specs.Sets.{inSet}
 use Rattle.sets.proofs.Tests.{and-both, and-first, and-second}
 use Rattle.sets.proofs.Members.{members-below, setOf-members}

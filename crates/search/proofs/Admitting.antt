@@ -9,7 +9,7 @@ use Prim.Native.Nat.{ℕ, zero, suc, _-_, _^_, _<_, _≤_}
 use native.Mathlib.Omega.{arith}
 use native.Mathlib.Numerals.{sub-one}
 use native.Mathlib.Decide.{ℕ-discrete}
-use lib.Bits.{bitAnd, bitOr}
+use lib.Bits.{bitOr}
 use borrow.Author.Tests.{eqb-false, eqb-true, lt-ltb, ne-eqb, not-true}
 use Rattle.table.specs.Layout.{automata, credential, credentials}
 use Rattle.table.specs.Holding.{WellFormed}
@@ -18,8 +18,8 @@ use Rattle.table.specs.declared.Query.{Query}
 use Rattle.table.proofs.WellFormed.{wf-credential}
 use Rattle.sets.specs.Logic.{_and_, _or_, pick}
 use Rattle.sets.specs.Sets.{inSet, part}
-use Rattle.sets.proofs.Tests.{and-both, and-first, and-second, false-true, or-either, or-first, or-second, same-test}
-use Rattle.sets.proofs.Members.{inSet-and, inSet-or, inSet-pow, inSet-zero, members-below, own-bit, part-member}
+use Rattle.sets.proofs.Tests.{and-both, and-first, and-second, false-true, or-either, or-first, or-second}
+use Rattle.sets.proofs.Members.{inSet-or, inSet-pow, inSet-zero, members-below, own-bit, part-member}
 use Rattle.sets.proofs.Members.{part-or-left, part-or-right, part-refl, part-shown, setOf-members}
 use Rattle.derivation.specs.Forest.{Derives, Forest, names, usedSet, written}
 use Rattle.derivation.specs.Rules.{goalOf}

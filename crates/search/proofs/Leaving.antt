@@ -1,31 +1,28 @@
 -- A branch may be left where an imposed automaton is dead. Its set stays empty, so no word is accepted there; and where no word may
 -- end, nothing is proved.
-use mathlib.Core.Path.{_≡_, refl, sym, ap, _∙_}
+use mathlib.Core.Path.{_≡_, refl, sym, _∙_}
 use mathlib.Core.List.{List, [], _∷_}
-use mathlib.Core.Bool.{Bool, true, false, not}
+use mathlib.Core.Bool.{Bool, true, false}
 use mathlib.Core.Option.{Option, none, some}
 use Prim.Native.Nat.{ℕ, zero, suc}
 use native.Mathlib.Omega.{arith}
 use native.Mathlib.Numerals.{sub-one}
-use native.Mathlib.Decide.{decLt}
 use lib.ListN.{length, getD}
-use lib.Bits.{bitAnd}
-use lib.Dec.{eqb, ltb}
-use borrow.Author.Tests.{eq-eqb, ne-eqb}
-use Rattle.sets.specs.Logic.{_and_, anyBelow, pick}
+use lib.Dec.{ltb}
+use borrow.Author.Tests.{ne-eqb}
+use Rattle.sets.specs.Logic.{anyBelow, pick}
 use Rattle.sets.specs.Sets.{inSet, meets, part}
 use Rattle.sets.proofs.Tests.{and-is-off, and-none, any-none, false-true, pick-same, refuted}
-use Rattle.sets.proofs.Members.{inSet-zero, meets-common, part-member, setOf-members}
-use Rattle.table.specs.Layout.{automata, credential, credentials}
+use Rattle.sets.proofs.Members.{meets-common, part-member, setOf-members}
+use Rattle.table.specs.Layout.{automata, credentials}
 use Rattle.table.specs.declared.Role.{Role}
 use Rattle.table.specs.declared.Goal.{Goal}
-use Rattle.automata.specs.Automata.{acceptsFrom, moved}
-use Rattle.automata.specs.Together.{acceptingSet, deadSet, movedSets, setFor}
+use Rattle.automata.specs.Automata.{acceptsFrom}
+use Rattle.automata.specs.Together.{acceptingSet, deadSet, movedSets}
 use Rattle.automata.specs.declared.Moved.{Moved}
 use Rattle.automata.specs.declared.StateSets.{StateSets}
 use Rattle.automata.proofs.Promised.{dead-exact}
 use Rattle.automata.proofs.Together.{empty-moved}
-use Rattle.derivation.specs.Rules.{premises}
 use Rattle.members.specs.Trying.{everyGoal, provedPremises, provesBy}
 use Rattle.search.specs.Promised.{NothingLost}
 use Rattle.search.specs.Search.{proves, provesWith, stepped, steppedOn}

@@ -1,6 +1,6 @@
 -- The walk meets its contract, by the levels left: the records of the children passed stand one after the other behind the node's
 -- two numbers. Assumes nothing.
-use mathlib.Core.Path.{_≡_, sym, ap, _∙_}
+use mathlib.Core.Path.{ap, _∙_}
 use native.Mathlib.Omega.{arith}
 use lib.ListN.{getD, length, take}
 use denote.Ref.{now}
