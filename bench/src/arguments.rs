@@ -11,9 +11,9 @@ use crate::climb::{Call, Climb};
 pub const USAGE: &str = "\
 usage: bench
        bench writing
-       bench dead [--before FILE]
+       bench dead [--before FILE --after FILE]...
        bench peers [--limit SECONDS] [--plot FILE]
-       bench page [--limit SECONDS] [--plot FILE] [--before FILE]
+       bench page [--limit SECONDS] [--plot FILE] [--before FILE --after FILE]...
        bench climb [--writing] [--steps NUMBER] [--seed NUMBER] [--limit SECONDS]
 
 Without a word the calls of the library and of the reference are timed, then the
@@ -27,8 +27,9 @@ library's list takes long are looked for, and the slowest ones printed.
 
 --limit SECONDS   how long a call may take for one wallet, 1 if not given
 --plot FILE       where a plot of the ways is written, as SVG
---before FILE     an older build of the library that is timed beside the present
-                  one, as a shared object; docs/PERFORMANCE.md says how it is made
+--before FILE     an older build of the library, as a shared object
+--after FILE      a newer build that is timed beside it; docs/PERFORMANCE.md says
+                  how they are made, and why each should be given several times
 --steps NUMBER    how many steps a climb has, 1000 if not given
 --seed NUMBER     where the climbs begin, 2015 if not given
 --writing         climb on the time of writing a record for each of its cells";
@@ -39,8 +40,8 @@ const SEED: u64 = 2015;
 
 /// The options of each task.
 const PEERS: &[&str] = &["--limit", "--plot"];
-const PAGE: &[&str] = &["--limit", "--plot", "--before"];
-const DEAD: &[&str] = &["--before"];
+const PAGE: &[&str] = &["--limit", "--plot", "--before", "--after"];
+const DEAD: &[&str] = &["--before", "--after"];
 
 /// The limit if none is given.
 const LIMIT: Duration = Duration::from_secs(1);
@@ -56,9 +57,8 @@ pub enum Task {
     Calls,
     /// Time the writing of records.
     Writing,
-    /// Time tables whose constraint dies early, beside an older build if one is
-    /// given.
-    Dead(Option<PathBuf>),
+    /// Time tables whose constraint dies early, by two builds too if they are given.
+    Dead(Vec<[PathBuf; 2]>),
     /// Time several ways of listing.
     Peers(Options),
     /// All of this, as tables for the page.
@@ -74,8 +74,9 @@ pub struct Options {
     pub limit: Duration,
     /// Where the plot is written, if at all.
     pub plot: Option<PathBuf>,
-    /// Where an older build is, if one is timed.
-    pub before: Option<PathBuf>,
+    /// Where an older build is and where a newer one, if they are timed, as often as
+    /// they are given.
+    pub builds: Vec<[PathBuf; 2]>,
 }
 
 /// The task that some arguments ask for, or what is wrong with them.
@@ -86,7 +87,7 @@ pub fn task(arguments: impl IntoIterator<Item = OsString>) -> Result<Task, Strin
     };
     match first.to_str() {
         Some("writing") => alone(arguments, Task::Writing),
-        Some("dead") => Ok(Task::Dead(options(arguments, DEAD)?.before)),
+        Some("dead") => Ok(Task::Dead(options(arguments, DEAD)?.builds)),
         Some("peers") => Ok(Task::Peers(options(arguments, PEERS)?)),
         Some("page") => Ok(Task::Page(options(arguments, PAGE)?)),
         Some("climb") => Ok(Task::Climb(climb(arguments)?)),
@@ -101,19 +102,21 @@ fn alone(mut rest: impl Iterator<Item = OsString>, task: Task) -> Result<Task, S
         .map_or(Ok(task), |argument| Err(unknown(&argument)))
 }
 
-/// The options that the rest of the arguments give, each at most once, and no
-/// others than these.
+/// The options that the rest of the arguments give, no others than these. Each is
+/// given at most once, but builds may be given several times.
 fn options(
     mut arguments: impl Iterator<Item = OsString>,
     these: &[&str],
 ) -> Result<Options, String> {
-    let (mut limit_given, mut plot, mut before) = (None, None, None);
+    let (mut limit_given, mut plot) = (None, None);
+    let (mut before, mut after) = (Vec::new(), Vec::new());
     while let Some(argument) = arguments.next() {
         let mut value = || arguments.next().ok_or(missing(&argument));
         let again = match argument.to_str().filter(|name| these.contains(name)) {
             Some("--limit") => limit_given.replace(limit(&value()?)?).is_some(),
             Some("--plot") => plot.replace(PathBuf::from(value()?)).is_some(),
-            Some("--before") => before.replace(PathBuf::from(value()?)).is_some(),
+            Some("--before") => further(&mut before, value()?),
+            Some("--after") => further(&mut after, value()?),
             _ => return Err(unknown(&argument)),
         };
         if again {
@@ -123,8 +126,23 @@ fn options(
     Ok(Options {
         limit: limit_given.unwrap_or(LIMIT),
         plot,
-        before,
+        builds: pairs(before, after)?,
     })
+}
+
+/// Takes a further file, of which there can be several: it is none too many.
+fn further(files: &mut Vec<PathBuf>, file: OsString) -> bool {
+    files.push(PathBuf::from(file));
+    false
+}
+
+/// The files of two builds in pairs, if there are as many of either.
+fn pairs(before: Vec<PathBuf>, after: Vec<PathBuf>) -> Result<Vec<[PathBuf; 2]>, String> {
+    if before.len() != after.len() {
+        return Err("--before and --after must be given equally often".to_string());
+    }
+    let pairs = before.into_iter().zip(after);
+    Ok(pairs.map(|(before, after)| [before, after]).collect())
 }
 
 /// The climb that the rest of the arguments ask for, each at most once.
@@ -182,7 +200,10 @@ fn missing(argument: &OsString) -> String {
 mod tests {
     use super::{task, Call, Climb, Options, Task};
     use std::ffi::OsString;
+    use std::path::PathBuf;
     use std::time::Duration;
+
+    const UNEQUAL: &str = "--before and --after must be given equally often";
 
     fn asked(words: &str) -> Result<Task, String> {
         task(words.split_whitespace().map(OsString::from))
@@ -192,7 +213,7 @@ mod tests {
         Options {
             limit: Duration::from_millis(milliseconds),
             plot: plot.map(Into::into),
-            before: None,
+            builds: Vec::new(),
         }
     }
 
@@ -211,8 +232,18 @@ mod tests {
             ("", Task::Calls),
             ("--help", Task::Help),
             ("writing", Task::Writing),
-            ("dead", Task::Dead(None)),
-            ("dead --before a.so", Task::Dead(Some("a.so".into()))),
+            ("dead", Task::Dead(Vec::new())),
+            (
+                "dead --before a --after b",
+                Task::Dead(vec![["a", "b"].map(PathBuf::from)]),
+            ),
+            (
+                "dead --before a --before b --after c --after --after",
+                Task::Dead(vec![
+                    ["a", "c"].map(PathBuf::from),
+                    ["b", "--after"].map(PathBuf::from),
+                ]),
+            ),
             ("peers", Task::Peers(options(1_000, None))),
             ("peers --limit 2", Task::Peers(options(2_000, None))),
             ("page --limit 0.25", Task::Page(options(250, None))),
@@ -232,9 +263,9 @@ mod tests {
                 Task::Page(options(3_600_000, Some("--limit"))),
             ),
             (
-                "page --before a.so",
+                "page --after b --before a",
                 Task::Page(Options {
-                    before: Some("a.so".into()),
+                    builds: vec![["a", "b"].map(PathBuf::from)],
                     ..options(1_000, None)
                 }),
             ),
@@ -254,8 +285,12 @@ mod tests {
             ("dead a.so", "unknown argument a.so"),
             ("dead --limit 1", "unknown argument --limit"),
             ("dead --before", "something is missing after --before"),
-            ("dead --before a --before b", "--before is given twice"),
+            ("dead --after", "something is missing after --after"),
+            ("dead --before a", UNEQUAL),
+            ("page --after a", UNEQUAL),
+            ("dead --before a --after b --after c", UNEQUAL),
             ("peers --before a", "unknown argument --before"),
+            ("peers --after a", "unknown argument --after"),
             ("page --plots a", "unknown argument --plots"),
             ("peers --limit", "something is missing after --limit"),
             ("peers --plot", "something is missing after --plot"),

@@ -12,7 +12,7 @@
 //!
 //! With `writing` it times the writing of records beside verifying and listing,
 //! and the refusals of writing. With `dead` it times tables whose constraint dies
-//! early, and, if asked, an older build of the library beside the present one.
+//! early, and, if asked, an older build of the library beside a newer one.
 //! With `peers` it times the library's list, the reference's, an enumeration of
 //! proofs and an answer set solver on the same wallets, and compares what they
 //! list. With `page` it does all this, and its tables are those of
@@ -40,13 +40,13 @@ mod writing;
 use std::env;
 use std::fs::{self, File};
 use std::io;
-use std::path::Path;
+use std::path::{Path, PathBuf};
 use std::process::ExitCode;
 
 use reference::random::Random;
 
 use arguments::{Options, Task};
-use dead::Older;
+use dead::{Build, Pair};
 use sheet::Form;
 
 /// The seed of the tables and records.
@@ -77,7 +77,7 @@ fn done(task: Task) -> ExitCode {
             writing::time(Form::Columns);
         }
         Task::Writing => print_writing(),
-        Task::Dead(before) => return time_dead(before.as_deref()),
+        Task::Dead(builds) => return time_dead(&builds),
         Task::Peers(options) => return time_peers(&options, false),
         Task::Page(options) => return time_peers(&options, true),
         Task::Climb(climb) => climb::run(climb),
@@ -97,14 +97,14 @@ fn time_calls(form: Form) {
 /// Times the ways of listing, prints the tables and writes the plot. For the
 /// page there are tables of the machine, of the calls, of writing and of
 /// constraints that die early beside them. It fails if two ways list different
-/// sets, if the plot cannot be written, or if the older build cannot be loaded.
+/// sets, if the plot cannot be written, or if a build cannot be loaded.
 fn time_peers(options: &Options, page: bool) -> ExitCode {
     let plot = options.plot.as_deref();
     if let Some(Err(error)) = plot.map(can_be_written) {
         return unwritten(&error);
     }
-    let older = match loaded(options.before.as_deref()) {
-        Ok(older) => older,
+    let pairs = match loaded(&options.builds) {
+        Ok(pairs) => pairs,
         Err(code) => return code,
     };
     if page {
@@ -119,7 +119,7 @@ fn time_peers(options: &Options, page: bool) -> ExitCode {
         println!();
         print_writing();
         println!("\n{DEAD}");
-        dead::time(Form::Markdown, older.as_ref());
+        dead::time(Form::Markdown, &pairs);
     }
     match drawn {
         Some(Err(error)) => unwritten(&error),
@@ -128,17 +128,17 @@ fn time_peers(options: &Options, page: bool) -> ExitCode {
     }
 }
 
-/// Times constraints that die early, beside an older build if one is given. It
-/// fails if that cannot be loaded.
-fn time_dead(before: Option<&Path>) -> ExitCode {
-    let older = match loaded(before) {
-        Ok(older) => older,
+/// Times constraints that die early, by two builds too if they are given. It fails
+/// if one of them cannot be loaded.
+fn time_dead(builds: &[[PathBuf; 2]]) -> ExitCode {
+    let pairs = match loaded(builds) {
+        Ok(pairs) => pairs,
         Err(code) => return code,
     };
     println!("{DEAD}\n\nThis section was printed by\n");
     print_command();
     machine::print();
-    dead::time(Form::Markdown, older.as_ref());
+    dead::time(Form::Markdown, &pairs);
     ExitCode::SUCCESS
 }
 
@@ -166,11 +166,13 @@ fn print_command() {
     println!("    {COMMAND} {}\n", arguments.join(" "));
 }
 
-/// The older build, if there is to be one, or the code for one that cannot be
-/// loaded, which is said.
-fn loaded(before: Option<&Path>) -> Result<Option<Older>, ExitCode> {
-    before.map(Older::load).transpose().map_err(|error| {
-        eprintln!("the older build cannot be loaded: {error}");
+/// The builds that are to be loaded, or the code for one that cannot be, which is
+/// said.
+fn loaded(builds: &[[PathBuf; 2]]) -> Result<Vec<Pair>, ExitCode> {
+    let load = |[before, after]: &[PathBuf; 2]| Ok([Build::load(before)?, Build::load(after)?]);
+    let pairs: Result<Vec<Pair>, String> = builds.iter().map(load).collect();
+    pairs.map_err(|error| {
+        eprintln!("a build cannot be loaded: {error}");
         ExitCode::FAILURE
     })
 }

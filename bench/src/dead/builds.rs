@@ -1,5 +1,6 @@
-//! The older build beside the present one: on the tables whose constraint dies
-//! early, and on the tables and records on which each call is timed anyway.
+//! An older build beside a newer one: on the tables whose constraint dies early,
+//! and on the tables and records on which each call is timed anyway. Both are
+//! loaded, from as many objects each, in which the code lies at different places.
 
 use std::time::Duration;
 
@@ -9,7 +10,7 @@ use reference::random::Random;
 use reference::records::{Head, Records};
 use reference::shop;
 
-use super::{first_set, same, tables, Older, ROUND};
+use super::{first_set, same, tables, Build, ROUND};
 use crate::calls;
 use crate::families::{self, Named};
 use crate::listing::{Listing, CELLS};
@@ -23,12 +24,23 @@ const RECORD_CELLS: usize = 1 << 17;
 /// The levels of the records whose nodes are counted.
 const LEVELS: u16 = 9;
 
+/// An object of the older build and one of the newer build, which take turns.
+pub type Pair = [Build; 2];
+
 /// Prints all tables about both builds.
-pub fn time(form: Form, older: &Older) {
-    time_lists(form, older);
-    time_writings(form, older);
-    time_verdicts(form, older);
-    time_nodes(form, older);
+pub fn time(form: Form, pairs: &[Pair]) {
+    time_lists(form, pairs);
+    time_writings(form, pairs);
+    time_verdicts(form, pairs);
+    time_nodes(form, pairs);
+}
+
+/// The times of both builds, each the least over its objects, of a call that is
+/// timed on one pair.
+fn least(pairs: &[Pair], times: impl FnMut(&Pair) -> [f64; 2]) -> [f64; 2] {
+    let lesser = |[a, b]: [f64; 2], [c, d]: [f64; 2]| [a.min(c), b.min(d)];
+    let times = pairs.iter().map(times);
+    times.reduce(lesser).expect("a pair of objects")
 }
 
 /// Prints the head of some lines about both builds.
@@ -50,16 +62,16 @@ fn print(form: Form, lines: &Lines, what: &str, [before, after]: [f64; 2]) {
 }
 
 /// Times the list of all tables of known shapes, and of grown wallets.
-fn time_lists(form: Form, older: &Older) {
+fn time_lists(form: Form, pairs: &[Pair]) {
     let lines = begin(form, "time of one list", "lists");
     let shop = [("the shop's T", &shop::T[..]), ("the shop's U", &shop::U)];
     let shop = shop.map(|(what, table)| (what.to_string(), families::shop(table)));
     for (what, wallet) in [early(tables::lists()), shop.to_vec(), families::growing()].concat() {
-        let times = list(older, ROUND, &what, &Listing::of(&wallet));
+        let times = list(pairs, ROUND, &what, &Listing::of(&wallet));
         print(form, &lines, &what, times);
     }
     let grown = sizes().flat_map(of_size);
-    let times = grown.map(|wallet| list(older, wallets::ROUND, "a grown wallet", &wallet));
+    let times = grown.map(|wallet| list(pairs, wallets::ROUND, "a grown wallet", &wallet));
     let times: Vec<[f64; 2]> = times.collect();
     let [before, after] = [0, 1].map(|side| spread(times.iter().map(|both| both[side]).collect()));
     let what = ["grown wallets: median", "99th percentile", "worst"];
@@ -78,30 +90,41 @@ fn early(tables: Vec<tables::Early>) -> Vec<Named> {
 }
 
 /// The times of one list by both builds.
-fn list(older: &Older, round: Duration, what: &str, listing: &Listing) -> [f64; 2] {
-    let (mut before, mut after) = ([0; CELLS], [0; CELLS]);
-    let list = || older.list(listing, &mut before);
-    let times = same(round, what, list, || listing.library(&mut after));
-    assert!(before == after, "{what}");
-    times
+fn list(pairs: &[Pair], round: Duration, what: &str, listing: &Listing) -> [f64; 2] {
+    let (mut sets, mut newer_sets) = ([0; CELLS], [0; CELLS]);
+    least(pairs, |[before, after]| {
+        let list = || before.list(listing, &mut sets);
+        let times = same(round, what, list, || after.list(listing, &mut newer_sets));
+        assert!(sets == newer_sets, "{what}");
+        times
+    })
 }
 
 /// Times the writing of records in which what comes first fails.
-fn time_writings(form: Form, older: &Older) {
+fn time_writings(form: Form, pairs: &[Pair]) {
     let lines = begin(form, "time of writing one record", "records");
-    let (mut before, mut after) = (vec![0; RECORD_CELLS], vec![0; RECORD_CELLS]);
     for (what, wallet) in [early(tables::writings()), harder::tables()].concat() {
-        let listing = Listing::of(&wallet);
-        let set = first_set(&listing);
-        let write = || older.write(&listing, set, &mut before);
-        let times = same(ROUND, &what, write, || listing.write(set, &mut after));
-        assert!(before == after, "{what}");
+        let times = writing(pairs, &what, &Listing::of(&wallet));
         print(form, &lines, &what, times);
     }
 }
 
+/// The times of writing the record of the first set by both builds.
+fn writing(pairs: &[Pair], what: &str, listing: &Listing) -> [f64; 2] {
+    let set = first_set(listing);
+    let (mut cells, mut newer_cells) = (vec![0; RECORD_CELLS], vec![0; RECORD_CELLS]);
+    least(pairs, |[before, after]| {
+        let write = || before.write(listing, set, &mut cells);
+        let times = same(ROUND, what, write, || {
+            after.write(listing, set, &mut newer_cells)
+        });
+        assert!(cells == newer_cells, "{what}");
+        times
+    })
+}
+
 /// Times the verdicts on small records.
-fn time_verdicts(form: Form, older: &Older) {
+fn time_verdicts(form: Form, pairs: &[Pair]) {
     let lines = begin(form, "time of one verdict", "records");
     let grown = calls::grown(&mut Random::new(SEED));
     let by_hand = calls::by_hand();
@@ -110,14 +133,14 @@ fn time_verdicts(form: Form, older: &Older) {
         .into_iter()
         .chain([("1,000 grown records, accepted", grown)]);
     for (what, claims) in all {
-        let times = verdicts(older, what, claims);
+        let times = verdicts(pairs, what, claims);
         print(form, &lines, what, times);
     }
 }
 
 /// Times the verdicts on records of very many nodes, of which each node moves
 /// eight automata, with more or fewer edges, or none.
-fn time_nodes(form: Form, older: &Older) {
+fn time_nodes(form: Form, pairs: &[Pair]) {
     let nodes = wide::nodes(LEVELS);
     let title = format!("verifying a record of {nodes} nodes, time of one node");
     let lines = begin(form, &title, "records");
@@ -132,7 +155,7 @@ fn time_nodes(form: Form, older: &Older) {
             query: wide::query(LEVELS),
             record: wide::record(LEVELS),
         };
-        let times = verdicts(older, &what, vec![claim]);
+        let times = verdicts(pairs, &what, vec![claim]);
         print(form, &lines, &what, times.map(|time| time / nodes as f64));
     }
 }
@@ -147,18 +170,27 @@ fn with_automata(automata: usize, attached: u16) -> Records {
 }
 
 /// The times of one verdict by both builds, over some claims.
-fn verdicts(older: &Older, what: &str, claims: Vec<Claim>) -> [f64; 2] {
+fn verdicts(pairs: &[Pair], what: &str, claims: Vec<Claim>) -> [f64; 2] {
     let claims = claims.into_iter().map(|claim| {
         let (table, query) = (claim.table, claim.query);
         (Listing { table, query }, claim.record)
     });
     let claims: Vec<(Listing, Vec<u16>)> = claims.collect();
-    let before = |(listing, record): &(Listing, Vec<u16>)| older.verify(listing, record);
-    let after = |(listing, record): &(Listing, Vec<u16>)| listing.verify(record);
-    for claim in &claims {
-        assert_eq!(before(claim), after(claim), "{what}");
-    }
-    let before = || claims.iter().filter(|claim| before(claim).is_ok()).count();
-    let after = || claims.iter().filter(|claim| after(claim).is_ok()).count();
-    same(ROUND, what, before, after).map(|time| time / claims.len() as f64)
+    let times = least(pairs, |pair| {
+        for (listing, record) in &claims {
+            let [before, after] = pair.each_ref().map(|build| build.verify(listing, record));
+            assert_eq!(before, after, "{what}");
+        }
+        let [before, after] = pair.each_ref().map(|build| || accepted(build, &claims));
+        same(ROUND, what, before, after)
+    });
+    times.map(|time| time / claims.len() as f64)
+}
+
+/// How many of some records a build accepts.
+fn accepted(build: &Build, claims: &[(Listing, Vec<u16>)]) -> usize {
+    let verdicts = claims
+        .iter()
+        .map(|(listing, record)| build.verify(listing, record));
+    verdicts.filter(Result::is_ok).count()
 }

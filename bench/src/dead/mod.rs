@@ -1,12 +1,12 @@
 //! Times tables whose constraint dies early: beside their twins, whose constraint
-//! never has an empty set, and beside an older build of the library.
+//! never has an empty set, and by an older build of the library beside a newer one.
 //!
 //! - [`tables`]: the tables and their twins
-//! - [`older`]: an older build
-//! - [`builds`]: the older build beside the present one
+//! - [`build`]: a build that is loaded
+//! - [`builds`]: an older build beside a newer one
 
+mod build;
 mod builds;
-mod older;
 mod tables;
 
 use std::fmt::Debug;
@@ -15,7 +15,8 @@ use std::time::Duration;
 use crate::listing::{Listing, CELLS};
 use crate::sheet::{Form, Lines};
 use crate::timing::least_in_turns;
-pub use older::Older;
+pub use build::Build;
+pub use builds::Pair;
 use tables::Early;
 
 /// How long a round of one call lasts at the least.
@@ -23,12 +24,12 @@ const ROUND: Duration = Duration::from_millis(5);
 /// So many cells are lent for a record: more than any of these tables needs.
 const RECORD_CELLS: usize = 256;
 
-/// Prints all tables, with the older build if there is one.
-pub fn time(form: Form, older: Option<&Older>) {
+/// Prints all tables, with those about two builds if they are given.
+pub fn time(form: Form, pairs: &[Pair]) {
     time_twins(form, "list", tables::lists(), list_beside);
     time_twins(form, "write", tables::writings(), write_beside);
-    if let Some(older) = older {
-        builds::time(form, older);
+    if !pairs.is_empty() {
+        builds::time(form, pairs);
     }
 }
 

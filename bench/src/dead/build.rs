@@ -1,5 +1,5 @@
-//! An older build of the library, loaded from a shared object and called beside
-//! the one that is linked. This is the only unsafe code of the benchmark.
+//! A build of the library that is loaded from a shared object and called beside
+//! another one. This is the only unsafe code of the benchmark.
 
 #![allow(unsafe_code)]
 
@@ -19,7 +19,8 @@ extern "C" {
 }
 
 /// Everything that the object needs is looked for when it is loaded, and what it
-/// defines is for nobody else: so it does not come in the way of the linked one.
+/// defines is for nobody else: so several objects do not come in each other's way,
+/// nor in that of the linked one.
 const NOW_AND_LOCAL: c_int = 2;
 
 /// The calls as bindings/c/bwlchareg.h has them.
@@ -58,18 +59,18 @@ type Verify = unsafe extern "C" fn(
     value: *mut u64,
 ) -> u32;
 
-/// An older build, which stays loaded.
-pub struct Older {
+/// A build, which stays loaded.
+pub struct Build {
     list: List,
     write: Write,
     verify: Verify,
 }
 
-impl Older {
-    /// Loads a shared object that was made of an older archive, or says why it
-    /// cannot be loaded. That its calls are those of the header is up to whoever
-    /// names the file.
-    pub fn load(file: &Path) -> Result<Older, String> {
+impl Build {
+    /// Loads a shared object that was made of an archive, or says why it cannot be
+    /// loaded. That its calls are those of the header is up to whoever names the
+    /// file. A file that is named twice is loaded once.
+    pub fn load(file: &Path) -> Result<Build, String> {
         let told = |error: &dyn ToString| format!("{}: {}", file.display(), error.to_string());
         // Without a slash in its name the system would look for it elsewhere.
         let whole = file.canonicalize().map_err(|error| told(&error))?;
@@ -85,7 +86,7 @@ impl Older {
         let verify = found(object, c"bwlchareg_verify")?;
         // SAFETY: these are the calls of the header, whose types are above.
         Ok(unsafe {
-            Older {
+            Build {
                 list: mem::transmute::<*mut c_void, List>(list),
                 write: mem::transmute::<*mut c_void, Write>(write),
                 verify: mem::transmute::<*mut c_void, Verify>(verify),
@@ -162,7 +163,7 @@ impl Older {
     }
 }
 
-/// What is asked of either build.
+/// What is asked of a build.
 fn asked(listing: &Listing) -> (&[u16], Query) {
     (&listing.table, library_query(listing.query))
 }
@@ -202,48 +203,64 @@ fn failure() -> String {
 
 #[cfg(test)]
 mod tests {
-    use super::Older;
+    use super::Build;
     use crate::families;
     use crate::listing::{Listing, CELLS};
     use reference::shop::{R, T, U};
     use std::env;
+    use std::fs;
     use std::path::{Path, PathBuf};
     use std::process::{self, Command};
 
-    /// A shared object of the archive that is linked, if there is a compiler that
-    /// makes one.
-    fn made() -> Option<PathBuf> {
+    /// Shared objects of the archive that is linked, if there are the tools that
+    /// make them.
+    fn made() -> Option<[PathBuf; 4]> {
+        let package = Path::new(env!("CARGO_MANIFEST_DIR"));
         let directory = env::var_os("BWLCHAREG_LIB_DIR").map(PathBuf::from);
-        let beside = Path::new(env!("CARGO_MANIFEST_DIR")).join("../target/staticlib");
-        let archive = directory.unwrap_or(beside).join("libbwlchareg.a");
-        let object = env::temp_dir().join(format!("bwlchareg-{}.so", process::id()));
-        let mut compiler = Command::new("cc");
-        compiler.arg("-shared").arg("-o").arg(&object);
-        compiler.arg("-Wl,--whole-archive").arg(archive);
-        let done = compiler.arg("-Wl,--no-whole-archive").status();
-        done.ok()?.success().then_some(object)
+        let directory = directory.unwrap_or(package.join("../target/staticlib"));
+        let name = env::temp_dir().join(format!("bwlchareg-{}", process::id()));
+        let mut maker = Command::new("sh");
+        maker.arg(package.join("objects.sh"));
+        maker.arg(directory.join("libbwlchareg.a")).arg(&name);
+        let object = |at| PathBuf::from(format!("{}-{at}.so", name.display()));
+        let done = maker.status().ok()?.success();
+        done.then(|| [0, 16, 32, 48].map(object))
+    }
+
+    /// Loads an object and removes its file.
+    fn taken(object: PathBuf) -> Build {
+        let build = Build::load(&object).expect("an object that can be loaded");
+        fs::remove_file(object).expect("an object that was there");
+        build
     }
 
     #[test]
-    fn a_loaded_build_answers_as_the_linked_one() {
-        let Some(object) = made() else {
-            return eprintln!("skipped: cc makes no shared object");
+    fn loaded_builds_answer_as_the_linked_one() {
+        let Some(objects) = made() else {
+            return eprintln!("skipped: no shared objects are made");
         };
-        let older = Older::load(&object).expect("an object that can be loaded");
-        std::fs::remove_file(object).expect("an object that was there");
+        let builds = objects.map(taken);
+        let places = builds.each_ref().map(|build| build.list as usize % 64);
+        assert_eq!(places, [0, 16, 32, 48]);
+        for build in builds {
+            answers_as_the_linked_one(&build);
+        }
+    }
+
+    fn answers_as_the_linked_one(build: &Build) {
         for table in [&T[..], &U] {
             let listing = Listing::of(&families::shop(table));
-            let (mut sets, mut older_sets) = ([0; CELLS], [0; CELLS]);
+            let (mut sets, mut loaded_sets) = ([0; CELLS], [0; CELLS]);
             let count = listing.library(&mut sets);
-            assert_eq!(older.list(&listing, &mut older_sets), count);
-            assert_eq!(older_sets, sets);
-            let (mut cells, mut older_cells) = ([0; 8], [0; 8]);
+            assert_eq!(build.list(&listing, &mut loaded_sets), count);
+            assert_eq!(loaded_sets, sets);
+            let (mut cells, mut loaded_cells) = ([0; 8], [0; 8]);
             for set in [7, 8] {
                 let length = listing.write(set, &mut cells);
-                assert_eq!(older.write(&listing, set, &mut older_cells), length);
-                assert_eq!(older_cells, cells);
+                assert_eq!(build.write(&listing, set, &mut loaded_cells), length);
+                assert_eq!(loaded_cells, cells);
             }
-            assert_eq!(older.verify(&listing, &R), listing.verify(&R));
+            assert_eq!(build.verify(&listing, &R), listing.verify(&R));
         }
     }
 
@@ -252,7 +269,7 @@ mod tests {
         let source = Path::new(env!("CARGO_MANIFEST_DIR")).join("Cargo.toml");
         let missing = source.with_file_name("none.so");
         for (file, words) in [(source, "Cargo.toml"), (missing, "none.so: No such file")] {
-            let wrong = Older::load(&file).err().expect("no build");
+            let wrong = Build::load(&file).err().expect("no build");
             assert!(wrong.contains(words), "{wrong}");
         }
     }
