@@ -1,6 +1,6 @@
-/* The shop example of docs/DEFINITION.md, from C: tables are checked, minimal sets listed, their records written and proof
- * records verified. Every answer is printed in words and held against the definition; the program ends with 1 if any differs.
- * bindings/LAYOUT.md says what the numbers mean. */
+/* The shop example of docs/DEFINITION.md, from C, with one table more, for label 4: tables are checked, minimal sets listed,
+ * their records written and proof records verified. Every answer is printed in words and held against the definition; the
+ * program ends with 1 if any differs. bindings/LAYOUT.md says what the numbers mean. */
 #include "bwlchareg.h"
 
 #include <inttypes.h>
@@ -27,6 +27,18 @@ static const uint16_t U[] = {
     1, 1, 2, 0, 0, 1,                                   /* from 1 by every role to 1 */
 };
 
+/* The same credentials again, and "nothing but my own roles" on credential 1: no word may have a role of another owner. */
+static const uint16_t V[] = {
+    4, 0, 1, 1,
+    SHOP, DISCOUNT, 3, ACCREDITED, STUDENT, 1,   SHOP, ACCREDITED, 1, SCHOOL, 0, 0,
+    SCHOOL, STUDENT, 1, ANN, 0, 0,               SHOP, DISCOUNT, 1, ANN, 0, 0,
+    1, 1,                                               /* it starts in state 0 and accepts in it */
+    1, 0, 4, SHOP, 0, 0,                                /* from 0 by every role of Shop to 0 */
+};
+
+/* An automaton and its edge; label 4 has an owner and no name. */
+static const uint16_t named[] = {0, 0, 1, 1, 1, 1, 1, 0, 4, SHOP, DISCOUNT, 0};
+
 static const uint16_t empty[] = {0, 0, 0, 0};
 static const uint16_t mistaken[] = {1, 0, 0, 0, SHOP, DISCOUNT, 1, 65, 0, 0}; /* there is no principal 65 */
 
@@ -44,7 +56,7 @@ static const char *const words[] = {
     "this credential has a field outside what its kind allows",
     "this part cell has a field out of range",
     "this credential's chain is not of 2 to 4 cells",
-    "this edge has a field out of range",
+    "this edge has a field out of range, or an owner and name that its label does not allow",
     "this field of the query is out of range",
     "there is no minimal set",
     "there are more minimal sets than cells",
@@ -148,6 +160,8 @@ int main(void)
     tell("check U", bwlchareg_check(SLICE(U), &value), 0, 0);
     tell("check three numbers of T", bwlchareg_check(T, 3, &value), 1, 0);
     tell("check a table with principal 65", bwlchareg_check(SLICE(mistaken), &value), 4, 1);
+    tell("check V", bwlchareg_check(SLICE(V), &value), 0, 0);
+    tell("check label 4 with a name", bwlchareg_check(SLICE(named), &value), 7, 1);
     tell("check T, and depth 0", bwlchareg_check_query(SLICE(T), ANN, SHOP, DISCOUNT, 0, &value), 8, 4);
     tell("check T, and depth 17", bwlchareg_check_query(SLICE(T), ANN, SHOP, DISCOUNT, 17, &value), 8, 4);
 
@@ -159,6 +173,8 @@ int main(void)
     tell_cells(8, UNCHANGED);
     tell("list U, School.student", bwlchareg_list(SLICE(U), ANN, SCHOOL, STUDENT, 1, SLICE(cells), &value), 0, 1);
     tell_cells(4, UNCHANGED);
+    tell("list V", bwlchareg_list(SLICE(V), ANN, SHOP, DISCOUNT, 2, SLICE(cells), &value), 0, 1);
+    tell_cells(8, UNCHANGED);
     tell("list T, one cell", bwlchareg_list(SLICE(T), ANN, SHOP, DISCOUNT, 2, cells, 1, &value), 10, 0);
     tell_cells(7, UNCHANGED);
     tell("list no credentials", bwlchareg_list(SLICE(empty), ANN, SHOP, DISCOUNT, 2, SLICE(cells), &value), 9, 0);
@@ -167,6 +183,7 @@ int main(void)
     /* The value of an accepted record is its used set: 7 is credentials 1, 2 and 3. */
     tell("verify with T", bwlchareg_verify(SLICE(T), ANN, SHOP, DISCOUNT, 2, SLICE(record), &value), 0, 7);
     tell("verify with U", bwlchareg_verify(SLICE(U), ANN, SHOP, DISCOUNT, 2, SLICE(record), &value), 14, 1);
+    tell("verify with V", bwlchareg_verify(SLICE(V), ANN, SHOP, DISCOUNT, 2, SLICE(record), &value), 14, 1);
     tell("verify with T, depth 1", bwlchareg_verify(SLICE(T), ANN, SHOP, DISCOUNT, 1, SLICE(record), &value), 13, 2);
     tell("verify two nodes of it", bwlchareg_verify(SLICE(T), ANN, SHOP, DISCOUNT, 2, record, 4, &value), 11, 3);
     tell("verify another middle", bwlchareg_verify(SLICE(T), ANN, SHOP, DISCOUNT, 2, SLICE(misled), &value), 12, 2);
