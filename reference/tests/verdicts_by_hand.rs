@@ -522,6 +522,13 @@ fn nodes_come_before_an_automaton_that_is_dead() {
     assert_eq!(verify(&unused, Q, &R), Ok(7));
 }
 
+/// Attaches these automata to the first three credentials.
+fn attach(records: &mut Records, automata: [u16; 3]) {
+    for (credential, automaton) in records.credentials.iter_mut().zip(automata) {
+        credential[5] = automaton;
+    }
+}
+
 #[test]
 fn a_lower_automaton_comes_before_one_that_is_dead_earlier() {
     // Automaton 2 is dead from the goal on, 1 only at the last node.
@@ -534,9 +541,7 @@ fn a_lower_automaton_comes_before_one_that_is_dead_earlier() {
         ([0, 2, 1], refused(14, 1)),
         ([2, 0, 0], refused(14, 2)),
     ] {
-        for (credential, automaton) in records.credentials.iter_mut().zip(attached) {
-            credential[5] = automaton;
-        }
+        attach(&mut records, attached);
         assert_eq!(verify(&records.numbers(), Q, &R), verdict, "{attached:?}");
     }
 }
@@ -596,9 +601,7 @@ fn the_lowest_rejecting_automaton_is_named() {
         ([3, 3, 2], refused(14, 2)),
         ([0, 3, 0], refused(14, 3)),
     ] {
-        for (credential, automaton) in records.credentials.iter_mut().zip(attached) {
-            credential[5] = automaton;
-        }
+        attach(&mut records, attached);
         assert_eq!(verify(&records.numbers(), Q, &R), verdict, "{attached:?}");
     }
 }

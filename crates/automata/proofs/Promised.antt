@@ -1,7 +1,7 @@
 -- Ticket 2, as far as labels and moves go, proved sentence by sentence.
 use mathlib.Core.Path.{_≡_, refl, sym, ap, _∙_}
 use mathlib.Core.List.{List, [], _∷_, _++_}
-use mathlib.Core.Bool.{true}
+use mathlib.Core.Bool.{true, false}
 use mathlib.Core.Logic.{_↔_}
 use Prim.Native.Nat.{ℕ, suc, _<_}
 use native.Mathlib.Numerals.{sub-one}
@@ -12,8 +12,9 @@ use Rattle.sets.specs.Sets.{inSet, meets}
 use Rattle.sets.proofs.Tests.{and-both, and-parts, false-true, refuted}
 use Rattle.sets.proofs.Members.{inSet-zero, same-members, setOf-members}
 use Rattle.table.specs.Limits.{mostPrincipals}
-use Rattle.table.specs.Layout.{automata, edge, edges}
+use Rattle.table.specs.Layout.{Numbered, automata, edge, edges}
 use Rattle.table.specs.Checks.{isPrincipal, within}
+use Rattle.table.specs.declared.Principal.{Principal}
 use Rattle.table.specs.declared.Role.{Role}
 use Rattle.table.proofs.Meanings as meanings
 use Rattle.automata.specs.Automata.{accepts, acceptsFrom, leads, moved, movedBy, run, starting}
@@ -27,17 +28,23 @@ pub matches-owner : MatchesOwner
 matches-owner e r four =
     (λ on. eqb-true _ _ (sym (label-4 e r four) ∙ on), λ same. label-4 e r four ∙ eq-eqb _ _ same)
 
-pub names-owner : NamesOwner
+-- a principal is one of so many
+principal-shows : (p : Principal) → isPrincipal p ≡ true → Numbered mostPrincipals (p .0)
 unfolding isPrincipal within
-names-owner r = (
-  (λ ok.
-      let (owner, name) = and-parts (and-parts (leb-true 1 (r .owner .0)) (leb-true (r .owner .0) mostPrincipals))
-      (eqb-true (r .name .0) 0) (sym (meanings.label-4 4 r refl) ∙ ok) in
-      (record { first = owner .0; last = owner .1 }, name)),
-  (λ named.
-      meanings.label-4 4 r refl
-      ∙ and-both (and-both (le-leb _ _ (named .0 .first)) (le-leb _ _ (named .0 .last))) (eq-eqb _ _ (named .1))),
-)
+principal-shows p is =
+    let (low, high) = and-parts (leb-true 1 (p .0)) (leb-true (p .0) mostPrincipals) is in
+    record { first = low; last = high }
+
+principal-is : (p : Principal) → Numbered mostPrincipals (p .0) → isPrincipal p ≡ true
+unfolding isPrincipal within
+principal-is p h = and-both (le-leb _ _ (h .first)) (le-leb _ _ (h .last))
+
+pub names-owner : NamesOwner
+names-owner r =
+    let fields = meanings.label-4 4 r refl in (
+      (λ ok. and-parts (principal-shows (r .owner)) (eqb-true (r .name .0) 0) (sym fields ∙ ok)),
+      (λ named. fields ∙ and-both (principal-is (r .owner) (named .0)) (eq-eqb _ _ (named .1))),
+    )
 
 -- who is dead in any sets
 pub dead-exact : (t : List ℕ) (s : StateSets) (k : ℕ)
@@ -54,20 +61,28 @@ pub tells-empty : TellsEmpty
 unfolding movedOn
 tells-empty t r s k = (refl, dead-exact t (movedSets t r s) k)
 
-pub empty-where : EmptyWhere
-unfolding moved
-empty-where t k r x = (
-  (λ empty i there.
+module _ (t : List ℕ) (k : ℕ) (r : Role) (x : ℕ) where
+  -- no edge leads to a state of an empty set
+  empty-unled : moved t k r x ≡ 0 → (i : ℕ) → Numbered (edges t) i → leads k r x (edge t i) ≡ false
+  unfolding moved
+  empty-unled empty i there =
+      let to = edge t i .to in
       refuted (leads k r x (edge t i)) (λ on.
-      false-true (sym (inSet-zero (edge t i .to)) ∙ ap (λ y. inSet y (edge t i .to)) (sym empty)
-      ∙ moved-reached t k r x (edges t) (edge t i .to) i there on refl))),
-  (λ none.
-      same-members _ 0 (λ s.
-      refuted (inSet (movedBy t k r x (edges t)) s) (λ inside.
-      let (i, there, on, to) = moved-shows t k r x (edges t) s inside in
-      false-true (sym (none i there) ∙ on))
-      ∙ sym (inSet-zero s))),
-)
+      let inside = moved-reached t k r x (edges t) to i there on refl in
+      false-true (sym (inSet-zero to) ∙ ap (λ y. inSet y to) (sym empty) ∙ inside))
+
+  -- and where no edge leads on no state is reached
+  unled-empty : ((i : ℕ) → Numbered (edges t) i → leads k r x (edge t i) ≡ false) → moved t k r x ≡ 0
+  unfolding moved
+  unled-empty none = same-members _ 0 (λ s. refuted _ (outside s) ∙ sym (inSet-zero s))
+    where
+      outside : (s : ℕ) → inSet (movedBy t k r x (edges t)) s ≡ true → ⊥
+      outside s inside =
+          let (i, there, on, to) = moved-shows t k r x (edges t) s inside in
+          false-true (sym (none i there) ∙ on)
+
+pub empty-where : EmptyWhere
+empty-where t k r x = (empty-unled t k r x, unled-empty t k r x)
 
 run-append : (t : List ℕ) (k x : ℕ) (word more : List Role) → run t k x (word ++ more) ≡ run t k (run t k x word) more
 unfolding run

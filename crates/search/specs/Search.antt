@@ -49,7 +49,7 @@ pub record Provable (t : List ℕ) (q : Query) (S A : ℕ) : Type 0 where
 unfoldable pub stepped : List ℕ → ℕ → Role → StateSets → StateSets
 stepped t A r s = pick (eqb A 0) s (movedSets t r s)
 
--- with them the automata that are dead there
+-- with them the automata that are dead there; where no automaton is imposed none is told
 unfoldable pub steppedOn : List ℕ → ℕ → Role → StateSets → Moved
 steppedOn t A r s = record { states = stepped t A r s; dead = pick (eqb A 0) 0 (deadSet t (movedSets t r s)) }
 
