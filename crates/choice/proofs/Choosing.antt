@@ -35,6 +35,7 @@ use Rattle.members.proofs.Reading.{as-read, numbered}
 use Rattle.members.proofs.Indexing.{padded-inside}
 use Rattle.members.proofs.ByKind.{by-none, byMiddle, each-part, middleAt, middleRole, names-principal, parts-few, roles-2}
 use Rattle.members.proofs.ByKind.{roles-4, with-middle}
+use Rattle.members.specs.declared.above.Above.{Above}
 use Rattle.search.specs.Search.{Searched, Stands, Tried, goalAt, proves, provesAt, provesWith}
 use Rattle.search.proofs.Placing.{cell-middle, first-cell, linkedRole, linking-role, own, part-cell, partRole, proved-some}
 use Rattle.search.proofs.Placing.{proves-at, second-cell, stands-at, unnamed-unproved}
@@ -83,7 +84,7 @@ module _ (t : List ℕ) (person place S : ℕ) (one : Goal → Bool) (word : Boo
   own-proved = rw own-goal (and-second _ _ passes)
 
 -- a goal that is proved by places is the goal itself
-module _ (t : List ℕ) (S A levels above : ℕ) (s : StateSets) where
+module _ (t : List ℕ) (S A levels : ℕ) (above : Above) (s : StateSets) where
   pub at-role : (person : ℕ) (r : Role) → provesAt t S A levels above s person (roleAt t r) ≡ true
       → goalAt t person (roleAt t r) ≡ goal (principal (credential t (suc person) .first)) r
   unfolding provesAt
@@ -93,7 +94,7 @@ module _ (t : List ℕ) (S A levels above : ℕ) (s : StateSets) where
 
 -- credential i + 1 proves its goal
 module _ {t index rows : List ℕ} {S levels last : ℕ} (searched : Searched t index rows S levels last) {person i : ℕ}
-    (tried : Tried t person i) (A above : ℕ) (s : StateSets) where
+    (tried : Tried t person i) (A : ℕ) (above : Above) (s : StateSets) where
   abbrev one : Goal → Bool
   one = proves t S A levels above s
 
@@ -335,7 +336,7 @@ module _ {t index rows : List ℕ} {S levels last : ℕ} (searched : Searched t 
 
 -- the least credential, number i + 1, for the goal at `person` and `place`; the code has read it as x
 module _ {t index rows : List ℕ} {S levels last : ℕ} (searched : Searched t index rows S levels last) {person place i : ℕ}
-    (stands : Stands t person place) (A above : ℕ) (s : StateSets) (there : i < credentials t)
+    (stands : Stands t person place) (A : ℕ) (above : Above) (s : StateSets) (there : i < credentials t)
     (is : suc i ≡ leastCredential t S (proves t S A levels above s) (part A (acceptingSet t s)) (goalAt t person place))
     (x : Credential) (read : x ≡ credential t (i + 1)) where
   same : goalAt t person i ≡ goalAt t person place

@@ -20,6 +20,7 @@ use Rattle.automata.specs.declared.StateSets.{StateSets}
 use Rattle.members.specs.Places.{isPerson}
 use Rattle.members.specs.Members.{askedCell, lesser, linkCell, rowCell}
 use Rattle.members.specs.Trying.{provesBy}
+use Rattle.members.specs.declared.above.Above.{Above}
 use Rattle.search.specs.Search.{Searched, Stands, Tried, goalAt, proves, provesAt}
 use Rattle.search.proofs.Placing.{cell-middles, first-cell, linkedRole, middle-unlisted, partRole, second-cell, stands-at}
 use Rattle.sets.proofs.Members.{below-members, inSet-zero, members-below, one-only, part-le, part-member, set-more, set-not}
@@ -123,7 +124,7 @@ module _ {t index rows : List ℕ} {S levels last : ℕ} (searched : Searched t 
       (stands-at t person (linkedRole t i j) (tried .who) (tried .named))
 
   -- what is told of both goals
-  module _ (A above : ℕ) (s : StateSets) {first : ℕ} (read : first ≡ getD index (askedCell i 0) 0) {one : Bool}
+  module _ (A : ℕ) (above : Above) (s : StateSets) {first : ℕ} (read : first ≡ getD index (askedCell i 0) 0) {one : Bool}
       (e : one ≡ provesAt t S A levels above s j first) where
     pub leads-not : not one ≡ true → false ≡ leads t index S A levels above s person i j
     leads-not off = sym (and-is named (and-is-off _ (rw read at (failed e off))))
@@ -152,7 +153,7 @@ pub record MiddlesLeft (t : List ℕ) (passes : ℕ → Bool) (left : ℕ) : Typ
 
 -- at first those whom the row has
 module _ {t index rows : List ℕ} {S levels last : ℕ} (searched : Searched t index rows S levels last) {person i : ℕ}
-    (tried : Tried t person i) (kind : credential t (suc i) .kind ≡ 3) (A above : ℕ) (s : StateSets) where
+    (tried : Tried t person i) (kind : credential t (suc i) .kind ≡ 3) (A : ℕ) (above : Above) (s : StateSets) where
   abbrev passes : ℕ → Bool
   passes = leads t index S A levels above s person i
 

@@ -19,6 +19,7 @@ use Rattle.derivation.specs.Held.{noGoal}
 use Rattle.members.specs.Places.{isPerson, least}
 use Rattle.members.specs.Trying.{provedPremises}
 use Rattle.members.specs.Members.{askedCell, linkCell, rowCell}
+use Rattle.members.specs.declared.above.Above.{Above}
 pub use Rattle.search.specs.Search.{provesWith}
 use Rattle.search.specs.Search.{Stands, goalAt, proves, provesAt, usable}
 use Rattle.choice.specs.declared.Node.{Node}
@@ -37,7 +38,7 @@ asked none = []
 asked (some goals) = goals
 
 -- the goals by the places of principal and role, each of them proved
-pub record Children (t : List ℕ) (S A levels above : ℕ) (s : StateSets) (goals : List Goal) (len : ℕ) (persons places : List ℕ)
+pub record Children (t : List ℕ) (S A levels : ℕ) (above : Above) (s : StateSets) (goals : List Goal) (len : ℕ) (persons places : List ℕ)
     : Type 0 where
   pub few : len ≤ mostParts
   pub people : length persons ≡ mostParts
@@ -48,7 +49,7 @@ pub record Children (t : List ℕ) (S A levels above : ℕ) (s : StateSets) (goa
   pub goals-are : (k : ℕ) → k < len → goalAt t (getD persons k 0) (getD places k 0) ≡ getD goals k noGoal
 
 -- the node's numbers are the least, and its children are what they ask; so many levels are left below the node
-pub record Chosen (t : List ℕ) (S A levels above : ℕ) (s : StateSets) (g : Goal) (node : Node) : Type 0 where
+pub record Chosen (t : List ℕ) (S A levels : ℕ) (above : Above) (s : StateSets) (g : Goal) (node : Node) : Type 0 where
   pub credential-is : node .credential
       ≡ leastCredential t S (proves t S A levels above s) (part A (acceptingSet t s)) g
   pub middle-is : node .middle
@@ -84,7 +85,7 @@ pub record LastUsable (index : List ℕ) (S place n r : ℕ) : Type 0 where
   pub none : (i : ℕ) → r < i → i < n → usable index S place i ≡ true → ⊥
 
 -- the principal at j is a middle with which credential i + 1, of kind 3, proves the goal
-abbrev pub leads : List ℕ → List ℕ → ℕ → ℕ → ℕ → ℕ → StateSets → ℕ → ℕ → ℕ → Bool
+abbrev pub leads : List ℕ → List ℕ → ℕ → ℕ → ℕ → Above → StateSets → ℕ → ℕ → ℕ → Bool
 leads t index S A levels above s person i = λ j.
     isPerson t j and provesAt t S A levels above s j (getD index (askedCell i 0) 0)
     and provesAt t S A levels above s person (getD index (linkCell i j) 0)

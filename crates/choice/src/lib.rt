@@ -4,6 +4,7 @@
 mod middles; // middles.rt: the least middle of a credential of kind 3
 
 use automata::StateSets;
+use members::Above;
 use search::Terms;
 use sets::CredentialSet;
 use table::Credential;
@@ -47,7 +48,7 @@ pub fn choose(
     place: usize,
     levels: usize,
     states: StateSets,
-    above: CredentialSet,
+    above: Above,
 ) -> Node
     requires { ⌜ Searched (now table) (now index) (now rows) (terms .allowed) levels (terms .last) ⌝ }
     requires { ⌜ Stands (now table) person place × (place < credentials (now table)) ⌝ }
@@ -89,7 +90,7 @@ fn least_credential(
     place: usize,
     levels: usize,
     states: StateSets,
-    above: CredentialSet,
+    above: Above,
 ) -> usize
     requires { ⌜ Searched (now table) (now index) (now rows) (terms .allowed) levels (terms .last) ⌝ }
     requires { ⌜ Stands (now table) person place × (place < credentials (now table)) ⌝ }

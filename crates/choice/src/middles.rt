@@ -1,6 +1,7 @@
 // The least middle with which a credential of kind 3 proves its goal. Principals stand in the order of their first simple
 // memberships (crate members), and are compared here by their numbers.
 use automata::StateSets;
+use members::Above;
 use search::Terms;
 use sets::CredentialSet;
 use table::Number;
@@ -32,7 +33,7 @@ pub fn least_middle(
     i: usize,
     levels: usize,
     states: StateSets,
-    above: CredentialSet,
+    above: Above,
 ) -> usize
     requires { ⌜ Searched (now table) (now index) (now rows) (terms .allowed) levels (terms .last) ⌝ }
     requires { ⌜ Tried (now table) person i × (credential (now table) (suc i) .kind ≡ 3) ⌝ }
@@ -139,7 +140,7 @@ fn leads_on(
     j: usize,
     levels: usize,
     states: StateSets,
-    above: CredentialSet,
+    above: Above,
 ) -> bool
     requires { ⌜ Searched (now table) (now index) (now rows) (terms .allowed) levels (terms .last) ⌝ }
     requires { ⌜ Tried (now table) person i × (credential (now table) (suc i) .kind ≡ 3) ⌝ }

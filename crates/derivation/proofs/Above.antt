@@ -1,4 +1,4 @@
--- The branch as the code holds it: one goal more, and whether a goal's role is on it.
+-- The branch as the code holds it: one goal more, and whether a goal is on it.
 use mathlib.Core.Path.{_≡_, refl}
 use mathlib.Core.List.{List, _∷_}
 use mathlib.Core.Bool.{true, false, not}
@@ -12,13 +12,12 @@ use lib.ListN.{getD, set, length-set}
 use lib.Seq.{getD-set-same, getD-set-other}
 use Rattle.sets.specs.Logic.{_and_}
 use Rattle.table.specs.Limits.{mostDepth}
-use Rattle.table.specs.Layout.{sameRole}
 use Rattle.table.specs.Checks.{Valid, queryOutcome, within}
 use Rattle.table.specs.declared.Query.{Query}
 use Rattle.table.specs.declared.Goal.{Goal}
 use Rattle.sets.proofs.Tests.{and-false, and-first, and-second}
 use Rattle.table.proofs.Stages.{demand-true, then-second}
-use Rattle.derivation.specs.Rules.{fresh}
+use Rattle.derivation.specs.Rules.{fresh, sameGoal}
 use Rattle.derivation.specs.Held.{Room, above, noGoal, upTo}
 use Rattle.derivation.specs.declared.branches.Branch.{Branch}
 
@@ -40,21 +39,21 @@ pub room-with : (b : Branch) (g : Goal) → Room mostDepth (b .len) (b .goals) �
     → Room mostDepth (b .len + 1) (set (b .goals) (b .len) g)
 room-with b g room less = record { fits = omega arith; size = simp length-set (room .size) }
 
--- the goals below i are of other roles, and so is goal i
+-- the goals below i are others, and so is goal i
 pub fresh-next : (goals : List Goal) (g : Goal) (i : ℕ) → fresh (upTo goals i) g ≡ true
-    → sameRole (getD goals i noGoal .role) (g .role) ≡ false → fresh (upTo goals (i + 1)) g ≡ true
+    → sameGoal (getD goals i noGoal) g ≡ false → fresh (upTo goals (i + 1)) g ≡ true
 unfolding upTo fresh _and_
 fresh-next goals g i so-far other = rw (add-one i, other) so-far
 
--- goal i is of the same role
-pub fresh-not : (goals : List Goal) (g : Goal) (i n : ℕ) → i + 1 ≤ n → sameRole (getD goals i noGoal .role) (g .role) ≡ true
+-- goal i is the same
+pub fresh-not : (goals : List Goal) (g : Goal) (i n : ℕ) → i + 1 ≤ n → sameGoal (getD goals i noGoal) g ≡ true
     → fresh (upTo goals n) g ≡ false
 unfolding upTo fresh _and_
 fresh-not goals g i zero h same = absurd (omega arith)
 fresh-not goals g i (suc n) h same =
     ⊎-elim
     (λ last. let e : n ≡ i = omega arith in rw (e, same))
-    (λ less. rw (fresh-not goals g i n (omega arith) same) (and-false (not (sameRole (getD goals n noGoal .role) (g .role)))))
+    (λ less. rw (fresh-not goals g i n (omega arith) same) (and-false (not (sameGoal (getD goals n noGoal) g))))
     (eq-or-lt-of-le h)
 
 -- a branch has room for as many levels as a valid query allows

@@ -53,7 +53,11 @@ unfoldable pub premises : List ℕ → Goal → ℕ → ℕ → Option (List Goa
 premises t g c m =
     pick (within 1 (credentials t) c and sameRole (credential t c .role) (g .role)) (asks t g (credential t c) m) none
 
--- no role occurs twice on the way from the goal to a node: the goal's role is none of those above it
+-- the same pair of principal and role
+unfoldable pub sameGoal : Goal → Goal → Bool
+sameGoal g h = eqb (g .principal .0) (h .principal .0) and sameRole (g .role) (h .role)
+
+-- no pair of principal and role occurs twice on the way from the goal to a node: the goal is none of those above it
 unfoldable pub fresh : List Goal → Goal → Bool
 fresh [] g = true
-fresh (above ∷ branch) g = not (sameRole (above .role) (g .role)) and fresh branch g
+fresh (above ∷ branch) g = not (sameGoal above g) and fresh branch g

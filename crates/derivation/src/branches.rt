@@ -7,7 +7,7 @@ ghost use mathlib.Core.Path.{_≡_};
 ghost use mathlib.Core.List.{[], _∷_};
 ghost use Prim.Native.Nat.{_+_, _<_};
 ghost use Rattle.table.specs.Limits.{mostDepth};
-ghost use Rattle.derivation.specs.Rules.{fresh};
+ghost use Rattle.derivation.specs.Rules.{fresh, sameGoal};
 ghost use Rattle.derivation.specs.Held.{Room, above};
 
 // As many levels as a query can allow.
@@ -51,7 +51,7 @@ impl Branch {
         }
     }
 
-    // Whether the goal's role is none of those above it.
+    // Whether the goal, as a pair of principal and role, is none of those above it.
     pub fn is_fresh(self, goal: Goal) -> bool
         requires { ⌜ Room mostDepth (self .len) (self .goals) ⌝ }
         ensures { λ r. ⌜ r ≡ fresh (above self) goal ⌝ }
@@ -60,11 +60,21 @@ impl Branch {
         let mut i = 0;
         while i < len {
             let other = self.goals[i];
-            if other.role.same(goal.role) {
+            if same_goal(other, goal) {
                 return false;
             }
             i += 1;
         }
         true
     }
+}
+
+// The same pair of principal and role.
+fn same_goal(one: Goal, other: Goal) -> bool
+    ensures { λ r. ⌜ r ≡ sameGoal one other ⌝ }
+{
+    if one.principal.0 != other.principal.0 {
+        return false;
+    }
+    one.role.same(other.role)
 }

@@ -16,6 +16,7 @@ use Rattle.derivation.specs.Attached.{automataOf, automataUpTo}
 use Rattle.verifier.specs.Verdict.{verdict}
 use Rattle.verifier.proofs.Shop as records
 use Rattle.members.specs.Places.{defines, isNaming, isPerson, least, personAt, roleAt}
+use Rattle.members.specs.Above.{isAbove, nothingAbove, pairAbove, withGoal, withPair}
 use Rattle.members.specs.Trying.{everyGoal, mayUse, provedPremises, provesBy}
 use Rattle.search.specs.Search.{provable, proves, stepped}
 use Rattle.search.specs.Admits.{admits, admitsBy, without}
@@ -26,8 +27,8 @@ use Rattle.listing.specs.Minimal.{afterwards, bufferAfter, counted, list
 -- what a list computes with
 unfoldable pub opened : Unit {0}
 unfolding records.opened part setOf acceptingSet each movedSets startingSets together automataOf automataUpTo defines isNaming
-    isPerson least personAt roleAt everyGoal mayUse provedPremises provesBy provable proves stepped admits admitsBy without isLeast
-    laid those afterwards bufferAfter counted listing minimalSets
+    isPerson least personAt roleAt isAbove nothingAbove pairAbove withGoal withPair everyGoal mayUse provedPremises provesBy
+    provable proves stepped admits admitsBy without isLeast laid those afterwards bufferAfter counted listing minimalSets
 opened = tt
 
 pub data Row : Type 0 where

@@ -39,7 +39,7 @@ names-principal t wf c there one =
     and-first _ _ (sym (kind-1 _ _ _ _ one) ∙ and-first _ _ (and-second _ _ good))
 
 -- four places tested are all the roles of a list of one to four, the last of them at every place behind it
-four-tests : (a b c d : Bool) → not ((((false or not a) or not b) or not c) or not d) ≡ (a and (b and (c and d)))
+pub four-tests : (a b c d : Bool) → not ((((false or not a) or not b) or not c) or not d) ≡ (a and (b and (c and d)))
 unfolding _and_ _or_
 four-tests false b c d = go b c d
   where
@@ -50,7 +50,7 @@ four-tests true true false d = refl
 four-tests true true true false = refl
 four-tests true true true true = refl
 
-repeated : (a : Bool) → (a and a) ≡ a
+pub repeated : (a : Bool) → (a and a) ≡ a
 unfolding _and_
 repeated true = refl
 repeated false = refl

@@ -28,7 +28,7 @@ use Rattle.members.specs.Places.{defines, isNaming, least, personAt, rol
 use Rattle.members.specs.Members.{Aimed, Indexed, askedCell, goalPerson, goalRole, indexCells, linkCell, linksBase}
 use Rattle.members.specs.Members.{padded, roleCell, rolesAsked}
 use Rattle.members.specs.Indexing.{Asked, Linked, OneAsked, PartsAt, Place, Put, Room, Small, Whole, Written, names}
-use Rattle.members.proofs.Reading.{as-read, below-next, kind-read}
+use Rattle.members.proofs.Reading.{as-read, below-next, kind-read, zeros}
 use Rattle.members.proofs.Places.{least-found, least-none}
 use Rattle.members.proofs.ByKind.{one-padded, roles-2, roles-3, roles-4}
 
@@ -287,14 +287,13 @@ pub record Filled (t index : List ℕ) (count : ℕ) : Type 0 where
   pub small : (x : ℕ) → getD index x 0 ≤ mostCredentials
   pub each : (i : ℕ) → i < count → PlacesAt t index i (credential t (suc i))
 
-zero-small : (n x : ℕ) → getD (replicate n 0) x 0 ≤ mostCredentials
-zero-small zero x = omega arith
-zero-small (suc n) zero = omega arith
-zero-small (suc n) (suc x) = zero-small n x
-
 pub filled-none : (t : List ℕ) → Filled t (replicate indexCells 0) 0
 filled-none t =
-    record { room = length-replicate {A = ℕ} indexCells 0; small = zero-small indexCells; each = λ i l. absurd (omega arith) }
+    record {
+      room = length-replicate {A = ℕ} indexCells 0;
+      small = λ x. omega (arith, zeros indexCells x);
+      each = λ i l. absurd (omega arith);
+    }
 
 -- the links of a credential x that asks a middle are written, and of no other
 pub record LinksOf (t : List ℕ) (x : Credential) (i : ℕ) (old new : List ℕ) : Type 0 where

@@ -2,6 +2,7 @@
 pub mod Reading
 pub mod Places
 pub mod Persons
+pub mod Branching
 pub mod Indexing
 pub mod Stepping
 pub mod ByKind

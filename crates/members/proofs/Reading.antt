@@ -1,12 +1,15 @@
 -- Credentials as the code goes through them, one by one. The code reads credential i + 1, and the definitions speak of suc i.
-use mathlib.Core.Path.{_≡_, ap, _∙_}
+-- And the cells of a table that nobody has written yet.
+use mathlib.Core.Path.{_≡_, refl, ap, _∙_}
 use mathlib.Core.List.{List}
-use Prim.Native.Nat.{ℕ, suc, _+_, _<_}
+use Prim.Native.Nat.{ℕ, zero, suc, _+_, _<_}
 use native.Mathlib.Omega.{arith}
 use native.Mathlib.Decide.{ℕ-discrete}
 use native.Mathlib.Numerals.{add-one}
+use lib.ListN.{replicate}
 use Rattle.table.specs.Layout.{Numbered, credential}
 use Rattle.table.specs.declared.Credential.{Credential}
+use Rattle.members.specs.Members.{Blank}
 
 -- what holds of all below i and of i holds of all below i + 1
 pub below-next : (P : ℕ → Type 0) (i : ℕ) → ((k : ℕ) → k < i → P k) → P i → (k : ℕ) → k < i + 1 → P k
@@ -25,3 +28,9 @@ module _ (t : List ℕ) (i : ℕ) (x : Credential) (read : x ≡ credential t (i
 
   pub kind-read : x .kind ≡ credential t (suc i) .kind
   kind-read = ap (λ (y : Credential). y .kind) as-read
+
+-- zeros are blank
+pub zeros : (n : ℕ) → Blank (replicate n 0)
+zeros zero x = refl
+zeros (suc n) zero = refl
+zeros (suc n) (suc x) = zeros n x

@@ -1,14 +1,16 @@
--- One step of a search: where more goals are proved by one test than by another, more are proved by a credential; and whoever a
--- test that is closed under all credentials leaves out is nowhere in within any number of levels.
+-- One step of a search: where more goals are proved by one test than by another, more are proved by a credential. Whoever is in a
+-- role within some levels is in it within more, and whoever a test that is closed under all credentials leaves out never is.
 use mathlib.Core.Path.{_≡_, refl}
 use mathlib.Core.List.{List, [], _∷_}
 use mathlib.Core.Bool.{Bool, true, false}
 use mathlib.Core.Option.{Option, none, some}
-use Prim.Native.Nat.{ℕ, zero, suc, _<_}
+use Prim.Native.Nat.{ℕ, zero, suc, _<_, _≤_}
+use native.Mathlib.Omega.{arith}
+use native.Mathlib.Decide.{ℕ-discrete}
 use lib.ListN.{length}
 use lib.Dec.{eqb}
-use Rattle.sets.specs.Logic.{pick}
-use Rattle.sets.proofs.Tests.{and-both, and-first, and-second, any-shows, false-true}
+use Rattle.sets.specs.Logic.{_and_, pick}
+use Rattle.sets.proofs.Tests.{and-both, and-first, and-second, any-reached, any-shows, false-true}
 pub use Rattle.sets.proofs.Tests.{any-mono}
 use Rattle.table.specs.Layout.{credential, credentials}
 use Rattle.table.specs.declared.Goal.{Goal}
@@ -57,6 +59,30 @@ module _ (t : List ℕ) (S : ℕ) where
   within-step k g h =
       let (c, l, both) = any-shows _ (credentials t) h in
       (c, l, and-first (mayUse t S g (suc c)) _ both, and-second (mayUse t S g (suc c)) _ both)
+
+  pub within-by : (k : ℕ) (g : Goal) (c : ℕ) → c < credentials t → mayUse t S g (suc c) ≡ true
+      → provesBy t (within t S k) true g (suc c) ≡ true → within t S (suc k) g ≡ true
+  unfolding within
+  within-by k g c l may proved =
+      any-reached (λ c. mayUse t S g (suc c) and provesBy t (within t S k) true g (suc c)) (credentials t) c l
+      (and-both may proved)
+
+  -- who is a member within some levels is one within more
+  pub within-more : (k : ℕ) (g : Goal) → within t S k g ≡ true → within t S (suc k) g ≡ true
+  within-more zero g h = within-none g h
+  within-more (suc k) g h =
+      let (c, l, may, proved) = within-step k g h in
+      within-by (suc k) g c l may
+      (proves-by-mono (within t S k) (within t S (suc k)) (within-more k) true true (λ e. e) t g (suc c) proved)
+
+  pub within-later : (k m : ℕ) → k ≤ m → (g : Goal) → within t S k g ≡ true → within t S m g ≡ true
+  within-later k zero l g h = let e : k ≡ 0 = omega arith in rw e at h
+  within-later k (suc m) l g h =
+      go (ℕ-discrete k (suc m)) (λ before. within-more m g (within-later k m before g h))
+    where
+      go : Dec (k ≡ suc m) → (k ≤ m → within t S (suc m) g ≡ true) → within t S (suc m) g ≡ true
+      go (yes same) earlier = rw same at h
+      go (no less) earlier = earlier (omega arith)
 
   pub within-closed : (T : Goal → Bool)
       → ((g : Goal) (c : ℕ) → c < credentials t → mayUse t S g (suc c) ≡ true → provesBy t T true g (suc c) ≡ true → T g ≡ true)

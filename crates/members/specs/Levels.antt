@@ -2,12 +2,13 @@
 use Prim.Native.Nat.{ℕ, zero, suc, _+_, _<_, _≤_}
 use mathlib.Core.Path.{_≡_}
 use mathlib.Core.List.{List}
-use mathlib.Core.Bool.{Bool, true, false}
+use mathlib.Core.Bool.{Bool, true, false, not}
+use mathlib.Core.Logic.{_⊎_}
 use lib.ListN.{getD, length}
 use lib.Bits.{bitAnd, bitOr}
 use lib.Dec.{eqb}
-use Rattle.sets.specs.Logic.{pick}
-use Rattle.sets.specs.Sets.{inSet, part}
+use Rattle.sets.specs.Logic.{_and_, pick}
+use Rattle.sets.specs.Sets.{inSet, part, setOf}
 use Rattle.table.specs.Limits.{mostCredentials, mostDepth}
 use Rattle.table.specs.Layout.{credential, credentials}
 use Rattle.members.specs.Members.{Placed, askedCell, linkCell, roleCell, rowCell, tableCells}
@@ -51,11 +52,27 @@ Named t index S n rows level =
     (i : ℕ) → i < n → inSet S i ≡ true → credential t (suc i) .kind ≡ 1
     → inSet (mask rows level (getD index (roleCell i) 0)) (getD index (askedCell i 0) 0) ≡ true
 
--- row 1 after the first n credentials, and those of them that are no simple memberships
+-- credential i + 1, one of these, names whoever stands at p, and x is the cell of its role in row 1
+pub record NamedBy (t index : List ℕ) (S n x p i : ℕ) : Type 0 where
+  pub there : i < n
+  pub inside : inSet S i ≡ true
+  pub kind : credential t (suc i) .kind ≡ 1
+  pub cell : x ≡ rowCell 1 (getD index (roleCell i) 0)
+  pub person : p ≡ getD index (askedCell i 0) 0
+
+-- the credentials of the set among the first n that are no simple memberships
+abbrev pub isRest : List ℕ → ℕ → ℕ → Bool
+isRest t S i = inSet S i and not (eqb (credential t (suc i) .kind) 1)
+
+abbrev pub restOf : List ℕ → ℕ → ℕ → ℕ
+restOf t S n = setOf (isRest t S) n
+
+-- after the first n credentials row 1 has whom they name, and no cell anybody else; the others are told
 pub record FirstLevel (t index : List ℕ) (S n : ℕ) (rows : List ℕ) (others : ℕ) : Type 0 where
   pub room : length rows ≡ tableCells
   pub named : Named t index S n rows 1
-  pub rest : (i : ℕ) → i < n → inSet S i ≡ true → (credential t (suc i) .kind ≡ 1 → ⊥) → inSet others i ≡ true
+  pub only : (x p : ℕ) → inSet (getD rows x 0) p ≡ true → (i : ℕ) × NamedBy t index S n x p i
+  pub rest : others ≡ restOf t S n
 
 -- the cells up to the row of a level are as they were
 abbrev pub Kept : ℕ → List ℕ → List ℕ → Type 0
@@ -67,11 +84,20 @@ pub record Copied (level n : ℕ) (rows rows′ : List ℕ) : Type 0 where
   pub kept : Kept level rows rows′
   pub copied : (r : ℕ) → r < n → mask rows′ (level + 1) r ≡ mask rows level r
 
--- the row behind a level has taken in whom those of the first n credentials that are in the set prove by the level's row
+-- credential i + 1 of the set proves by the level's row whoever stands at p, and x is the cell of its role in the row behind
+pub record ProvedBy (t index : List ℕ) (others level : ℕ) (rows : List ℕ) (x p i : ℕ) : Type 0 where
+  pub inside : inSet others i ≡ true
+  pub cell : x ≡ rowCell (level + 1) (getD index (roleCell i) 0)
+  pub proves : inSet (provedMembers t index rows level i) p ≡ true
+
+-- the row behind a level has taken in whom those of the first n credentials that are in the set prove by the level's row, and
+-- nobody else
 pub record Grown (t index : List ℕ) (others level n : ℕ) (rows rows′ : List ℕ) (isNew : Bool) : Type 0 where
   pub room : length rows′ ≡ tableCells
   pub kept : Kept level rows rows′
   pub grown : (x : ℕ) → part (getD rows x 0) (getD rows′ x 0) ≡ true
   pub proved : (i : ℕ) → i < n → inSet others i ≡ true
       → part (provedMembers t index rows level i) (mask rows′ (level + 1) (getD index (roleCell i) 0)) ≡ true
+  pub only : (x p : ℕ) → inSet (getD rows′ x 0) p ≡ true
+      → (inSet (getD rows x 0) p ≡ true) ⊎ ((i : ℕ) × ProvedBy t index others level rows x p i)
   pub still : isNew ≡ false → rows′ ≡ rows

@@ -1,4 +1,5 @@
 pub mod Places
+pub mod Above
 pub mod Trying
 pub mod Members
 pub mod Indexing

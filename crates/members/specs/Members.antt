@@ -1,5 +1,6 @@
 -- Members by levels: who is in which role within so many levels by the credentials of a set, if nothing may be refused: no rule
--- against repetition, no constraint. A derivation within so many levels proves only this, so a search need ask for nothing else.
+-- against repetition, no constraint. The table of members says just this. A derivation within so many levels proves nothing else,
+-- so a search need ask for nothing else.
 use Prim.Native.Nat.{ℕ, zero, suc, _+_, _*_, _<_, _≤_}
 use mathlib.Core.Path.{_≡_}
 use mathlib.Core.List.{List, [], _∷_}
@@ -95,6 +96,10 @@ tableCells = rowCells * (mostDepth + 1)
 abbrev pub rowCell : ℕ → ℕ → ℕ
 rowCell level r = rowCells * level + r
 
+-- nobody stands in any cell
+abbrev pub Blank : List ℕ → Type 0
+Blank rows = (x : ℕ) → getD rows x 0 ≡ 0
+
 -- what the row of a level has
 unfoldable pub listed : List ℕ → List ℕ → ℕ → Goal → Bool
 listed t rows level g =
@@ -105,8 +110,9 @@ listed t rows level g =
 unfoldable pub lesser : ℕ → ℕ → ℕ
 lesser k last = pick (ltb k last) k last
 
--- within so many levels, up to the depth, only what the row of the level has can be proved; from the last row on nothing is new
+-- within so many levels, up to the depth, just those are members whom the row of the level has; behind the last row nobody is new
 pub record Members (t : List ℕ) (S depth last : ℕ) (rows : List ℕ) : Type 0 where
   pub room : length rows ≡ tableCells
   pub few : last ≤ mostDepth
   pub every : (k : ℕ) → k ≤ depth → (g : Goal) → within t S k g ≡ true → listed t rows (lesser k last) g ≡ true
+  pub only : (k : ℕ) → k ≤ depth → (g : Goal) → listed t rows (lesser k last) g ≡ true → within t S k g ≡ true

@@ -11,7 +11,7 @@ ghost use lib.ListN.{length};
 ghost use Rattle.table.specs.Limits.{mostDepth, mostParts};
 ghost use Rattle.table.specs.Holding.{WellFormed};
 ghost use Rattle.table.specs.Layout.{credentials};
-ghost use Rattle.members.specs.Members.{Indexed, Members, rowCells, tableCells};
+ghost use Rattle.members.specs.Members.{Blank, Indexed, Members, rowCells, tableCells};
 ghost use Rattle.members.specs.Levels.{Copied, FirstLevel, Grown, Readable};
 ghost use Rattle.members.specs.Levels.{askedMask, askedMembers, linkedMembers, provedMembers};
 
@@ -21,8 +21,9 @@ pub const ROW: usize = layout::MOST_CREDENTIALS as usize + 1;
 // Rows from 0 to the greatest depth.
 pub const TABLE_CELLS: usize = ROW * (layout::MOST_DEPTH as usize + 1);
 
-// Fills the table from row 1 on, up to the depth, or up to the row behind which nothing is new; that row's level. The caller
-// lends the table zeroed: row 1 is added to what is there, so whoever stood there already would count as a member too.
+// Fills the table from row 1 on, up to the depth, or up to the row behind which nobody is new; that row's level. The rows then
+// have just who is a member within so many levels. The caller lends them blank: row 1 is added to what is there, so whoever
+// stood there already would count as a member too.
 pub fn fill(
     table: &[Number],
     index: &[u8],
@@ -34,6 +35,7 @@ pub fn fill(
     requires { ⌜ Indexed (now table) (now index) ⌝ }
     requires { ⌜ (1 ≤ depth) × (depth ≤ mostDepth) ⌝ }
     requires { ⌜ length (now rows) ≡ tableCells ⌝ }
+    requires { ⌜ Blank (now rows) ⌝ }
     ensures { λ r. ⌜ Members (now (table .entry)) allowed depth r (now (rows .exit)) ⌝ }
 {
     let others = first_level(table, index, allowed, rows);
@@ -58,6 +60,7 @@ fn first_level(
     requires { ⌜ WellFormed (now table) ⌝ }
     requires { ⌜ Indexed (now table) (now index) ⌝ }
     requires { ⌜ length (now rows) ≡ tableCells ⌝ }
+    requires { ⌜ Blank (now rows) ⌝ }
     ensures { λ r. ⌜ FirstLevel (now (table .entry)) (now (index .entry)) allowed (credentials (now (table .entry)))
         (now (rows .exit)) r ⌝ }
 {

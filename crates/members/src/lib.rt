@@ -1,9 +1,11 @@
-// Members by levels: who can be in which role within so many levels, whatever may be refused. A derivation proves nothing else,
+// Members by levels: who is in which role within so many levels where nothing may be refused. A derivation proves nothing else,
 // so a search need not ask for anything else. specs/Members.antt says what the index and the table of members hold.
+mod above; // above.rt: the pairs of principal and role above a node
 mod cells; // cells.rt: the cells of an index
 mod entries; // entries.rt: the index is made
 mod levels; // levels.rt: the table of members, row by row
 
+pub use above::Above;
 pub use cells::asked_cell;
 pub use cells::goal_person;
 pub use cells::goal_role;

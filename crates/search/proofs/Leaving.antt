@@ -25,6 +25,7 @@ use Rattle.automata.proofs.Promised.{dead-exact}
 use Rattle.automata.proofs.Together.{empty-moved}
 use Rattle.members.specs.Trying.{everyGoal, provedPremises, provesBy}
 use Rattle.search.specs.Promised.{NothingLost}
+use Rattle.members.specs.declared.above.Above.{Above}
 use Rattle.search.specs.Search.{proves, provesWith, stepped, steppedOn}
 use Rattle.search.proofs.Searching.{some-imposed}
 
@@ -62,7 +63,7 @@ module _ (t : List ℕ) (S A k : ℕ) (imposed : inSet A k ≡ true) where
   none-tried s empty one none-below g =
       rw (no-word s empty) (any-none _ (credentials t) (λ c l. and-none _ (unproved one none-below t g (suc c))))
 
-  pub empty-proves-nothing : (levels above : ℕ) (s : StateSets) → getD (s .sets) k 0 ≡ 0 → (g : Goal)
+  pub empty-proves-nothing : (levels : ℕ) (above : Above) (s : StateSets) → getD (s .sets) k 0 ≡ 0 → (g : Goal)
       → proves t S A levels above s g ≡ false
   unfolding proves
   empty-proves-nothing zero above s empty g = refl
@@ -85,7 +86,7 @@ told-empty t A r s told k imposed dead =
 
 -- the code has found an imposed automaton among the dead: below its sets no credential proves a goal
 pub dead-tried : (t : List ℕ) (S A : ℕ) (r : Role) (s : StateSets) {x : Moved} → x ≡ steppedOn t A r s
-    → meets A (x .dead) ≡ true → (levels above : ℕ) (g : Goal)
+    → meets A (x .dead) ≡ true → (levels : ℕ) (above : Above) (g : Goal)
     → anyBelow (provesWith t S (proves t S A levels above (x .states)) (part A (acceptingSet t (x .states))) g) (credentials t)
     ≡ false
 dead-tried t S A r s {x} told found levels above g =

@@ -2,6 +2,7 @@
 pub mod Within
 pub mod Naming
 pub mod Placing
+pub mod Exact
 pub mod Trying
 pub mod Testing
 pub mod Leaving

@@ -103,6 +103,14 @@ members-known {t} wf (step {c = c} {m = m} {goals = asked} {g = g} applies new d
     let own = principal-named t wf g c m asked there (members-known wf d) (rule-applied t g c m asked applies) in
     or-either (λ same. rw (eqb-true (g .principal .0) p same) at own) (members-known wf later p) h
 
+-- a node's principal is named
+pub goal-named : {t : List ℕ} → WellFormed t → {levels : ℕ} {branch : List Goal} {f : Forest} (g : Goal) (c m : ℕ)
+    (goals : List Goal) → premises t g c m ≡ some goals → Derives t levels branch goals f
+    → personAt t (g .principal .0) < credentials t
+goal-named {t} wf g c m goals applies d =
+    let there = applies-numbered t g c m goals applies in
+    principal-named t wf g c m goals there (members-known wf d) (rule-applied t g c m goals applies)
+
 -- a node's middle is one that the search tries
 pub middle-tried : {t : List ℕ} → WellFormed t → {levels : ℕ} {branch : List Goal} {f : Forest} (g : Goal) (c m : ℕ)
     (goals : List Goal) → premises t g c m ≡ some goals → Derives t levels branch goals f → IsMiddle t c m

@@ -28,23 +28,25 @@ use Rattle.derivation.specs.Rules.{goal, premises}
 use Rattle.derivation.proofs.Ruling.{Rule, rule-applied}
 use Rattle.derivation.proofs.Ruling.Rule.{membership, containment, linking, intersection}
 use Rattle.members.specs.Places.{isPerson, personAt, roleAt}
+use Rattle.members.specs.Above.{withGoal}
 use Rattle.members.specs.Trying.{mayUse, provedPremises, provesBy}
 use Rattle.members.specs.Members.{Members, askedCell, lesser, linkCell, listed, padded, rolesAsked, rowCell, within}
 use Rattle.members.proofs.Places.{is-person, role-defined, person-stands, role-few, role-stands}
 use Rattle.members.proofs.Stepping.{any-mono, proves-by-mono}
 use Rattle.members.proofs.ByKind.{any-same, by-membership, by-middles, by-parts, byMiddle, middleRole}
+use Rattle.members.specs.declared.above.Above.{Above}
 use Rattle.search.specs.Search.{Searched, Stands, Tried, goalAt, proves, provesAt, stepped}
 
 -- what the search proves with so many levels left, below a branch, from state sets s
 module _ (t : List ℕ) (S A : ℕ) where
   -- what the search proves, members by levels have
-  proves-within : (levels above : ℕ) (s : StateSets) (g : Goal) → proves t S A levels above s g ≡ true
+  pub proves-within : (levels : ℕ) (above : Above) (s : StateSets) (g : Goal) → proves t S A levels above s g ≡ true
       → within t S levels g ≡ true
   unfolding proves within
   proves-within zero above s g h = h
   proves-within (suc levels) above s g h =
       let below = stepped t A (g .role) s in
-      let deeper = bitOr above (2 ^ roleAt t (g .role)) in
+      let deeper = withGoal t above g in
       any-mono _ _ (credentials t) (λ c l both.
       and-both (and-first _ _ both)
       (proves-by-mono (proves t S A levels deeper below) (within t S levels) (proves-within levels deeper below)
@@ -52,7 +54,7 @@ module _ (t : List ℕ) (S A : ℕ) where
       (and-second _ _ h)
 
   -- a role that nobody defines has no member
-  undefined-unproved : (levels above : ℕ) (s : StateSets) (g : Goal) → credentials t ≤ roleAt t (g .role)
+  undefined-unproved : (levels : ℕ) (above : Above) (s : StateSets) (g : Goal) → credentials t ≤ roleAt t (g .role)
       → proves t S A levels above s g ≡ false
   unfolding proves mayUse
   undefined-unproved zero above s g beyond = refl
@@ -63,7 +65,7 @@ module _ (t : List ℕ) (S A : ℕ) where
       omega arith)
 
   -- the principal at `person` in a role, by the role's place
-  pub proves-at : (levels above : ℕ) (s : StateSets) (person : ℕ) (r : Role)
+  pub proves-at : (levels : ℕ) (above : Above) (s : StateSets) (person : ℕ) (r : Role)
       → provesAt t S A levels above s person (roleAt t r)
       ≡ proves t S A levels above s (goal (principal (credential t (suc person) .first)) r)
   unfolding provesAt
@@ -78,7 +80,7 @@ module _ (t : List ℕ) (S A : ℕ) where
           ∙ sym (undefined-unproved levels above s (goal (principal (credential t (suc person) .first)) r) (omega arith))
 
   -- what the row does not have is not proved
-  module _ {levels last : ℕ} {rows : List ℕ} (members : Members t S levels last rows) (above : ℕ) (s : StateSets) where
+  module _ {levels last : ℕ} {rows : List ℕ} (members : Members t S levels last rows) (above : Above) (s : StateSets) where
     pub unnamed-unproved : (g : Goal) → credentials t ≤ personAt t (g .principal .0) → proves t S A levels above s g ≡ false
     unfolding listed
     unnamed-unproved g beyond =
@@ -107,7 +109,7 @@ searched-fewer levels′ fewer searched =
       wellFormed = searched .wellFormed;
       indexed = searched .indexed;
       members =
-          record { room = members .room; few = members .few; every = λ k l g h. members .every k (omega arith) g h };
+          record { room = members .room; few = members .few; every = λ k l g h. members .every k (omega arith) g h; only = λ k l g h. members .only k (omega arith) g h };
     }
 
 -- a principal with a place, and any role
@@ -122,7 +124,7 @@ stands-at t person r there named =
     }
 
 -- what is said of a goal by its places
-module _ (t : List ℕ) (S A levels above : ℕ) (s : StateSets) (person place : ℕ) where
+module _ (t : List ℕ) (S A levels : ℕ) (above : Above) (s : StateSets) (person place : ℕ) where
   pub level-none : levels ≡ 0 → false ≡ provesAt t S A levels above s person place
   unfolding provesAt proves
   level-none nothing = rw nothing (sym (and-none (ltb place (credentials t)) refl))
@@ -139,7 +141,7 @@ module _ (t : List ℕ) (S A levels above : ℕ) (s : StateSets) (person place :
       (sym (stands .first there)) (rw the-row at (failed e off)))
 
 -- credential i + 1 proves its own goal
-abbrev pub provesOwn : List ℕ → ℕ → ℕ → ℕ → ℕ → StateSets → Bool → ℕ → ℕ → Bool
+abbrev pub provesOwn : List ℕ → ℕ → ℕ → ℕ → Above → StateSets → Bool → ℕ → ℕ → Bool
 provesOwn t S A levels above s word person i = provesBy t (proves t S A levels above s) word (goalAt t person i) (suc i)
 
 -- where a test says which goals are proved, by places: the principal is not in role k of those that credential i + 1 asks; the
@@ -186,7 +188,7 @@ module _ {t index rows : List ℕ} {S levels last : ℕ} (searched : Searched t 
   own =
       and-both (eq-eqb (credential t (suc i) .role .owner .0) _ refl) (eq-eqb (credential t (suc i) .role .name .0) _ refl)
 
-  module _ (A above : ℕ) (s : StateSets) where
+  module _ (A : ℕ) (above : Above) (s : StateSets) where
     abbrev one : Goal → Bool
     one = proves t S A levels above s
 

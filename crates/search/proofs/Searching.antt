@@ -1,6 +1,6 @@
 -- The search decides `Provable`: it finds a derivation exactly where there is one that uses only credentials of the set and whose
 -- words every demanded automaton accepts. That it tries only principals whom a simple membership names as middles loses nothing
--- (Naming.antt), nor that it keeps the roles of a branch as a set of places.
+-- (Naming.antt), nor that it keeps the branch as pairs of places (members, proofs/Branching.antt).
 use mathlib.Core.Path.{_≡_, refl, sym, _∙_}
 use mathlib.Core.List.{List, [], _∷_, _++_}
 use mathlib.Core.Bool.{Bool, true, false, not}
@@ -33,15 +33,18 @@ use Rattle.derivation.specs.Forest.{Derives, Forest, names}
 use Rattle.derivation.specs.Forest.Forest.{end, node}
 use Rattle.derivation.specs.Forest.Derives.{done, step}
 use Rattle.derivation.specs.Words.{acceptsAll, words}
-use Rattle.members.specs.Places.{isPerson, roleAt}
+use Rattle.members.specs.Places.{isPerson}
+use Rattle.members.specs.Above.{isAbove, nothingAbove, withGoal}
+use Rattle.members.specs.declared.above.Above.{Above}
 use Rattle.members.specs.Trying.{everyGoal, mayUse, provedPremises, provesBy}
-use Rattle.members.proofs.Places.{place-same, role-defined, same-place}
+use Rattle.members.proofs.Places.{role-defined}
+use Rattle.members.proofs.Branching.{HasPlace, OnBranch, on-next, on-none}
 use Rattle.search.specs.Search.{Provable, UsesOnly, provable, proves, stepped}
 use Rattle.derivation.proofs.Applying.{applies-numbered, applies-role, asks-more, picked}
 use Rattle.derivation.proofs.Ruling.{asks-nothing}
 use Rattle.derivation.proofs.Using.{placed}
 use Rattle.derivation.proofs.Running.{accepting-member, accepts-all-append, sets-after-next, sets-after-none, setsAfter}
-use Rattle.search.proofs.Naming.{IsMiddle, middle-tried, tried-proves}
+use Rattle.search.proofs.Naming.{IsMiddle, goal-named, middle-tried, tried-proves}
 use Rattle.search.proofs.Within.{only-below, only-here, only-later, only-node}
 
 -- an automaton that the table does not have starts in no state, so it accepts no word
@@ -91,49 +94,6 @@ module _ (t : List ℕ) (wf : WellFormed t) (A : ℕ) (s : StateSets) (word : Li
   one-word-demanded : AllAccept t A (word ∷ []) → part A (acceptingSet t s) ≡ true
   one-word-demanded all = part-shown A _ (λ k h. led-accepts k h ∙ all k h)
 
--- a set of places has just the roles that stand on the branch
-abbrev pub OnBranch : List ℕ → List Goal → ℕ → Type 0
-OnBranch t branch above =
-    (g : Goal) → roleAt t (g .role) < credentials t → fresh branch g ≡ not (inSet above (roleAt t (g .role)))
-
-pub on-none : (t : List ℕ) → OnBranch t [] 0
-unfolding fresh
-on-none t g there = rw (inSet-zero (roleAt t (g .role)))
-
--- two roles, the second of which is defined, are the same exactly where they stand at one place
-same-eqb : (t : List ℕ) (r s : Role) → roleAt t s < credentials t → sameRole r s ≡ eqb (roleAt t r) (roleAt t s)
-unfolding sameRole
-same-eqb t r s there =
-    same-test _ _ (λ same. eq-eqb _ _ (same-place t r s same))
-    (λ e.
-    let at = eqb-true (roleAt t r) (roleAt t s) e in
-    let same = place-same t r s at (rw at there) in
-    rw same (and-both (eq-eqb (s .owner .0) (s .owner .0) refl) (eq-eqb (s .name .0) (s .name .0) refl)))
-
-pub on-next : (t : List ℕ) (branch : List Goal) (above : ℕ) (g : Goal) → OnBranch t branch above
-    → OnBranch t (g ∷ branch) (bitOr above (2 ^ roleAt t (g .role)))
-unfolding fresh _and_ _or_
-on-next t branch above g on h there =
-    rw (
-      inSet-or above (2 ^ roleAt t (g .role)) (roleAt t (h .role)),
-      inSet-pow (roleAt t (g .role)) (roleAt t (h .role)),
-      same-eqb t (g .role) (h .role) there,
-      on h there,
-    )
-    (apart (inSet above (roleAt t (h .role))) (eqb (roleAt t (g .role)) (roleAt t (h .role))))
-  where
-    apart : (a b : Bool) → (not b and not a) ≡ not (a or b)
-    apart true true = refl
-    apart true false = refl
-    apart false true = refl
-    apart false false = refl
-
--- the role of a goal that a credential of the table may prove is defined
-used-defined : (t : List ℕ) (S : ℕ) (g : Goal) (c : ℕ) → c < credentials t → mayUse t S g (suc c) ≡ true
-    → roleAt t (g .role) < credentials t
-unfolding mayUse
-used-defined t S g c there h = role-defined t (g .role) c there (and-second _ _ h)
-
 module _ (t : List ℕ) (A : ℕ) (ws more : List (List Role)) where
   pub accept-both : AllAccept t A ws → AllAccept t A more → AllAccept t A (ws ++ more)
   accept-both here later k h = accepts-all-append t (suc k) ws more ∙ and-both (here k h) (later k h)
@@ -168,6 +128,18 @@ words-split t wf A g c m goals applies w children siblings all =
     let own = nodeWords t goals (w ++ (g .role ∷ [])) children in
     let both = rw (node-words t wf g c m goals applies w children siblings) at all in
     (accept-first t A own (words t w siblings) both, accept-second t A own (words t w siblings) both)
+
+-- a goal that is derived through a credential has a place: the credential defines its role, and some simple membership names its
+-- principal
+pub has-place : {t : List ℕ} → WellFormed t → {levels : ℕ} {branch : List Goal} {f : Forest} (g : Goal) (c m : ℕ) (goals : List Goal)
+    → premises t g c m ≡ some goals → Derives t levels branch goals f → HasPlace t g
+unfolding premises
+has-place {t} wf g c m goals applies d =
+    let at = placed (applies-numbered t g c m goals applies) in
+    record {
+      defined = role-defined t (g .role) (c - 1) (at .0) (rw (at .1) (and-second _ _ (picked _ _ goals applies .0)));
+      named = goal-named wf g c m goals applies d;
+    }
 
 -- with so many levels left, below a branch whose roles are the word w: a derivation of the goals that uses only credentials of
 -- S, and each automaton of A accepts its words
@@ -217,7 +189,7 @@ module _ (t : List ℕ) (wf : WellFormed t) (S A : ℕ) where
       (every-shown levels branch w one each goals (and-second _ _ h))
 
   -- through a credential of the set, where the goals that it asks are shown, and where it asks nothing the word is accepted
-  module _ (levels : ℕ) (branch : List Goal) (w : List Role) (g : Goal) (c : ℕ) (new : fresh branch g ≡ true)
+  module _ (levels : ℕ) (branch : List Goal) (w : List Role) (g : Goal) (c : ℕ) (new : HasPlace t g → fresh branch g ≡ true)
       (own : inSet S (c - 1) ≡ true) where
     module _ (one : Goal → Bool)
         (each : (h : Goal) → one h ≡ true → Shown t S A levels (g ∷ branch) (w ++ (g .role ∷ [])) (h ∷ [])) (word : Bool)
@@ -227,12 +199,12 @@ module _ (t : List ℕ) (wf : WellFormed t) (S A : ℕ) where
       unfolding provedPremises nodeWords pick names
       premises-shown m none applies h = absurd (false-true h)
       premises-shown m (some []) applies h =
-          shown-node levels branch w g c m [] [] applies new own end done (λ x named. absurd (false-true named)) (ended h)
+          shown-node levels branch w g c m [] [] applies (new (has-place wf g c m [] applies (done {levels = levels} {branch = g ∷ branch}))) own end done (λ x named. absurd (false-true named)) (ended h)
           (shown-none (suc levels) branch w)
       premises-shown m (some (asked ∷ goals)) applies h =
           let nonzero = ne-eqb (suc (length goals)) 0 (λ e. omega arith) in
           let below = every-shown levels (g ∷ branch) (w ++ (g .role ∷ [])) one each (asked ∷ goals) (rw nonzero at h) in
-          shown-node levels branch w g c m (asked ∷ goals) [] applies new own
+          shown-node levels branch w g c m (asked ∷ goals) [] applies (new (has-place wf g c m (asked ∷ goals) applies (below .derives))) own
           (below .forest) (below .derives) (below .usesOnly) (rw nonzero (below .accepted)) (shown-none (suc levels) branch w)
 
       through-shown : provesBy t one word g c ≡ true → Shown t S A (suc levels) branch w (g ∷ [])
@@ -249,9 +221,9 @@ module _ (t : List ℕ) (wf : WellFormed t) (S A : ℕ) where
               premises-shown _ _ refl (and-second _ _ (by .2))
           go false found = premises-shown 0 (premises t g c 0) refl found
 
-  -- what the search finds is shown; roles stand on the branch at the places `above`, and the automata have come to the state sets s
-  -- along the word w
-  proves-shown : (levels : ℕ) (branch : List Goal) (above : ℕ) → OnBranch t branch above
+  -- what the search finds is shown; the pairs `above` are those of the branch, and the automata have come to the state sets s along
+  -- the word w
+  proves-shown : (levels : ℕ) (branch : List Goal) (above : Above) → OnBranch t branch above
       → (w : List Role) (s : StateSets) → Led t A s w
       → (g : Goal) → proves t S A levels above s g ≡ true → Shown t S A levels branch w (g ∷ [])
   unfolding proves mayUse
@@ -261,19 +233,18 @@ module _ (t : List ℕ) (wf : WellFormed t) (S A : ℕ) where
       let word = w ++ (g .role ∷ []) in
       let below = stepped t A (g .role) s in
       let after = led-on t A s w (g .role) led in
-      let deeper = bitOr above (2 ^ roleAt t (g .role)) in
-      let defined = used-defined t S g (by .0) (by .1) (and-first _ _ (by .2)) in
-      through-shown levels branch w g (suc (by .0)) (on g defined ∙ and-first _ _ h) (and-first _ _ (and-first _ _ (by .2)))
+      let deeper = withGoal t above g in
+      through-shown levels branch w g (suc (by .0)) (λ there. on .same g there ∙ and-first _ _ h) (and-first _ _ (and-first _ _ (by .2)))
       (proves t S A levels deeper below)
-      (proves-shown levels (g ∷ branch) deeper (on-next t branch above g on) word below after)
+      (proves-shown levels (g ∷ branch) deeper (on-next t (wf .sized .counted .fewCredentials) branch above g on) word below after)
       (part A (acceptingSet t below)) (one-word t wf A below word after)
       (and-second _ _ (by .2))
 
   -- a goal is proved through a credential of the set that applies to it, once its premises are
-  proves-through : (levels : ℕ) (above : ℕ) (s : StateSets) (g : Goal) (c m : ℕ) (goals : List Goal)
-      → premises t g c m ≡ some goals → not (inSet above (roleAt t (g .role))) ≡ true → inSet S (c - 1) ≡ true → IsMiddle t c m
+  proves-through : (levels : ℕ) (above : Above) (s : StateSets) (g : Goal) (c m : ℕ) (goals : List Goal)
+      → premises t g c m ≡ some goals → not (isAbove t above g) ≡ true → inSet S (c - 1) ≡ true → IsMiddle t c m
       → let below = stepped t A (g .role) s in
-      let each = everyGoal (proves t S A levels (bitOr above (2 ^ roleAt t (g .role))) below) goals in
+      let each = everyGoal (proves t S A levels (withGoal t above g) below) goals in
       pick (eqb (length goals) 0) (part A (acceptingSet t below)) each ≡ true
       → proves t S A (suc levels) above s g ≡ true
   unfolding proves mayUse provedPremises premises
@@ -295,21 +266,14 @@ module _ (t : List ℕ) (wf : WellFormed t) (S A : ℕ) where
       let nonzero = ne-eqb (suc (length goals)) 0 (λ e. omega arith) in
       rw nonzero (below (rw nonzero at all))
 
-  -- the role of a goal to which a credential applies is defined
-  pub applies-defined : (g : Goal) (c m : ℕ) (goals : List Goal) → premises t g c m ≡ some goals → roleAt t (g .role) < credentials t
-  unfolding premises
-  applies-defined g c m goals applies =
-      let at = placed (applies-numbered t g c m goals applies) in
-      role-defined t (g .role) (c - 1) (at .0) (rw (at .1) (and-second _ _ (picked _ _ goals applies .0)))
-
   -- what a forest derives is found, below any branch, set of places, word and state sets that belong together
   abbrev Found : ℕ → List Goal → List Goal → Forest → Type 0
   Found levels branch goals f =
-      (above : ℕ) → OnBranch t branch above → (w : List Role) (s : StateSets) → Led t A s w → AllAccept t A (words t w f)
+      (above : Above) → OnBranch t branch above → (w : List Role) (s : StateSets) → Led t A s w → AllAccept t A (words t w f)
       → everyGoal (proves t S A levels above s) goals ≡ true
 
   -- a node is found, once what it asks is
-  node-proves : {levels : ℕ} {branch goals : List Goal} {f : Forest} (above : ℕ) → OnBranch t branch above
+  node-proves : {levels : ℕ} {branch goals : List Goal} {f : Forest} (above : Above) → OnBranch t branch above
       → (w : List Role) (s : StateSets) (g : Goal) (c m : ℕ)
       → premises t g c m ≡ some goals → fresh branch g ≡ true → inSet S (c - 1) ≡ true → Derives t levels (g ∷ branch) goals f
       → Led t A s w → AllAccept t A (nodeWords t goals (w ++ (g .role ∷ [])) f)
@@ -319,10 +283,10 @@ module _ (t : List ℕ) (wf : WellFormed t) (S A : ℕ) where
       let word = w ++ (g .role ∷ []) in
       let below = stepped t A (g .role) s in
       let after = led-on t A s w (g .role) led in
-      let deeper = bitOr above (2 ^ roleAt t (g .role)) in
-      proves-through levels above s g c m goals applies (sym (on g (applies-defined g c m goals applies)) ∙ new) own
+      let deeper = withGoal t above g in
+      proves-through levels above s g c m goals applies (sym (on .same g (has-place wf g c m goals applies d)) ∙ new) own
       (middle-tried wf g c m goals applies d)
-      (node-accepted goals _ below word f after all (each deeper (on-next t branch above g on) word below after))
+      (node-accepted goals _ below word f after all (each deeper (on-next t (wf .sized .counted .fewCredentials) branch above g on) word below after))
 
   -- what is derived is found
   pub derived-proves : {levels : ℕ} {branch goals : List Goal} {f : Forest} → Derives t levels branch goals f → UsesOnly f S
@@ -342,10 +306,10 @@ module _ (t : List ℕ) (wf : WellFormed t) (q : Query) where
   unfolding provable everyGoal
   provable-exact S A = (
     (λ h.
-        let found = proves-shown t wf S A (q .depth) [] 0 (on-none t) [] (startingSets t) starts (goalOf q) h in
+        let found = proves-shown t wf S A (q .depth) [] nothingAbove (on-none t) [] (startingSets t) starts (goalOf q) h in
         record { forest = found .forest; derives = found .derives; usesOnly = found .usesOnly; accepted = found .accepted }),
     (λ h.
-        let all = derived-proves t wf S A (h .derives) (h .usesOnly) 0 (on-none t) [] (startingSets t) starts (h .accepted) in
+        let all = derived-proves t wf S A (h .derives) (h .usesOnly) nothingAbove (on-none t) [] (startingSets t) starts (h .accepted) in
         and-first _ _ all),
   )
     where

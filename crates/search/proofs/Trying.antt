@@ -22,36 +22,38 @@ use Rattle.automata.specs.Together.{acceptingSet}
 use Rattle.automata.specs.declared.StateSets.{StateSets}
 use Rattle.derivation.specs.Rules.{goal}
 use Rattle.members.specs.Places.{isPerson, roleAt}
+use Rattle.members.specs.Above.{isAbove, pairAbove, withGoal, withPair}
 use Rattle.members.specs.Trying.{mayUse, provesBy}
 use Rattle.members.specs.Members.{Indexed, askedCell, lesser, linkCell, roleCell, rowCell}
 use Rattle.members.specs.Levels.{askedMask, askedMembers}
-use Rattle.members.proofs.Places.{place-same, same-place}
+use Rattle.members.proofs.Places.{is-person, place-same, same-place}
 use Rattle.search.proofs.Placing.{cell-middles, cell-parts, first-cell, linkedRole, middle-unlisted, middleTried}
 use Rattle.search.proofs.Placing.{part-cell, part-unlisted, partMissed, partRole, provesOwn, second-cell, stands-at}
+use Rattle.members.specs.declared.above.Above.{Above}
 use Rattle.search.specs.Search.{Searched, Stands, Tried, askedBefore, goalAt, proves, provesAt, provesWith, stepped, usable}
 
 -- levels are left: the goal is decided one level further down
-step-down : (t : List ℕ) (S A levels above : ℕ) (s : StateSets) (g : Goal) → (levels ≡ 0 → ⊥)
+step-down : (t : List ℕ) (S A levels : ℕ) (above : Above) (s : StateSets) (g : Goal) → (levels ≡ 0 → ⊥)
     → let below = stepped t A (g .role) s in
-    let one = proves t S A (levels - 1) (bitOr above (2 ^ roleAt t (g .role))) below in
-    (not (inSet above (roleAt t (g .role))) and anyBelow (provesWith t S one (part A (acceptingSet t below)) g) (credentials t))
+    let one = proves t S A (levels - 1) (withGoal t above g) below in
+    (not (isAbove t above g) and anyBelow (provesWith t S one (part A (acceptingSet t below)) g) (credentials t))
     ≡ proves t S A levels above s g
 unfolding proves
 step-down t S A zero above s g left = absurd (left refl)
 step-down t S A (suc l) above s g left = rw (sub-one (suc l))
 
-module _ (t : List ℕ) (S A levels above : ℕ) (s : StateSets) (person place : ℕ) (stands : Stands t person place)
+module _ (t : List ℕ) (S A levels : ℕ) (above : Above) (s : StateSets) (person place : ℕ) (stands : Stands t person place)
     (there : place < credentials t) (left : levels ≡ 0 → ⊥) where
-  place-step : (not (inSet above place) and anyBelow (provesWith t S
-      (proves t S A (levels - 1) (bitOr above (2 ^ place)) (stepped t A (credential t (suc place) .role) s))
+  place-step : (not (pairAbove above person place) and anyBelow (provesWith t S
+      (proves t S A (levels - 1) (withPair above person place) (stepped t A (credential t (suc place) .role) s))
       (part A (acceptingSet t (stepped t A (credential t (suc place) .role) s))) (goalAt t person place)) (credentials t))
       ≡ provesAt t S A levels above s person place
-  unfolding provesAt _and_ proves
+  unfolding provesAt _and_ proves isAbove withGoal
   place-step =
       rw (lt-ltb place (credentials t) there)
-      (rw (stands .first there) at (step-down t S A levels above s (goalAt t person place) left))
+      (rw (stands .first there, is-person t person (stands .named) .1) at (step-down t S A levels above s (goalAt t person place) left))
 
-  pub place-again : inSet above place ≡ true → false ≡ provesAt t S A levels above s person place
+  pub place-again : pairAbove above person place ≡ true → false ≡ provesAt t S A levels above s person place
   place-again again = sym (and-is-off _ (ap not again)) ∙ place-step
 
 -- credential i + 1 may be used for the role at a place if it is allowed and defines the role
@@ -103,21 +105,21 @@ module _ {t index : List ℕ} (indexed : Indexed t index) {person place : ℕ} (
       pub next-unproved : anyBelow tried i ≡ false → by ≡ false → anyBelow tried (i + 1) ≡ false
       next-unproved before off = any-next tried i before (and-none _ (sym by-is ∙ off))
 
--- a goal is entered: a level is left, its role stands at a place that is not on the branch above, and branch and state sets are
--- one role on
-pub record Entered (t index rows : List ℕ) (S levels last A above deeper : ℕ) (s below : StateSets) (r : Role)
+-- a goal is entered: a level is left, its pair of principal and role is not on the branch above, and branch and state sets are one
+-- goal on
+pub record Entered (t index rows : List ℕ) (S levels last A : ℕ) (above deeper : Above) (s below : StateSets) (r : Role)
     (person place n : ℕ) : Type 0 where
   pub searched : Searched t index rows S levels last
   pub stands : Stands t person place
   pub there : place < credentials t
   pub left : levels ≡ 0 → ⊥
-  pub new : inSet above place ≡ false
+  pub new : pairAbove above person place ≡ false
   pub read : r ≡ credential t (suc place) .role
   pub moved : below ≡ stepped t A r s
-  pub deeper-is : deeper ≡ bitOr above (2 ^ place)
+  pub deeper-is : deeper ≡ withPair above person place
   pub all : n ≡ credentials t
 
-module _ {t index rows : List ℕ} {S levels last A above deeper : ℕ} {s below : StateSets} {r : Role}
+module _ {t index rows : List ℕ} {S levels last A : ℕ} {above deeper : Above} {s below : StateSets} {r : Role}
     {person place n : ℕ} (entered : Entered t index rows S levels last A above deeper s below r person place n) where
   -- credential c + 1 may be used for it and proves it
   abbrev tries : ℕ → Bool
@@ -197,7 +199,7 @@ mask-missed index rows level i person off =
     missed (λ k. inSet (askedMask index rows level i k) person) (sym each ∙ off)
 
 -- what is read of the index stands for it
-at-cell : (t : List ℕ) (S A levels above : ℕ) (s : StateSets) (person place cell : ℕ) {b : Bool} → place ≡ cell
+at-cell : (t : List ℕ) (S A levels : ℕ) (above : Above) (s : StateSets) (person place cell : ℕ) {b : Bool} → place ≡ cell
     → b ≡ provesAt t S A levels above s person place → b ≡ provesAt t S A levels above s person cell
 at-cell t S A levels above s person place cell read e = e ∙ ap (provesAt t S A levels above s person) read
 
@@ -209,7 +211,7 @@ module _ {t index rows : List ℕ} {S levels last : ℕ} (searched : Searched t 
   stands-part k l place e =
       rw (e, part-cell searched tried kind k l) (stands-at t person (partRole t i k) (tried .who) (tried .named))
 
-  module _ (A above : ℕ) (s : StateSets) where
+  module _ (A : ℕ) (above : Above) (s : StateSets) where
     abbrev misses : ℕ → Bool
     misses = partMissed index (provesAt t S A levels above s) person i
 
@@ -262,7 +264,7 @@ pub record Middle (t index rows : List ℕ) (S levels last person i row j first 
 
 -- no middle is left
 pub linked-none : {t index rows : List ℕ} {S levels last : ℕ} → Searched t index rows S levels last → {person i : ℕ}
-    → Tried t person i → credential t (suc i) .kind ≡ 3 → (A above : ℕ) (s : StateSets) (word : Bool) (j : ℕ) → j ≡ credentials t
+    → Tried t person i → credential t (suc i) .kind ≡ 3 → (A : ℕ) (above : Above) (s : StateSets) (word : Bool) (j : ℕ) → j ≡ credentials t
     → anyBelow (middleTried t index (provesAt t S A levels above s) person i) j ≡ false
     → false ≡ provesOwn t S A levels above s word person i
 linked-none searched tried kind A above s word j e none =
@@ -285,7 +287,7 @@ module _ {t index rows : List ℕ} {S levels last person i row j first second : 
         rw (middle .second-is, second-cell (middle .searched) (middle .tried) (middle .kind) j (middle .there) named)
         (stands-at t person (linkedRole t i j) (middle .tried .who) (middle .tried .named))
 
-  module _ (A above : ℕ) (s : StateSets) where
+  module _ (A : ℕ) (above : Above) (s : StateSets) where
     abbrev found : ℕ → ℕ → Bool
     found = provesAt t S A levels above s
 

@@ -7,10 +7,11 @@ use Rattle.sets.specs.Sets.{inSet}
 use Rattle.table.specs.declared.Goal.{Goal}
 use Rattle.automata.specs.Together.{deadSet}
 use Rattle.automata.specs.declared.StateSets.{StateSets}
+use Rattle.members.specs.declared.above.Above.{Above}
 use Rattle.search.specs.Search.{proves}
 
 -- where an automaton that is imposed is dead nothing is proved, whatever credentials, levels and branch there are
 abbrev pub NothingLost : Type 0
 NothingLost =
-    (t : List ℕ) (S A levels above : ℕ) (s : StateSets) (k : ℕ) → inSet A k ≡ true → inSet (deadSet t s) k ≡ true
+    (t : List ℕ) (S A levels : ℕ) (above : Above) (s : StateSets) (k : ℕ) → inSet A k ≡ true → inSet (deadSet t s) k ≡ true
     → (g : Goal) → proves t S A levels above s g ≡ false

@@ -1,12 +1,11 @@
 -- docs/DEFINITION.md, "The list": which memberships the credentials of a set can prove when every word must be accepted by each
 -- of some automata. `Provable` says it by derivations; `provable` decides it level by level, a goal through a credential and a
 -- credential through the goals of its premises (proofs/Searching.antt).
-use Prim.Native.Nat.{ℕ, zero, suc, _-_, _^_, _<_, _≤_}
+use Prim.Native.Nat.{ℕ, zero, suc, _-_, _<_, _≤_}
 use mathlib.Core.Path.{_≡_}
 use mathlib.Core.List.{List, [], _∷_}
 use mathlib.Core.Bool.{Bool, true, false, not}
 use lib.ListN.{getD}
-use lib.Bits.{bitOr}
 use lib.Dec.{eqb, ltb}
 use Rattle.sets.specs.Logic.{_and_, anyBelow, pick}
 use Rattle.table.specs.Layout.{credential, credentials, principal}
@@ -23,6 +22,8 @@ use Rattle.derivation.specs.Rules.{goal, goalOf}
 use Rattle.derivation.specs.Forest.{Derives, Forest, names}
 use Rattle.derivation.specs.Words.{acceptsAll, words}
 use Rattle.members.specs.Places.{isPerson, roleAt}
+use Rattle.members.specs.Above.{isAbove, nothingAbove, withGoal}
+use Rattle.members.specs.declared.above.Above.{Above}
 use Rattle.members.specs.Trying.{mayUse, provesBy}
 use Rattle.members.specs.Members.{Aimed, Indexed, Members, askedCell, roleCell}
 
@@ -58,25 +59,25 @@ steppedOn t A r s = record { states = stepped t A r s; dead = pick (eqb A 0) 0 (
 abbrev pub provesWith : List ℕ → ℕ → (Goal → Bool) → Bool → Goal → ℕ → Bool
 provesWith t S one word g = λ c. mayUse t S g (suc c) and provesBy t one word g (suc c)
 
--- with so many levels left, below a branch on which roles stand at the places `above`, and on whose words the automata have come
--- to the state sets s
-unfoldable pub proves : List ℕ → ℕ → ℕ → ℕ → ℕ → StateSets → Goal → Bool
+-- with so many levels left, below a branch on which the pairs `above` stand, and on whose words the automata have come to the
+-- state sets s
+unfoldable pub proves : List ℕ → ℕ → ℕ → ℕ → Above → StateSets → Goal → Bool
 proves t S A zero above s g = false
 proves t S A (suc levels) above s g =
     let below = stepped t A (g .role) s in
-    let one = proves t S A levels (bitOr above (2 ^ roleAt t (g .role))) below in
-    not (inSet above (roleAt t (g .role))) and
+    let one = proves t S A levels (withGoal t above g) below in
+    not (isAbove t above g) and
     anyBelow (provesWith t S one (part A (acceptingSet t below)) g) (credentials t)
 
 unfoldable pub provable : List ℕ → Query → ℕ → ℕ → Bool
-provable t q S A = proves t S A (q .depth) 0 (startingSets t) (goalOf q)
+provable t q S A = proves t S A (q .depth) nothingAbove (startingSets t) (goalOf q)
 
 -- the goal whose principal and role stand at these places
 abbrev pub goalAt : List ℕ → ℕ → ℕ → Goal
 goalAt t person place = goal (principal (credential t (suc person) .first)) (credential t (suc place) .role)
 
 -- the same for a goal by its places; a role that nobody defines stands behind the last credential
-unfoldable pub provesAt : List ℕ → ℕ → ℕ → ℕ → ℕ → StateSets → ℕ → ℕ → Bool
+unfoldable pub provesAt : List ℕ → ℕ → ℕ → ℕ → Above → StateSets → ℕ → ℕ → Bool
 provesAt t S A levels above s person place =
     ltb place (credentials t) and proves t S A levels above s (goalAt t person place)
 

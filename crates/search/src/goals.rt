@@ -4,6 +4,7 @@
 use crate::Terms;
 use automata::Moved;
 use automata::StateSets;
+use members::Above;
 use members::ROW;
 use sets::AutomatonSet;
 use sets::CredentialSet;
@@ -30,8 +31,8 @@ ghost use Rattle.members.specs.Members.{Indexed, Placed, askedCell, lesser, row
 ghost use Rattle.search.specs.Search;
 ghost use Rattle.search.specs.Search.{Searched, Stands, Tried, askedBefore, goalAt, proves, provesAt, usable};
 
-// The principal at `person` is proved to be in the role at `place`, with so many levels left, by some allowed credential. The roles
-// on the branch above stand at the places `above`. Where an imposed automaton is dead no word is accepted, so the branch is left.
+// The principal at `person` is proved to be in the role at `place`, with so many levels left, by some allowed credential, where the
+// pairs `above` stand on the branch. Where an imposed automaton is dead no word is accepted, so the branch is left.
 pub fn goal_search(
     table: &[Number],
     index: &[u8],
@@ -41,7 +42,7 @@ pub fn goal_search(
     place: usize,
     levels: usize,
     states: StateSets,
-    above: CredentialSet,
+    above: Above,
 ) -> bool
     requires { ⌜ Searched (now table) (now index) (now rows) (terms .allowed) levels (terms .last) ⌝ }
     requires { ⌜ Stands (now table) person place ⌝ }
@@ -57,7 +58,7 @@ pub fn goal_search(
     if !is_listed(rows, row_of(levels, terms.last), person, place) {
         return false;
     }
-    if sets::has(above, place) {
+    if above.has(person, place) {
         return false;
     }
     let role = role_of(table, place);
@@ -65,7 +66,7 @@ pub fn goal_search(
     if any_dead(terms.constraints, below.dead) {
         return false;
     }
-    let deeper = sets::with(above, place);
+    let deeper = above.with(person, place);
     let mut i = 0;
     while i < n {
         if may_use(index, terms.allowed, place, i) {
@@ -98,7 +99,7 @@ pub fn credential_search(
     i: usize,
     levels: usize,
     states: StateSets,
-    above: CredentialSet,
+    above: Above,
 ) -> bool
     requires { ⌜ Searched (now table) (now index) (now rows) (terms .allowed) levels (terms .last) ⌝ }
     requires { ⌜ Tried (now table) person i ⌝ }
@@ -157,7 +158,7 @@ fn parts_search(
     i: usize,
     levels: usize,
     states: StateSets,
-    above: CredentialSet,
+    above: Above,
 ) -> bool
     requires { ⌜ Searched (now table) (now index) (now rows) (terms .allowed) levels (terms .last) ⌝ }
     requires { ⌜ Tried (now table) person i ⌝ }
@@ -204,7 +205,7 @@ fn linked_search(
     i: usize,
     levels: usize,
     states: StateSets,
-    above: CredentialSet,
+    above: Above,
 ) -> bool
     requires { ⌜ Searched (now table) (now index) (now rows) (terms .allowed) levels (terms .last) ⌝ }
     requires { ⌜ Tried (now table) person i ⌝ }
@@ -301,7 +302,7 @@ pub fn row_of(levels: usize, last: usize) -> usize
 }
 
 // By the row, the principal at `person` is in the role at `place`.
-fn is_listed(rows: &[CredentialSet], row: usize, person: usize, place: usize) -> bool
+pub fn is_listed(rows: &[CredentialSet], row: usize, person: usize, place: usize) -> bool
     requires { ⌜ (length (now rows) ≡ tableCells) × (row ≤ 16) ⌝ }
     requires { ⌜ (person < 20) × (place ≤ 20) ⌝ }
     ensures { λ r. ⌜ r ≡ inSet (getD (now (rows .entry)) (rowCell row place) 0) person ⌝ }

@@ -14,6 +14,7 @@ pub use goals::may_use;
 pub use goals::role_of;
 pub use goals::row_of;
 pub use goals::stepped;
+use members::Above;
 use sets::AutomatonSet;
 use sets::CredentialSet;
 use table::Number;
@@ -34,7 +35,7 @@ pub struct Terms {
 
 // Whether some derivation of the queried membership uses only allowed credentials, and each of its words is accepted by each of
 // the automata `constraints`. The index is that of the table and the query (`members::index`), and the rows up to the last are the
-// table of members of the allowed credentials (`members::fill`).
+// table of members of the allowed credentials (`members::fill`), which tells it by itself where no automaton is imposed.
 fn provable(
     table: &[Number],
     query: Query,
@@ -50,15 +51,20 @@ fn provable(
     if layout::credentials(table) <= person {
         return false;
     }
+    let place = members::goal_role(index);
+    let levels = layout::wide(query.depth);
+    if terms.constraints == 0 {
+        return goals::is_listed(rows, goals::row_of(levels, terms.last), person, place);
+    }
     goals::goal_search(
         table,
         index,
         rows,
         terms,
         person,
-        members::goal_role(index),
-        layout::wide(query.depth),
+        place,
+        levels,
         StateSets::start(table),
-        0,
+        Above::nothing(),
     )
 }

@@ -44,7 +44,7 @@ pub data Stops (t : List ℕ) : ℕ → List Goal → List Goal → List ℕ →
   -- 13: it applies, and no level is left
   deep : {at c m : ℕ} {branch goals later : List Goal} {g : Goal} {rec : List ℕ}
       → premises t g c m ≡ some goals → Stops t 0 branch (g ∷ later) (c ∷ m ∷ rec) at 13 at
-  -- 13: it applies, and the goal's role is already on the branch
+  -- 13: it applies, and the goal's pair of principal and role is already on the branch
   again : {levels at c m : ℕ} {branch goals later : List Goal} {g : Goal} {rec : List ℕ}
       → premises t g c m ≡ some goals → fresh branch g ≡ false
       → Stops t (suc levels) branch (g ∷ later) (c ∷ m ∷ rec) at 13 at

@@ -15,7 +15,7 @@ pub data Entry : Type 0 where
   halt : (number : ℕ) → Entry
   ask : (credential middle : ℕ) (goals : List Goal) (rest : List ℕ) → Entry
 
--- `may`: a level is left for the node, and its role is not yet on the branch
+-- `may`: a level is left for the node, and its goal is not yet on the branch
 unfoldable pub admitted : Bool → ℕ → ℕ → List ℕ → Option (List Goal) → Entry
 admitted may c m rest none = halt 12
 admitted may c m rest (some goals) = pick may (ask c m goals rest) (halt 13)

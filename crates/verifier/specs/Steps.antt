@@ -14,7 +14,7 @@ use Rattle.verifier.specs.Reading.{Entry}
 use Rattle.verifier.specs.Reading.Entry.{ask, halt}
 use Rattle.verifier.specs.declared.reader.Step.{Step}
 
--- a node may be entered: a level is left, and its role is not yet on the branch
+-- a node may be entered: a level is left, and its goal is not yet on the branch
 unfoldable pub may : ℕ → List Goal → Goal → Bool
 may zero branch g = false
 may (suc levels) branch g = fresh branch g

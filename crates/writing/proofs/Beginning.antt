@@ -14,6 +14,7 @@ use Rattle.automata.specs.declared.StateSets.{StateSets}
 use Rattle.derivation.specs.Rules.{goal, goalOf}
 use Rattle.derivation.specs.Forest.{written}
 use Rattle.members.specs.Places.{personAt, roleAt}
+use Rattle.members.specs.Above.{nothingAbove}
 use Rattle.members.specs.Members.{Members, goalPerson, goalRole}
 use Rattle.members.proofs.Places.{person-stands, role-stands}
 use Rattle.search.specs.Search.{Prepared, Stands, goalAt, provable, provesAt}
@@ -37,19 +38,19 @@ module _ {t : List ℕ} {q : Query} {index rows : List ℕ} {S last : ℕ} (prep
   begins-stands = goal-stands prepared who named role-at
 
   module _ (depth : ℕ) (s : StateSets) (levels : depth ≡ q .depth) (starts : s ≡ startingSets t) where
-    pub begins-proved : provesAt t S A depth 0 s person place ≡ true
+    pub begins-proved : provesAt t S A depth nothingAbove s person place ≡ true
     begins-proved = goal-found prepared who named role-at S A depth s levels starts refl ∙ proved
 
     begins-goal : goalAt t person place ≡ goalOf q
     begins-goal =
         let at-person = who ∙ prepared .aimed .goalsPerson in
         let at-role = role-at ∙ prepared .aimed .goalsRole in
-        let there = place-there t S A depth 0 s person place begins-proved in
+        let there = place-there t S A depth nothingAbove s person place begins-proved in
         ap₂ goal
         (rw at-person (ap principal (person-stands t (q .principal .0) (rw at-person at named) .1)))
         (rw at-role (role-stands t (goalOf q .role) (rw at-role at there)))
 
     pub begins-walked : (most : ℕ) (before after : List ℕ) (next : ℕ)
-        → Walked 0 most (written (firstForest t S A depth 0 s (goalAt t person place ∷ []))) before after next
-        → Walked 0 most (written (firstForest t S A (q .depth) 0 (startingSets t) (goalOf q ∷ []))) before after next
+        → Walked 0 most (written (firstForest t S A depth nothingAbove s (goalAt t person place ∷ []))) before after next
+        → Walked 0 most (written (firstForest t S A (q .depth) nothingAbove (startingSets t) (goalOf q ∷ []))) before after next
     begins-walked most before after next walked = rw (levels, starts, begins-goal) at walked

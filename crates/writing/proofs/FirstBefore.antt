@@ -22,10 +22,13 @@ use Rattle.derivation.specs.Forest.Derives.{done, step}
 use Rattle.derivation.specs.Words.{acceptsAll, words}
 use Rattle.derivation.proofs.Applying.{applies-numbered, picked}
 use Rattle.members.specs.Trying.{mayUse, provedPremises, provesBy}
+use Rattle.members.specs.declared.above.Above.{Above}
 use Rattle.search.specs.Search.{UsesOnly}
 use Rattle.search.proofs.Naming.{middle-tried, tried-proves}
 use Rattle.search.proofs.Within.{only-below, only-here, only-later}
-use Rattle.search.proofs.Searching.{AllAccept, Led, OnBranch, derived-proves, led-on, nodeWords, node-accepted, on-next}
+use Rattle.members.proofs.Branching.{OnBranch, on-next}
+use Rattle.search.proofs.Searching.{AllAccept, Led, derived-proves, led-on, nodeWords, node-accepted}
+use Rattle.members.proofs.Branching.{OnBranch, on-next}
 use Rattle.search.proofs.Searching.{words-split}
 use Rattle.choice.specs.Choice.{asked}
 use Rattle.writing.specs.First.{firstForest}
@@ -41,7 +44,7 @@ unfolding asked
 same-asked t g applies e e′ = rw (e, e′, applies)
 
 -- another node of the same goal, with so many levels left below it
-module _ (t : List ℕ) (wf : WellFormed t) (S A levels above : ℕ) (s : StateSets) (g : Goal) (c m : ℕ) (goals : List Goal)
+module _ (t : List ℕ) (wf : WellFormed t) (S A levels : ℕ) (above : Above) (s : StateSets) (g : Goal) (c m : ℕ) (goals : List Goal)
     (applies : premises t g c m ≡ some goals) (own : inSet S (c - 1) ≡ true) where
   abbrev one : Goal → Bool
   one = provedBelow t S A levels above s g
@@ -76,7 +79,7 @@ module _ (t : List ℕ) (wf : WellFormed t) (S A : ℕ) where
   below-accepted word (step {rest = rest} applies new d later) all = rw (ne-eqb (suc (length rest)) 0 (λ e. omega arith)) at all
 
   -- another derivation's node proves what it asks
-  node-proved : {levels : ℕ} {branch goals : List Goal} {f : Forest} (above : ℕ) → OnBranch t branch above
+  node-proved : {levels : ℕ} {branch goals : List Goal} {f : Forest} (above : Above) → OnBranch t branch above
       → (w : List Role) (s : StateSets) (g : Goal) (c m : ℕ) → premises t g c m ≡ some goals → Derives t levels (g ∷ branch) goals f
       → UsesOnly f S → Led t A s w → AllAccept t A (nodeWords t goals (w ++ (g .role ∷ [])) f)
       → provedPremises (provedBelow t S A levels above s g) (wordEnds t S A levels above s g) (premises t g c m) ≡ true
@@ -84,10 +87,10 @@ module _ (t : List ℕ) (wf : WellFormed t) (S A : ℕ) where
   node-proved {branch = branch} above on w s g c m applies d only led all =
       let here = led-on t A s w (g .role) led in
       rw applies (node-accepted t wf S A _ _ _ (w ++ (g .role ∷ [])) _ here all
-      (derived-proves t wf S A d only _ (on-next t branch above g on) _ _ here))
+      (derived-proves t wf S A d only _ (on-next t (wf .sized .counted .fewCredentials) branch above g on) _ _ here))
 
   pub first-order : {levels : ℕ} {branch goals : List Goal} {f : Forest} → Derives t levels branch goals f → UsesOnly f S
-      → (above : ℕ) → OnBranch t branch above → (w : List Role) (s : StateSets) → Led t A s w → AllAccept t A (words t w f)
+      → (above : Above) → OnBranch t branch above → (w : List Role) (s : StateSets) → Led t A s w → AllAccept t A (words t w f)
       → Order (written (firstForest t S A levels above s goals)) (written f)
   unfolding written
   first-order (done {levels}) only above on w s led all = rw (first-end t S A levels above s) same
@@ -99,5 +102,6 @@ module _ (t : List ℕ) (wf : WellFormed t) (S A : ℕ) where
       rw (first-node t S A levels above s g rest)
       (node-order t wf S A levels above s g c m goals applies (only-here S c m ch si only) d
       (node-proved above on w s g c m applies d kept led here)
-      (first-order d kept _ (on-next t branch above g on) word _ (led-on t A s w (g .role) led) (below-accepted word d here))
+      (first-order d kept _ (on-next t (wf .sized .counted .fewCredentials) branch above g on) word _ (led-on t A s w (g .role) led)
+      (below-accepted word d here))
       (first-order later (only-later S c m ch si only) above on w s led after))

@@ -7,7 +7,6 @@ use mathlib.Core.Option.{some}
 use Prim.Native.Nat.{ℕ, zero, suc, _-_, _^_}
 use native.Mathlib.Omega.{arith}
 use lib.ListN.{length}
-use lib.Bits.{bitOr}
 use lib.Dec.{eqb}
 use borrow.Author.Tests.{ne-eqb}
 use Rattle.sets.specs.Logic.{anyBelow, pick}
@@ -20,8 +19,9 @@ use Rattle.automata.specs.declared.StateSets.{StateSets}
 use Rattle.derivation.specs.Rules.{premises}
 use Rattle.derivation.specs.Forest.{Forest}
 use Rattle.derivation.specs.Forest.Forest.{end, node}
-use Rattle.members.specs.Places.{roleAt}
+use Rattle.members.specs.Above.{isAbove, withGoal}
 use Rattle.members.specs.Trying.{everyGoal, provedPremises}
+use Rattle.members.specs.declared.above.Above.{Above}
 use Rattle.search.specs.Search.{proves, stepped}
 use Rattle.choice.specs.Choice.{asked, leastCredential, leastMiddle, provesWith}
 use Rattle.writing.specs.First.{eachFirst, firstForest}
@@ -35,15 +35,15 @@ every-proved one word [] h = refl
 every-proved one word (g ∷ goals) h = rw (ne-eqb (suc (length goals)) 0 (λ e. omega arith)) at h
 
 -- what the node of a goal is made of, with so many levels left below it
-module _ (t : List ℕ) (S A levels above : ℕ) (s : StateSets) (g : Goal) where
+module _ (t : List ℕ) (S A levels : ℕ) (above : Above) (s : StateSets) (g : Goal) where
   abbrev pub setsBelow : StateSets
   setsBelow = stepped t A (g .role) s
 
-  abbrev pub placesBelow : ℕ
-  placesBelow = bitOr above (2 ^ roleAt t (g .role))
+  abbrev pub pairsBelow : Above
+  pairsBelow = withGoal t above g
 
   abbrev pub provedBelow : Goal → Bool
-  provedBelow = proves t S A levels placesBelow setsBelow
+  provedBelow = proves t S A levels pairsBelow setsBelow
 
   abbrev pub wordEnds : Bool
   wordEnds = part A (acceptingSet t setsBelow)
@@ -58,7 +58,7 @@ module _ (t : List ℕ) (S A levels above : ℕ) (s : StateSets) (g : Goal) wher
   firstAsked = asked (premises t g firstCredential firstMiddle)
 
   abbrev pub firstBelow : List Goal → Forest
-  firstBelow = firstForest t S A levels placesBelow setsBelow
+  firstBelow = firstForest t S A levels pairsBelow setsBelow
 
   pub first-node : (rest : List Goal)
       → firstForest t S A (suc levels) above s (g ∷ rest)
@@ -87,15 +87,15 @@ module _ (t : List ℕ) (S A levels above : ℕ) (s : StateSets) (g : Goal) wher
     pub first-every : everyGoal provedBelow firstAsked ≡ true
     first-every = every-proved provedBelow wordEnds firstAsked first-proved
 
-    pub first-new : not (inSet above (roleAt t (g .role))) ≡ true
+    pub first-new : not (isAbove t above g) ≡ true
     unfolding proves
     first-new = and-first _ _ proved
 
-pub first-floor : (t : List ℕ) (S A above : ℕ) (s : StateSets) (goals : List Goal) → firstForest t S A zero above s goals ≡ end
+pub first-floor : (t : List ℕ) (S A : ℕ) (above : Above) (s : StateSets) (goals : List Goal) → firstForest t S A zero above s goals ≡ end
 unfolding firstForest
 first-floor t S A above s goals = refl
 
-pub first-end : (t : List ℕ) (S A levels above : ℕ) (s : StateSets) → firstForest t S A levels above s [] ≡ end
+pub first-end : (t : List ℕ) (S A levels : ℕ) (above : Above) (s : StateSets) → firstForest t S A levels above s [] ≡ end
 unfolding firstForest eachFirst
 first-end t S A zero above s = refl
 first-end t S A (suc levels) above s = refl

@@ -23,10 +23,11 @@ use Rattle.derivation.specs.Forest.Forest.{end, node}
 use Rattle.derivation.specs.Forest.Derives.{done, step}
 use Rattle.derivation.specs.Words.{acceptsAll, words}
 use Rattle.members.specs.Trying.{everyGoal}
+use Rattle.members.specs.declared.above.Above.{Above}
 use Rattle.search.specs.Search.{UsesOnly, proves}
 use Rattle.search.proofs.Within.{only-end, only-node}
-use Rattle.search.proofs.Searching.{AllAccept, Led, OnBranch, accept-both, applies-defined, led-on, nodeWords, node-words}
-use Rattle.search.proofs.Searching.{on-next, one-word}
+use Rattle.members.proofs.Branching.{OnBranch, on-next}
+use Rattle.search.proofs.Searching.{AllAccept, Led, accept-both, has-place, led-on, nodeWords, node-words, one-word}
 use Rattle.writing.specs.First.{firstForest}
 use Rattle.writing.proofs.FirstNode.{first-applies, first-end, first-every, first-new, first-node, first-own}
 use Rattle.writing.proofs.FirstNode.{first-proved, firstAsked, firstBelow, firstCredential, firstMiddle}
@@ -66,7 +67,7 @@ module _ (t : List ℕ) (wf : WellFormed t) (S A : ℕ) where
   -- what is proved with so many levels left is shown, below any branch, set of places, word and state sets that belong together
   abbrev pub AllShown : ℕ → Type 0
   AllShown levels =
-      (branch : List Goal) (above : ℕ) → OnBranch t branch above → (w : List Role) (s : StateSets) → Led t A s w
+      (branch : List Goal) (above : Above) → OnBranch t branch above → (w : List Role) (s : StateSets) → Led t A s w
       → (goals : List Goal) → everyGoal (proves t S A levels above s) goals ≡ true
       → Shows t S A levels branch w goals (firstForest t S A levels above s goals)
 
@@ -76,7 +77,7 @@ module _ (t : List ℕ) (wf : WellFormed t) (S A : ℕ) where
   none-left branch above on w s led (g ∷ goals) h = absurd (false-true (and-first _ _ h))
 
   -- a goal that is proved, beside what follows
-  goal-shows : (levels : ℕ) → AllShown levels → {branch rest : List Goal} {f : Forest} (above : ℕ) → OnBranch t branch above
+  goal-shows : (levels : ℕ) → AllShown levels → {branch rest : List Goal} {f : Forest} (above : Above) → OnBranch t branch above
       → (w : List Role) (s : StateSets) → Led t A s w → (g : Goal) → proves t S A (suc levels) above s g ≡ true
       → Shows t S A (suc levels) branch w rest f
       → Shows t S A (suc levels) branch w (g ∷ rest)
@@ -86,9 +87,9 @@ module _ (t : List ℕ) (wf : WellFormed t) (S A : ℕ) where
       let word = w ++ (g .role ∷ []) in
       let here = led-on t A s w (g .role) led in
       let applies = first-applies t S A levels above s g h in
-      let new = on g (applies-defined t wf S A g _ _ _ applies) ∙ first-new t S A levels above s g h in
       let every = first-every t S A levels above s g h in
-      let below = inside (g ∷ branch) _ (on-next t branch above g on) word _ here _ every in
+      let below = inside (g ∷ branch) _ (on-next t (wf .sized .counted .fewCredentials) branch above g on) word _ here _ every in
+      let new = on .same g (has-place wf g _ _ _ applies (below .derives)) ∙ first-new t S A levels above s g h in
       shows-node w g _ _ applies new (first-own t S A levels above s g h) below
       (words-proved _ _ _ word _ here (first-proved t S A levels above s g h) (below .accepted)) after
 

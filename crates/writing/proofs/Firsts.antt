@@ -26,7 +26,9 @@ use Rattle.verifier.specs.Verdict.{verdict}
 use Rattle.verifier.proofs.DemandTwo.{demand-two}
 use Rattle.members.specs.Trying.{everyGoal}
 use Rattle.search.specs.Search.{UsesOnly, provable}
-use Rattle.search.proofs.Searching.{AllAccept, Led, on-none, provable-by}
+use Rattle.members.specs.Above.{nothingAbove}
+use Rattle.members.proofs.Branching.{on-none}
+use Rattle.search.proofs.Searching.{AllAccept, Led, provable-by}
 use Rattle.search.proofs.Admitting.{accepts-complies, part-used, used-part, used-shows}
 use Rattle.listing.specs.Minimal.{isMinimal}
 use Rattle.listing.specs.Demands.{Minimal}
@@ -67,12 +69,12 @@ module _ (t : List ℕ) (wf : WellFormed t) (q : Query) (valid : Valid q) (S : �
         provable-by t wf q S (automataOf t S) (a .derives) (uses-only t q rec S a) (meets-all t q rec S a)
 
     abbrev theForest : Forest
-    theForest = firstForest t S (automataOf t S) (q .depth) 0 (startingSets t) (goalOf q ∷ [])
+    theForest = firstForest t S (automataOf t S) (q .depth) nothingAbove (startingSets t) (goalOf q ∷ [])
 
     first-shown : Shows t S (automataOf t S) (q .depth) [] [] (goalOf q ∷ []) theForest
     unfolding provable everyGoal
     first-shown =
-        first-shows t wf S (automataOf t S) (q .depth) [] 0 (on-none t) [] (startingSets t) (starts t (automataOf t S))
+        first-shows t wf S (automataOf t S) (q .depth) [] nothingAbove (on-none t) [] (startingSets t) (starts t (automataOf t S))
         (goalOf q ∷ []) (and-both proved refl)
 
     first-accepted : Accepted t q (firstRecord t q S) (usedSet theForest)
@@ -97,7 +99,7 @@ module _ (t : List ℕ) (wf : WellFormed t) (q : Query) (valid : Valid q) (S : �
     unfolding firstRecord
     first-before rec a =
         rw (a .whole) at
-        (first-order t wf S (automataOf t S) (a .derives) (uses-only t q rec S a) 0 (on-none t) [] (startingSets t)
+        (first-order t wf S (automataOf t S) (a .derives) (uses-only t q rec S a) nothingAbove (on-none t) [] (startingSets t)
         (starts t (automataOf t S)) (meets-all t q rec S a))
 
     pub first-is : First t q S (firstRecord t q S)

@@ -9,7 +9,6 @@ use native.Mathlib.Decide.{decLt, ℕ-discrete}
 use native.Mathlib.Numerals.{add-one}
 use lib.ListN.{drop, getD, length, length-append, length-set, set, take, take-append-drop}
 use lib.Seq.{getD-set-other, getD-set-same, take-all, take-suc}
-use lib.Bits.{bitOr}
 use Rattle.sets.specs.Logic.{anyBelow}
 use Rattle.sets.specs.Sets.{part}
 use Rattle.sets.proofs.Tests.{false-true}
@@ -20,7 +19,10 @@ use Rattle.automata.specs.declared.StateSets.{StateSets}
 use Rattle.derivation.specs.Rules.{premises}
 use Rattle.derivation.specs.Held.{noGoal}
 use Rattle.derivation.specs.Forest.{written}
-use Rattle.members.specs.Places.{roleAt}
+use Rattle.members.specs.Above.{withGoal, withPair}
+use Rattle.members.specs.Places.{personAt, roleAt}
+use Rattle.members.proofs.Places.{is-person}
+use Rattle.members.specs.declared.above.Above.{Above}
 use Rattle.search.specs.Search.{Searched, Stands, goalAt, proves, provesAt, provesWith, stepped}
 use Rattle.search.proofs.Placing.{level-none, place-none, proves-at}
 use Rattle.choice.specs.declared.Node.{Node}
@@ -32,7 +34,7 @@ use Rattle.writing.proofs.FirstNode.{firstCredential, firstMiddle}
 use Rattle.writing.proofs.Walking.{first-append, over-append, walked-append, walked-beyond}
 
 -- what the chosen node of a goal asks, where `one` and `word` are those below it
-abbrev pub nodeAsks : List ℕ → ℕ → ℕ → ℕ → ℕ → StateSets → Goal → List Goal
+abbrev pub nodeAsks : List ℕ → ℕ → ℕ → ℕ → Above → StateSets → Goal → List Goal
 nodeAsks t S A levels above s g =
     let one = proves t S A levels above s in
     let word = part A (acceptingSet t s) in
@@ -40,14 +42,15 @@ nodeAsks t S A levels above s g =
     asked (premises t g c (leastMiddle t one word g c))
 
 -- a goal whose node is to be chosen: it is proved, and branch and state sets are one role on
-pub record Entered (t index rows : List ℕ) (S A levels last above deeper : ℕ) (s below : StateSets) (person place : ℕ) : Type 0 where
+pub record Entered (t index rows : List ℕ) (S A levels last : ℕ) (above deeper : Above) (s below : StateSets)
+    (person place : ℕ) : Type 0 where
   pub searched : Searched t index rows S levels last
   pub stands : Stands t person place
   pub proved : provesAt t S A levels above s person place ≡ true
   pub moved : below ≡ stepped t A (credential t (suc place) .role) s
-  pub deeper-is : deeper ≡ bitOr above (2 ^ place)
+  pub deeper-is : deeper ≡ withPair above person place
 
-module _ (t : List ℕ) (S A levels above : ℕ) (s : StateSets) (person place : ℕ)
+module _ (t : List ℕ) (S A levels : ℕ) (above : Above) (s : StateSets) (person place : ℕ)
     (proved : provesAt t S A levels above s person place ≡ true) where
   pub level-left : 1 ≤ levels
   level-left = go (ℕ-discrete levels 0)
@@ -63,7 +66,7 @@ module _ (t : List ℕ) (S A levels above : ℕ) (s : StateSets) (person place :
       go (yes l) = l
       go (no beyond) = absurd (false-true (place-none t S A levels above s person place (omega arith) ∙ proved))
 
-first-written : (t : List ℕ) (S A levels above : ℕ) (s : StateSets) (g : Goal)
+first-written : (t : List ℕ) (S A levels : ℕ) (above : Above) (s : StateSets) (g : Goal)
     → written (firstForest t S A (suc levels) above s (g ∷ []))
     ≡ firstCredential t S A levels above s g ∷ firstMiddle t S A levels above s g
     ∷ written (firstBelow t S A levels above s g (firstAsked t S A levels above s g))
@@ -71,7 +74,7 @@ unfolding written
 first-written t S A levels above s g =
     rw (first-node t S A levels above s g [], first-end t S A (suc levels) above s, append-nil)
 
-module _ {t index rows : List ℕ} {S A levels last above deeper : ℕ} {s below : StateSets} {person place : ℕ}
+module _ {t index rows : List ℕ} {S A levels last : ℕ} {above deeper : Above} {s below : StateSets} {person place : ℕ}
     (entered : Entered t index rows S A levels last above deeper s below person place) where
   abbrev g : Goal
   g = goalAt t person place
@@ -84,8 +87,12 @@ module _ {t index rows : List ℕ} {S A levels last above deeper : ℕ} {s below
       let one-less : suc (levels - 1) ≡ levels = omega (arith, level-left t S A levels above s person place (entered .proved)) in
       rw (one-less, ← proves-at t S A levels above s person (g .role), at-place) (entered .proved)
 
-  same-deeper : bitOr above (2 ^ roleAt t (g .role)) ≡ deeper
-  same-deeper = rw at-place (sym (entered .deeper-is))
+  at-person : personAt t (g .principal .0) ≡ person
+  at-person = is-person t person (entered .stands .named) .1
+
+  same-deeper : withGoal t above g ≡ deeper
+  unfolding withGoal
+  same-deeper = rw (at-place, at-person) (sym (entered .deeper-is))
 
   -- some credential proves it
   pub node-found : anyBelow (provesWith t S (proves t S A (levels - 1) deeper below) (part A (acceptingSet t below)) g) (credentials t)
@@ -161,16 +168,17 @@ walked-then {at} {most} {next} {next′} {xs} {ys} {before} {mid} {after} first 
     }
 
 -- before the first child
-pub child-none : (t : List ℕ) (S A levels above : ℕ) (s : StateSets) (from most : ℕ) (rec : List ℕ)
+pub child-none : (t : List ℕ) (S A levels : ℕ) (above : Above) (s : StateSets) (from most : ℕ) (rec : List ℕ)
     → Walked from most (written (firstForest t S A levels above s [])) rec rec from
 unfolding written
 child-none t S A levels above s from most rec = rw (first-end t S A levels above s) (walked-none from most rec)
 
 -- from child to child: the records of the first k goals are walked
-abbrev records : List ℕ → ℕ → ℕ → ℕ → ℕ → StateSets → List Goal → List ℕ
+abbrev records : List ℕ → ℕ → ℕ → ℕ → Above → StateSets → List Goal → List ℕ
 records t S A levels above s goals = written (firstForest t S A levels above s goals)
 
-module _ (t : List ℕ) (S A levels above : ℕ) (s : StateSets) (goals : List Goal) (k : ℕ) {from most next : ℕ} {before mid : List ℕ}
+module _ (t : List ℕ) (S A levels : ℕ) (above : Above) (s : StateSets) (goals : List Goal) (k : ℕ)
+    {from most next : ℕ} {before mid : List ℕ}
     (so-far : Walked from most (written (firstForest t S A levels above s (take k goals))) before mid next) where
   pub child-next : {next′ : ℕ} {after : List ℕ} (h : Goal) → k < length goals → h ≡ getD goals k noGoal → next ≤ most
       → Walked next most (records t S A levels above s (h ∷ [])) mid after next′

@@ -19,6 +19,7 @@ use Rattle.derivation.specs.Forest.{written}
 use Rattle.derivation.specs.Attached.{automataOf}
 use Rattle.search.specs.Search.{provable}
 use Rattle.listing.specs.Minimal.{isMinimal}
+use Rattle.members.specs.Above.{nothingAbove}
 use Rattle.writing.specs.First.{firstForest, firstRecord}
 use Rattle.writing.specs.Walked.{Walked}
 use Rattle.writing.specs.Writing.{Tells, filled, recordAfter, writing}
@@ -49,7 +50,7 @@ proves-under t wf q valid S A imposed listed = rw imposed (minimal-provable t wf
 -- with all automata of the set imposed, what is walked is the first record; there are as many cells as the most says
 module _ (t : List ℕ) (q : Query) (S A : ℕ) (imposed : A ≡ automataOf t S) (most : ℕ) where
   abbrev Pass : List ℕ → List ℕ → ℕ → Type 0
-  Pass = Walked 0 most (written (firstForest t S A (q .depth) 0 (startingSets t) (goalOf q ∷ [])))
+  Pass = Walked 0 most (written (firstForest t S A (q .depth) nothingAbove (startingSets t) (goalOf q ∷ [])))
 
   pass-whole : {from to : List ℕ} {len : ℕ} → Pass from to len → len ≤ most → len ≡ length (firstRecord t q S)
   unfolding firstRecord

@@ -12,11 +12,12 @@ use Rattle.sorted.proofs.Lists.{laid-at, laid-beyond, laid-length, less-or-not}
 use Rattle.table.specs.declared.Goal.{Goal}
 use Rattle.automata.specs.declared.StateSets.{StateSets}
 use Rattle.derivation.specs.Forest.{written}
+use Rattle.members.specs.declared.above.Above.{Above}
 use Rattle.writing.specs.First.{firstForest}
 use Rattle.writing.specs.Walked.{Over, Walked}
 use Rattle.writing.proofs.FirstNode.{first-end, first-floor, first-node}
 
-pub first-append : (t : List ℕ) (S A levels above : ℕ) (s : StateSets) (goals more : List Goal)
+pub first-append : (t : List ℕ) (S A levels : ℕ) (above : Above) (s : StateSets) (goals more : List Goal)
     → written (firstForest t S A levels above s (goals ++ more))
     ≡ written (firstForest t S A levels above s goals) ++ written (firstForest t S A levels above s more)
 unfolding written

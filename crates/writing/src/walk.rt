@@ -1,6 +1,7 @@
 // The first record, node by node in preorder: a node's two numbers go into the cells, where there are any left, and then what
 // the node asks is walked in order. A walk stops as soon as it has more numbers than there is room for.
 use automata::StateSets;
+use members::Above;
 use search::Terms;
 use sets::CredentialSet;
 use table::Number;
@@ -13,6 +14,7 @@ ghost use Prim.Native.Nat.{_+_, _^_, _<_, _≤_};
 ghost use Rattle.automata.specs.Together.{startingSets};
 ghost use Rattle.derivation.specs.Rules.{goalOf};
 ghost use Rattle.derivation.specs.Forest.{written};
+ghost use Rattle.members.specs.Above.{nothingAbove};
 ghost use Rattle.members.specs.Members.{Members};
 ghost use Rattle.search.specs.Search.{Prepared, Searched, Stands, goalAt, provable, provesAt};
 ghost use Rattle.writing.specs.First.{firstForest};
@@ -32,7 +34,7 @@ pub fn from_goal(
     requires { ⌜ Members (now table) (terms .allowed) (query .depth) (terms .last) (now rows) ⌝ }
     requires { ⌜ provable (now table) query (terms .allowed) (terms .constraints) ≡ true ⌝ }
     requires { ⌜ most < 2 ^ 63 ⌝ }
-    ensures { λ r. ⌜ Walked 0 most (written (firstForest (now (table .entry)) (terms .allowed) (terms .constraints) (query .depth) 0
+    ensures { λ r. ⌜ Walked 0 most (written (firstForest (now (table .entry)) (terms .allowed) (terms .constraints) (query .depth) nothingAbove
         (startingSets (now (table .entry))) (goalOf query ∷ []))) (now (rec .entry)) (now (rec .exit)) r ⌝ }
 {
     walk(
@@ -44,7 +46,7 @@ pub fn from_goal(
         members::goal_role(index),
         layout::wide(query.depth),
         StateSets::start(table),
-        0,
+        Above::nothing(),
         most,
         0,
         rec,
@@ -62,7 +64,7 @@ fn walk(
     place: usize,
     levels: usize,
     states: StateSets,
-    above: CredentialSet,
+    above: Above,
     most: usize,
     at: usize,
     rec: &mut [Number],
@@ -76,7 +78,7 @@ fn walk(
 {
     let role = search::role_of(table, place);
     let below = search::stepped(table, terms.constraints, role, states);
-    let deeper = sets::with(above, place);
+    let deeper = above.with(person, place);
     let node = choice::choose(
         table,
         index,

@@ -8,6 +8,8 @@ use lib.ListN.{length, length-take}
 use denote.Ref.{now}
 use Rattle.derivation.proofs.Above.{depth-fits, depth-some}
 use Rattle.table.specs.Checks.{numberOf}
+use Rattle.members.specs.Members.{tableCells}
+use Rattle.members.proofs.Reading.{zeros}
 use Rattle.search.specs.Search.{provable}
 use Rattle.writing.specs.Writing.{writtenTold}
 use Rattle.writing.proofs.Passes.{counted-longer, counted-written, passed-by, proves-under, tells-instead}
@@ -28,7 +30,7 @@ fill-requires c κs =
       pre .0 .wellFormed,
       (
         pre .0 .indexed,
-        ((omega (arith, depth-some _ (pre .0 .valid), wide), omega (arith, depth-fits _ (pre .0 .valid), wide)), refl),
+        ((omega (arith, depth-some _ (pre .0 .valid), wide), omega (arith, depth-fits _ (pre .0 .valid), wide)), (refl, zeros tableCells)),
       ),
     )
 

@@ -1,4 +1,4 @@
--- `members::levels::fill` meets its contract: the rows up to the level have all that is proved within so many levels. Where
+-- `members::levels::fill` meets its contract: the rows up to the level have just who is a member within so many levels. Where
 -- nothing is new the last row is closed under all credentials, so that nothing more is proved within any number. Assumes nothing.
 use Prim.Native.Nat.{_-_, _<_, _≤_}
 use native.Mathlib.Omega.{arith}

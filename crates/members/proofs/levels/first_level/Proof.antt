@@ -1,5 +1,5 @@
 -- `members::levels::first_level` meets its contract: row 1 has whom the simple memberships among the first i credentials name,
--- and the others are told; masks only grow. Assumes nothing.
+-- and no cell anybody else; the others are told. Assumes nothing.
 use mathlib.Core.Path.{_≡_, sym, _∙_}
 use Prim.Native.Nat.{_-_, _≤_}
 use native.Mathlib.Omega.{arith}
@@ -21,7 +21,9 @@ credentials-requires : tie.Need-credentials-requires Inv-loop μ-loop
 credentials-requires c κs = search needs
 
 loop-holds : tie.Need-loop-holds Inv-loop μ-loop
-loop-holds c = (omega arith, first-starts _ _ _ _ (c .before .before .before .before .pre .1 .1))
+loop-holds c =
+    let start = c .before .before .before .before in
+    (omega arith, first-starts _ _ _ _ (start .pre .1 .1 .0) (start .pre .1 .1 .1))
 
 has-requires : tie.Need-has-requires Inv-loop μ-loop
 has-requires c κs = search needs
@@ -72,10 +74,10 @@ loop-again c =
       omega arith,
       three-ways
           (λ w. first-is _ _ _ _ _ _ _ _ (w .8) (w .9)
-          (first-named _ _ _ _ _ _ so-far _ (w .1 .ensures) (w .3 .taken) _ _ (w .4 .ensures .0) (w .4 .ensures .1)
-          (w .6 .ensures .0) _ (w .7 .ensures)))
+          (first-named _ _ _ _ _ _ so-far _ (w .1 .ensures) (told ∙ w .0 .taken) (w .3 .taken) _ _ (w .4 .ensures .0)
+          (w .4 .ensures .1) (w .6 .ensures .0) _ (w .7 .ensures)))
           (λ w. first-is _ _ _ _ _ _ _ _ (w .5) (w .6 ∙ w .4 .ensures)
-          (first-other _ _ _ _ _ _ so-far _ (w .1 .ensures) (w .3 .left)))
+          (first-other _ _ _ _ _ _ so-far _ (w .1 .ensures) (told ∙ w .0 .taken) (w .3 .left)))
           (λ w. first-is _ _ _ _ _ _ _ _ (w .1) (w .2) (first-outside _ _ _ _ _ _ so-far (told ∙ w .0 .left))) (c .if1 .came),
     )
 

@@ -1,5 +1,5 @@
 -- `members::levels::next_level` meets its contract: the row behind the level has taken in whom the first i credentials prove
--- by the level's row, which is not written. Assumes nothing.
+-- by the level's row, which is not written, and nobody else. Assumes nothing.
 use mathlib.Core.Path.{_≡_, sym, _∙_}
 use Prim.Native.Nat.{_-_, _≤_}
 use native.Mathlib.Omega.{arith}
@@ -79,9 +79,10 @@ loop-again c =
       omega arith,
       three-ways
           (λ w. grown-is _ _ _ _ _ _ _ _ _ _ (w .7) (w .8)
-          (grown-more _ _ _ _ _ _ _ _ so-far made (omega arith) _ (w .1 .ensures .0) _ (w .4 .ensures)))
+          (grown-more _ _ _ _ _ _ _ _ so-far (told ∙ w .0 .taken) made (omega arith) _ (w .1 .ensures .0) _ (w .4 .ensures)))
           (λ w. grown-is _ _ _ _ _ _ _ _ _ _ (w .7) (w .8)
-          (grown-same _ _ _ _ _ _ _ _ so-far made (omega arith) _ (w .1 .ensures .0) _ (w .4 .ensures) (w .6 .left)))
+          (grown-same _ _ _ _ _ _ _ _ so-far (told ∙ w .0 .taken) made (omega arith) _ (w .1 .ensures .0) _ (w .4 .ensures)
+          (w .6 .left)))
           (λ w. grown-is _ _ _ _ _ _ _ _ _ _ (w .1) (w .2) (grown-outside _ _ _ _ _ _ _ _ so-far (told ∙ w .0 .left)))
           (c .if1 .came),
     )

@@ -10,7 +10,8 @@ use Rattle.sets.proofs.Tests.{and-is, and-is-off, failed, passed}
 use Rattle.table.specs.Limits.{mostAutomata}
 use Rattle.derivation.specs.Attached.{automataOf}
 use Rattle.derivation.proofs.Above.{depth-fits, depth-some}
-use Rattle.members.specs.Members.{Members}
+use Rattle.members.specs.Members.{Members, tableCells}
+use Rattle.members.proofs.Reading.{zeros}
 use Rattle.search.specs.Search.{Prepared}
 use Rattle.search.proofs.Deciding.{Borne, decided-imposed, decided-last, decided-neither, decided-spared, decided-unborne}
 use Rattle.search.proofs.Deciding.{spared, spared-told}
@@ -209,7 +210,7 @@ admits-under-fill-requires t c κs =
       c .before .before .before .before .pre .1 .0 .wellFormed,
       (
         c .before .before .before .before .pre .1 .0 .indexed,
-        ((omega (arith, depth-some _ valid, wide), omega (arith, depth-fits _ valid, wide)), refl),
+        ((omega (arith, depth-some _ valid, wide), omega (arith, depth-fits _ valid, wide)), (refl, zeros tableCells)),
       ),
     )
 

@@ -1,19 +1,20 @@
 -- Goal search, credential search and the searches of what a credential asks meet their contracts, by the levels left: each loop
 -- knows that what it has tried so far does not prove the goal, or, over the parts, that none of them has failed. A goal that the
 -- table of members does not have is not proved. Assumes nothing.
-use Prim.Native.Nat.{ℕ, _*_, _+_, _-_, _^_, _<_, _≤_}
+use Prim.Native.Nat.{ℕ, _*_, _+_, _-_, _<_, _≤_}
 use mathlib.Core.Bool.{false}
 use mathlib.Core.List.{List}
 use mathlib.Core.Logic.{inl, inr, ⊎-elim}
 use mathlib.Core.Path.{_≡_, _∙_, refl, sym}
 use native.Mathlib.Omega.{arith}
-use lib.Bits.{bitOr}
 use denote.Ref.{now}
 use Rattle.sets.specs.Logic.{anyBelow}
 use Rattle.sets.specs.Sets.{part}
 use Rattle.sets.proofs.Tests.{passed}
 use Rattle.table.specs.Layout.{credentials}
 use Rattle.automata.specs.Together.{acceptingSet}
+use Rattle.members.specs.Above.{withPair}
+use Rattle.members.specs.declared.above.Above.{Above}
 use Rattle.search.specs.Search.{goalAt, proves, provesAt, provesWith}
 use Rattle.search.proofs.Placing.{below-most, cell-named, kind-other, kind-read, level-none, middleTried, most, partMissed}
 use Rattle.search.proofs.Placing.{place-none, place-unlisted, row-fits, searched-fewer}
@@ -38,6 +39,8 @@ use Rattle.search.proofs.goals.+credential_search+goal_search+linked_se
 use Rattle.search.proofs.goals.parts_search.Reads as parts-search
 use Rattle.search.proofs.goals.parts_search.Kinds as parts-search-kinds
 use Rattle.search.proofs.goals.+credential_search+goal_search+linked_search+parts_search.Lts-parts_search as parts-search-lts
+use Rattle.members.proofs.above.Above.has.Reads as above-has-reads
+use Rattle.members.proofs.above.Above.with.Reads as above-with-reads
 use Rattle.members.proofs.asked_cell.Reads as asked-cell-reads
 use Rattle.members.proofs.link_cell.Reads as link-cell-reads
 use Rattle.members.proofs.asked_members.Reads as asked-members-reads
@@ -51,7 +54,6 @@ use Rattle.search.proofs.goals.role_of.Reads as role-of-reads
 use Rattle.search.proofs.goals.row_of.Reads as row-of-reads
 use Rattle.search.proofs.goals.stepped.Reads as stepped-reads
 use Rattle.sets.proofs.has.Reads as has-reads
-use Rattle.sets.proofs.with.Reads as with-reads
 use Rattle.table.proofs.layout.credential.Reads as credential-reads
 use Rattle.table.proofs.layout.credentials.Reads as credentials-reads
 use Rattle.search.proofs.goals.+credential_search+goal_search+linked_search+parts_search.{statement}
@@ -120,16 +122,16 @@ goal-search-claims t = (
   row-of-reads.Learnt,
   is-listed-reads.Asked,
   is-listed-reads.Learnt,
-  has-reads.Asked,
-  has-reads.Learnt,
+  above-has-reads.Asked,
+  above-has-reads.Learnt,
   role-of-reads.Asked,
   role-of-reads.Learnt,
   stepped-reads.Asked,
   stepped-reads.Learnt,
   any-dead-reads.Asked,
   any-dead-reads.Learnt,
-  with-reads.Asked,
-  with-reads.Learnt,
+  above-with-reads.Asked,
+  above-with-reads.Learnt,
   may-use-reads.Asked,
   may-use-reads.Learnt,
   credential-search-below t,
@@ -231,13 +233,13 @@ credential-search-returns-5 t c =
     kind-other _ _ _ (c .before .credential .ensures) _ _ _ (no .0 .0 .0 .1) (no .0 .0 .1) (no .0 .1) (no .1)
 
 abbrev goal-search-Inv-loop : goal-search-lts.InvT-loop
-goal-search-Inv-loop table index rows terms person place levels above n below deeper i₀ i =
+goal-search-Inv-loop table index rows terms person place levels n below deeper i₀ i =
     (i ≤ n) × (anyBelow (provesWith table (terms .allowed)
     (proves table (terms .allowed) (terms .constraints) (levels - 1) deeper (below .states))
     (part (terms .constraints) (acceptingSet table (below .states))) (goalAt table person place)) i ≡ false)
 
 abbrev goal-search-μ-loop : goal-search-lts.MeasureT-loop
-goal-search-μ-loop table index rows terms person place levels above n below deeper i₀ i = n - i
+goal-search-μ-loop table index rows terms person place levels n below deeper i₀ i = n - i
 
 -- a place of `goal_search`, or a need, where its measure is t; and what it needs, whatever its measure is
 abbrev goal-search-Place : Type 1
@@ -268,7 +270,7 @@ module _ (t : ℕ) where
   abbrev goal-search-first : goal-search-place goal-search-lts.After-stepped t → goal-search-place goal-search-lts.Start t
   goal-search-first at = goal-search-start (goal-search-from (at .before .before .before))
 
-  abbrev goal-search-Entered : goal-search-place goal-search-lts.After-stepped t → ℕ → Type 0
+  abbrev goal-search-Entered : goal-search-place goal-search-lts.After-stepped t → Above → Type 0
   goal-search-Entered at deeper =
       let from = goal-search-first at .args in
       Entered (now (from .table)) (now (from .index)) (now (from .rows)) (from .terms .allowed) (from .levels) (from .terms .last)
@@ -276,8 +278,8 @@ module _ (t : ℕ) where
       (at .before .role-of .result) (from .person) (from .place)
       (goal-search-from (at .before .before .before) .before .credentials .result)
 
-  goal-search-down : (at : goal-search-place goal-search-lts.After-stepped t) (deeper : ℕ)
-      → deeper ≡ bitOr (goal-search-first at .args .above) (2 ^ goal-search-first at .args .place)
+  goal-search-down : (at : goal-search-place goal-search-lts.After-stepped t) (deeper : Above)
+      → deeper ≡ withPair (goal-search-first at .args .above) (goal-search-first at .args .person) (goal-search-first at .args .place)
       → goal-search-Entered at deeper
   goal-search-down at deeper deeper-is =
       let role-of = at .before in
@@ -360,7 +362,10 @@ goal-search-returns-5 t c =
     (dead-tried _ _ _ _ _ (at .stepped .ensures) (sym (c .before .any-dead .ensures) ∙ c .if5 .taken) _ _ _)
 
 goal-search-with-requires : goal-search-needs goal-search-lts.Need-with-requires
-goal-search-with-requires t c κs = search needs
+goal-search-with-requires t c κs =
+    let entered = goal-search-down t (c .before .before) _ refl in
+    let wf = entered .searched .wellFormed in
+    (below-most wf _ (entered .stands .there), below-most wf _ (entered .there))
 
 goal-search-loop-holds : goal-search-needs goal-search-lts.Need-loop-holds
 unfolding anyBelow

@@ -23,7 +23,7 @@ use Rattle.writing.proofs.walk.+walk.Lts-walk as walk-lts
 use Rattle.choice.proofs.choose.Reads as choose-reads
 use Rattle.search.proofs.role_of.Reads as role-of-reads
 use Rattle.search.proofs.stepped.Reads as stepped-reads
-use Rattle.sets.proofs.with.Reads as with-reads
+use Rattle.members.proofs.above.Above.with.Reads as with-reads
 use Rattle.writing.proofs.walk.put.Reads as put-reads
 use Rattle.writing.proofs.walk.+walk.{statement}
 use Rattle.writing.proofs.walk.+walk.Tie.{close}
@@ -38,14 +38,14 @@ abbrev walk-below : ℕ → In 4 walk-kinds.ps
 walk-below t = and 4 walk-kinds.ps (falls 4 walk-kinds.ps _<_ μ-walk t) walk.Pre
 
 abbrev walk-Inv-loop : walk-lts.InvT-loop
-walk-Inv-loop table index rows terms person place levels above most at rec₀ below deeper len persons places next₀ k₀ rec next k =
+walk-Inv-loop table index rows terms person place levels most at rec₀ below deeper len persons places next₀ k₀ rec next k =
     let S = terms .allowed in
     let A = terms .constraints in
     let asks = nodeAsks table S A (levels - 1) deeper (below .states) (goalAt table person place) in
     (k ≤ len) × Walked next₀ most (written (firstForest table S A (levels - 1) deeper (below .states) (take k asks))) rec₀ rec next
 
 abbrev walk-μ-loop : walk-lts.MeasureT-loop
-walk-μ-loop table index rows terms person place levels above most at rec₀ below deeper len persons places next₀ k₀ rec next k =
+walk-μ-loop table index rows terms person place levels most at rec₀ below deeper len persons places next₀ k₀ rec next k =
     len - k
 
 abbrev walk-claims : ℕ → walk-lts.Claims
@@ -112,8 +112,8 @@ walk-stepped-requires t c κs = search needs
 walk-with-requires : walk-needs walk-lts.Need-with-requires
 walk-with-requires t c κs =
     let pre = c .before .before .before .before .before .before .pre .1 in
-    let few = below-most (pre .0 .wellFormed) _ (place-there _ _ _ _ _ _ _ _ (pre .1 .1 .0)) in
-    omega (arith, few)
+    let wf = pre .0 .wellFormed in
+    (below-most wf _ (pre .1 .0 .there), below-most wf _ (place-there _ _ _ _ _ _ _ _ (pre .1 .1 .0)))
 
 walk-sub-choose : walk-needs walk-lts.Need-sub-choose
 walk-sub-choose t c =

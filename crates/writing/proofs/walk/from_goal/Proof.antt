@@ -17,6 +17,9 @@ wide-requires c κs = search needs
 start-requires : tie.Need-start-requires
 start-requires c κs = search needs
 
+nothing-requires : tie.Need-nothing-requires
+nothing-requires c κs = search needs
+
 -- the place where all that the walk begins with has been read, and the one where the call was asked
 abbrev Ready : Type 0
 Ready = tie.After-start
@@ -26,7 +29,7 @@ asked at = at .before .before .before .before .before .before .before .before
 
 walk-requires : tie.Need-walk-requires
 walk-requires c κs =
-    let at = c .before in
+    let at = c .before .before in
     let pre = asked at .pre in
     let who = at .before .before .before .goal-person .ensures .0 in
     let place = at .before .before .goal-role .ensures .0 in
@@ -35,7 +38,7 @@ walk-requires c κs =
       (
         begins-stands (pre .0) (pre .1 .0) _ (pre .1 .1 .0) who place,
         (
-          begins-proved (pre .0) (pre .1 .0) _ (pre .1 .1 .0) who place _ _ levels (at .start .ensures),
+          rw (c .before .nothing .ensures) (begins-proved (pre .0) (pre .1 .0) _ (pre .1 .1 .0) who place _ _ levels (at .start .ensures)),
           (omega arith, pre .1 .1 .1),
         ),
       ),
@@ -46,12 +49,12 @@ same-length c = search needs
 
 returns : tie.Need-returns
 returns c =
-    let at = c .before .before .before .before in
+    let at = c .before .before .before .before .before in
     let pre = asked at .pre in
     let who = at .before .before .before .goal-person .ensures .0 in
     let place = at .before .before .goal-role .ensures .0 in
     begins-walked (pre .0) (pre .1 .0) _ (pre .1 .1 .0) who place _ _ (at .before .wide .ensures .0) (at .start .ensures) _ _ _ _
-    (c .before .before .walk .ensures)
+    (rw (c .before .before .before .before .nothing .ensures) at (c .before .before .walk .ensures))
 
 pub from-goal-spec : {M : Type 1} → statement M
 from-goal-spec =
@@ -61,6 +64,7 @@ from-goal-spec =
     goal-role-requires
     wide-requires
     start-requires
+    nothing-requires
     walk-requires
     same-length
     returns)

@@ -1,4 +1,4 @@
--- `derivation::branches::Branch::is_fresh` meets its contract: the goals below i are of other roles. Assumes nothing.
+-- `derivation::branches::Branch::is_fresh` meets its contract: the goals below i are others. Assumes nothing.
 use mathlib.Core.Bool.{true}
 use mathlib.Core.Path.{_∙_, _≡_, refl, sym}
 use Prim.Native.Nat.{_-_, _≤_}
@@ -30,14 +30,14 @@ element-copy-out-other c =
     let pre = c .before .before .pre in
     omega (arith, pre .fits)
 
-same-requires : tie.Need-same-requires Inv-loop μ-loop
-same-requires c κs = search needs
+same-goal-requires : tie.Need-same-goal-requires Inv-loop μ-loop
+same-goal-requires c κs = search needs
 
 returns : tie.Need-returns Inv-loop μ-loop
 unfolding above
 returns c =
     let loop = c .before .before .before .before .loop in
-    sym (fresh-not _ _ (loop .i) _ (omega arith) (sym (c .before .same .ensures) ∙ c .if1 .taken))
+    sym (fresh-not _ _ (loop .i) _ (omega arith) (sym (c .before .same-goal .ensures) ∙ c .if1 .taken))
 
 add-i : tie.Need-add-i Inv-loop μ-loop
 add-i c = search needs
@@ -48,7 +48,7 @@ loop-less c = search needs
 loop-again : tie.Need-loop-again Inv-loop μ-loop
 loop-again c =
     let loop = c .before .before .before .before .loop in
-    (omega arith, fresh-next _ _ _ (loop .inv .1) (sym (c .before .same .ensures) ∙ c .if1 .left))
+    (omega arith, fresh-next _ _ _ (loop .inv .1) (sym (c .before .same-goal .ensures) ∙ c .if1 .left))
 
 returns-2 : tie.Need-returns-2 Inv-loop μ-loop
 unfolding above
@@ -65,7 +65,7 @@ is-fresh-spec =
     loop-holds
     mul-other
     element-copy-out-other
-    same-requires
+    same-goal-requires
     returns
     add-i
     loop-less
