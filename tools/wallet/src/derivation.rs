@@ -67,7 +67,7 @@ pub enum Why {
     MiddleNotZero(u16),
     /// 13: the level is above this depth limit.
     TooDeep(u16),
-    /// 13: the goal's role is that of this node, which is on the branch.
+    /// 13: the goal is that of this node, which is on the branch.
     OnBranch(usize),
 }
 
@@ -142,8 +142,8 @@ impl Judged {
         let fault = self.fault?;
         let node = self.faulty();
         let credential = node.and_then(|node| node.credential).unwrap_or(0);
-        let role = node.map(|node| names.role(node.goal.role));
-        let role = role.unwrap_or_default();
+        let goal = node.map(|node| names.goal(node.goal.principal, node.goal.role));
+        let goal = goal.unwrap_or_default();
         let level = node.map_or(0, |node| node.level);
         Some(match fault.why {
             Why::NoneLeft => format!("no numbers are left for node {}", fault.node),
@@ -167,7 +167,7 @@ impl Judged {
             }
             Why::TooDeep(limit) => format!("level {level} is deeper than the depth limit, {limit}"),
             Why::OnBranch(above) => {
-                format!("the role {role} is already on the branch, at node {above}")
+                format!("{goal} is already on the branch, at node {above}")
             }
         })
     }
@@ -312,7 +312,7 @@ fn placed(nodes: &[Node], node: &Node, limit: u16) -> Result<(), Why> {
         return Err(Why::TooDeep(limit));
     }
     let mut above = ancestors(nodes, node);
-    match above.find(|above| above.goal.role == node.goal.role) {
+    match above.find(|above| above.goal == node.goal) {
         Some(above) => Err(Why::OnBranch(above.number)),
         None => Ok(()),
     }

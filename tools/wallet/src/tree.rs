@@ -304,13 +304,28 @@ fn run_line(wallet: &Wallet, judged: &Judged, automaton: u16, word: &Word) -> St
 }
 
 /// Where a run on these roles has no state left, and so rejects whatever comes
-/// then. No role occurs twice in a word, so the role says it.
+/// then.
 pub fn dead(names: &Names, roles: &[Role], sets: &[u16]) -> Option<String> {
-    let place = sets.iter().position(|set| *set == 0)?;
-    let role = place.checked_sub(1).and_then(|index| roles.get(index));
-    Some(match role {
-        Some(role) => format!("no state left after {}", names.role(*role)),
+    let empty = sets.iter().position(|set| *set == 0)?;
+    Some(match empty.checked_sub(1) {
+        Some(index) => format!("no state left after {}", place(names, roles, index)?),
         None => "no state to start in".to_string(),
+    })
+}
+
+/// A place in a word by its role, `Club.door`; by which one it is, `the 2nd
+/// Club.friend`, where the role stands in the word more than once.
+fn place(names: &Names, word: &[Role], index: usize) -> Option<String> {
+    let role = *word.get(index)?;
+    let name = names.role(role);
+    let count = |roles: &[Role]| roles.iter().filter(|other| **other == role).count();
+    Some(match (count(word), count(&word[..=index])) {
+        (1, _) => name,
+        (_, 1) => format!("the 1st {name}"),
+        (_, 2) => format!("the 2nd {name}"),
+        (_, 3) => format!("the 3rd {name}"),
+        // A word has at most 16 roles.
+        (_, number) => format!("the {number}th {name}"),
     })
 }
 

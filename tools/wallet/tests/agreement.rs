@@ -114,13 +114,13 @@ fn first_reason(wallet: &Wallet, claim: &Claim, judged: &Judged, node: &Node) ->
     if node.level > judged.query.depth {
         return Why::TooDeep(judged.query.depth);
     }
-    let roles = roles(judged, node);
-    let above = roles.iter().position(|&above| above == role);
-    let level = above.expect("the role itself") as u16 + 1;
-    assert!(level < node.level, "nothing is wrong with {node:?}");
-    let mut before = judged.nodes.iter().rev();
-    let on_branch = before.find(|node| node.level == level);
-    Why::OnBranch(on_branch.expect("a node on the branch").number)
+    // The node above at a level is the last one that the record has there.
+    let last_at = |level| judged.nodes.iter().rfind(|above| above.level == level);
+    let mut above = (1..node.level).filter_map(last_at);
+    match above.find(|above| above.goal == node.goal) {
+        Some(above) => Why::OnBranch(above.number),
+        None => panic!("nothing is wrong with {node:?}"),
+    }
 }
 
 /// A record that is one whole tree is read whole, and its words and runs are
@@ -229,7 +229,8 @@ fn check_text(wallet: &Wallet, judged: &Judged) {
         }
     }
     if judged.nodes.len() <= NODES_SHOWN {
-        let lines = text.lines();
+        // A fault and the verdict may say a goal once more.
+        let lines = text.lines().filter(|line| !line.contains("on the branch"));
         let shown = lines.filter(|line| line.contains(" in P")).count();
         // The question has a goal, and so has every node.
         assert_eq!(shown, judged.nodes.len() + 1, "{text}");
@@ -257,10 +258,28 @@ fn check_shown_runs(judged: &Judged, text: &str) {
         } else if line.starts_with(">>") && line.contains("rejected:") {
             lowest = lowest.or(Some(present));
             assert_eq!(line.contains("{}"), line.contains("; no state "), "{line}");
+            check_place(line);
         }
     }
     let refusal = judged.refusal().filter(|refusal| refusal.number == 14);
     assert_eq!(lowest, refusal.map(|refusal| refusal.position));
+}
+
+/// The role after which no state is left is the one before the first empty
+/// set, and says which one it is where the run has it more than once.
+fn check_place(line: &str) {
+    let Some((run, place)) = line.split_once("; no state left after ") else {
+        return;
+    };
+    let (before, _) = run.split_once(" {}").expect("an empty set");
+    let role = before.rsplit(' ').next().unwrap_or_default();
+    let count = |run: &str| run.split(' ').filter(|word| *word == role).count();
+    let which = match count(run) {
+        1 => String::new(),
+        _ => format!("the {}", count(before)),
+    };
+    assert!(place.starts_with(&which) && place.ends_with(role), "{line}");
+    assert_eq!(place == role, which.is_empty(), "{line}");
 }
 
 #[track_caller]

@@ -8,7 +8,7 @@ use bwlchareg::Query;
 use reference::generate::wide;
 use shown::claims::{made_up, query, wallet};
 use shown::xml::{elements, Element};
-use shown::{constrained_shop, shop, Q};
+use shown::{club, constrained_shop, shop, Q};
 use wallet::derivation::{judge, Judged};
 use wallet::svg::{picture, MOST_NODES};
 use wallet::table::Table;
@@ -200,6 +200,22 @@ fn rejected_words_are_marked() {
     }
     assert_eq!((parts.boxes.len(), parts.marked), (5, 4));
     assert!(parts.title.contains("refused 14 at 1: "));
+}
+
+#[test]
+fn a_place_is_told_from_others_of_its_role() {
+    let wallet = club(1);
+    let query = wallet.query.expect("a query");
+    // Cleo through Bob, and Bob through Ann; and Bob through Cleo.
+    let judged = judge(&wallet, query, &[1, 3, 1, 2, 2, 0, 3, 0, 4, 0]);
+    let said_of = |judged| said(&check(&picture(&wallet, judged).expect("a picture")));
+    let said = said_of(&judged);
+    let place = "near rejects no state left after the 2nd Club.friend";
+    assert_eq!(said.matches(place).count(), 2, "{said}");
+    let judged = judge(&wallet, query, &[1, 3, 1, 4, 1, 3]);
+    let said = said_of(&judged);
+    let pair = "at fault: Cleo in Club.friend is already on the branch, at node 1";
+    assert!(said.contains(pair), "{said}");
 }
 
 #[test]

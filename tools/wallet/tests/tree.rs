@@ -5,10 +5,10 @@ mod shown;
 
 use bwlchareg::{Query, Refusal};
 use reference::generate::wide;
-use shown::{chain, constrained_shop, credential, edge, names, role, shop, Q};
+use shown::{chain, club, constrained_shop, credential, edge, names, role, shop, Q};
 use wallet::derivation::{judge, Judged};
-use wallet::table::{Automaton, Body, Label, Table};
-use wallet::tree::{text, NODES_SHOWN, REJECTED_SHOWN, WORDS_SHOWN};
+use wallet::table::{Automaton, Body, Label, Role, Table};
+use wallet::tree::{dead, text, NODES_SHOWN, REJECTED_SHOWN, WORDS_SHOWN};
 use wallet::Wallet;
 
 /// Record R of the shop example.
@@ -398,7 +398,7 @@ fn roles_and_intersections_have_their_children() {
 }
 
 #[test]
-fn a_role_is_already_on_the_branch() {
+fn a_pair_is_already_on_the_branch() {
     check(
         &tender(),
         BID,
@@ -410,10 +410,110 @@ fn a_role_is_already_on_the_branch() {
          |   3    Mason in City.clean       credential 3: City.clean <- Court.clean
          |   4      Mason in Court.clean    credential 5: Court.clean <- City.bidder under constraint-1
          |>> 5        Mason in City.bidder  credential 1: City.bidder <- City.solvent & City.clean & City.solvent
-         |>>          the role City.bidder is already on the branch, at node 1
+         |>>          Mason in City.bidder is already on the branch, at node 1
          |
-         |refused 13 at 5: the role City.bidder is already on the branch, at node 1",
+         |refused 13 at 5: Mason in City.bidder is already on the branch, at node 1",
     );
+}
+
+/// Cleo is in Club.friend through Bob, and Bob through Ann.
+const FRIENDS: [u16; 10] = [1, 3, 1, 2, 2, 0, 3, 0, 4, 0];
+
+/// The question that a wallet has.
+fn asked(wallet: &Wallet) -> Query {
+    wallet.query.expect("a query")
+}
+
+#[test]
+fn a_role_may_come_again_with_another_principal() {
+    let club = club(3);
+    let judged = check(
+        &club,
+        asked(&club),
+        &FRIENDS,
+        "|Cleo in Club.friend within 9
+         |
+         |   1  Cleo in Club.friend     credential 1, line 1: Club.friend <- Club.friend.friend under near; middle Bob
+         |   2    Bob in Club.friend    credential 1, line 1: Club.friend <- Club.friend.friend under near; middle Ann
+         |   3      Ann in Club.friend  credential 2, line 2: Club.friend <- Ann
+         |   4      Bob in Ann.friend   credential 3, line 3: Ann.friend <- Bob
+         |   5    Cleo in Bob.friend    credential 4, line 4: Bob.friend <- Cleo
+         |
+         |words
+         |   1  Club.friend, Club.friend, Club.friend
+         |   2  Club.friend, Club.friend, Ann.friend
+         |   3  Club.friend, Bob.friend
+         |
+         |constraint near, attached to credential 1, accepts in {1 2 3 4}
+         |   1  accepted: {0} Club.friend {1} Club.friend {2} Club.friend {3}
+         |   2  accepted: {0} Club.friend {1} Club.friend {2} Ann.friend {3}
+         |   3  accepted: {0} Club.friend {1} Bob.friend {2}
+         |
+         |accepted: used set 15 = credentials 1, 2, 3, 4",
+    );
+    assert_eq!(judged.refusal(), None);
+}
+
+#[test]
+fn a_run_says_after_which_of_several_equal_roles_no_state_is_left() {
+    let club = club(1);
+    let text = text(&club, &judge(&club, asked(&club), &FRIENDS));
+    let expected = "
+        |>> 1  rejected: {0} Club.friend {1} Club.friend {} Club.friend {}; no state left after the 2nd Club.friend
+        |>> 2  rejected: {0} Club.friend {1} Club.friend {} Ann.friend {}; no state left after the 2nd Club.friend
+        |>> 3  rejected: {0} Club.friend {1} Bob.friend {}; no state left after Bob.friend
+        |
+        |refused 14 at 1: constraint near rejects 3 of 3 words";
+    assert!(text.ends_with(&lines(expected)), "{text}");
+}
+
+#[test]
+fn places_in_words_are_counted_role_by_role() {
+    let names = names(&[(1, "Club")], &[(1, "door"), (2, "friend")]);
+    let (door, friend) = (role(1, 1), role(1, 2));
+    let after = |word: &[Role], empty: usize| {
+        let sets: Vec<u16> = (0..=word.len())
+            .map(|place| u16::from(place < empty))
+            .collect();
+        let said = dead(&names, word, &sets).expect("an empty set");
+        said.replace("no state left after ", "")
+    };
+    assert_eq!(after(&[door, friend], 2), "Club.friend");
+    assert_eq!(after(&[door, friend, friend], 1), "Club.door");
+    assert_eq!(after(&[friend, door, friend], 1), "the 1st Club.friend");
+    assert_eq!(after(&[friend, door, friend], 3), "the 2nd Club.friend");
+    for (place, which) in [
+        (3, "3rd"),
+        (4, "4th"),
+        (11, "11th"),
+        (12, "12th"),
+        (13, "13th"),
+        (16, "16th"),
+    ] {
+        assert_eq!(
+            after(&[friend; 16], place),
+            format!("the {which} Club.friend")
+        );
+    }
+}
+
+#[test]
+fn a_claim_may_not_rest_on_itself() {
+    let club = club(3);
+    let judged = check(
+        &club,
+        asked(&club),
+        &[1, 3, 1, 4, 1, 3],
+        "|Cleo in Club.friend within 9
+         |
+         |   1  Cleo in Club.friend      credential 1, line 1: Club.friend <- Club.friend.friend under near; middle Bob
+         |   2    Bob in Club.friend     credential 1, line 1: Club.friend <- Club.friend.friend under near; middle Cleo
+         |>> 3      Cleo in Club.friend  credential 1, line 1: Club.friend <- Club.friend.friend under near; middle Bob
+         |>>        Cleo in Club.friend is already on the branch, at node 1
+         |
+         |refused 13 at 3: Cleo in Club.friend is already on the branch, at node 1",
+    );
+    assert_eq!(judged.refusal(), refused(13, 3));
 }
 
 /// Levels of which each has the next one four times as its premise.

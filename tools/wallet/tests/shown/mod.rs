@@ -5,6 +5,7 @@ pub mod xml;
 
 use bwlchareg::Query;
 use wallet::names::Names;
+use wallet::parse::parse;
 use wallet::table::{Automaton, Body, Cell, Credential, Edge, Label, Role, Table};
 use wallet::{Lines, Wallet};
 
@@ -87,6 +88,25 @@ pub fn constrained_shop() -> Wallet {
     wallet.names.constraints.insert(1, name);
     wallet.lines.credentials = vec![5, 6, 7, 8];
     wallet
+}
+
+/// A club whose friends are the friends of its friends, by proofs whose words
+/// have at most so many roles. Ann is one, Bob is Ann's friend, and Cleo Bob's.
+pub fn club(roles: u16) -> Wallet {
+    let mut text = "Club.friend <- Club.friend.friend under near
+        Club.friend <- Ann
+        Ann.friend <- Bob
+        Bob.friend <- Cleo
+        Cleo in Club.friend within 9
+        constraint near
+        start 0
+        accept 1 2 3 4
+        "
+    .to_string();
+    for state in 0..roles {
+        text += &format!("{state} -- any --> {}\n", state + 1);
+    }
+    parse(text.as_bytes()).expect("a wallet")
 }
 
 /// An edge.
