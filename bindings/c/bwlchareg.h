@@ -53,14 +53,15 @@ uint32_t bwlchareg_check_query(const uint16_t *table, size_t length,
  *  11  fewer than two numbers remain for a node; or numbers remain after the tree      the node, or the number of nodes + 1
  *  12  the credential is not 1 to n, does not define the goal's role, is kind 1 of
  *      another principal, or has a wrong middle                                        the node
- *  13  level above the depth limit, or role already on the branch                      the node
+ *  13  level above the depth limit, or pair of principal and role already on the
+ *      branch                                                                          the node
  *  14  a used automaton rejects some word                                              the lowest such automaton
  *
  * Nodes count from 1 in preorder; at each node 11, 12 and 13 are tested in that order before its children, numbers left over
  * after the last node, and 14 last. On an accepted table and a valid query the result is 0 exactly when the record derives the
- * queried membership by the rules of RT0, within the depth limit and with no role twice on a branch, and every word of it is
- * accepted by every automaton attached to a credential that it uses. The stack is bounded by the depth limit, whatever the
- * record's length.
+ * queried membership by the rules of RT0, within the depth limit and with no pair of principal and role twice on a branch, and
+ * every word of it is accepted by every automaton attached to a credential that it uses. The stack is bounded by the depth limit,
+ * whatever the record's length.
  */
 uint32_t bwlchareg_verify(const uint16_t *table, size_t table_length,
                           uint16_t principal, uint16_t owner, uint16_t name, uint16_t depth,

@@ -1,13 +1,13 @@
-/* The shop example of docs/DEFINITION.md, from C, with one table more, for label 4: tables are checked, minimal sets listed,
- * their records written and proof records verified. Every answer is printed in words and held against the definition; the
- * program ends with 1 if any differs. bindings/LAYOUT.md says what the numbers mean. */
+/* The shop example of docs/DEFINITION.md, from C, with two tables more, for label 4 and for a role that comes again on a branch:
+ * tables are checked, minimal sets listed, their records written and proof records verified. Every answer is printed in words
+ * and held against the definition; the program ends with 1 if any differs. bindings/LAYOUT.md says what the numbers mean. */
 #include "bwlchareg.h"
 
 #include <inttypes.h>
 #include <stdio.h>
 
-enum { SHOP = 1, SCHOOL = 2, ANN = 4 };                 /* principals */
-enum { DISCOUNT = 1, STUDENT = 2, ACCREDITED = 3 };     /* names */
+enum { SHOP = 1, SCHOOL = 2, ANN = 4, BOB = 5, CLEO = 6, CLUB = 7 };        /* principals */
+enum { DISCOUNT = 1, STUDENT = 2, ACCREDITED = 3, FRIEND = 4 };             /* names */
 
 static const uint16_t T[] = {
     4, 0, 0, 0,                                         /* four credentials, no part cells, no automata, no edges */
@@ -36,6 +36,15 @@ static const uint16_t V[] = {
     1, 0, 4, SHOP, 0, 0,                                /* from 0 by every role of Shop to 0 */
 };
 
+/* A club whose friends are the friends of its friends. Ann is one by name, Bob is a friend of Ann, and Cleo of Bob. */
+static const uint16_t W[] = {
+    4, 0, 0, 0,
+    CLUB, FRIEND, 3, FRIEND, FRIEND, 0,                 /* 1: Club.friend <- Club.friend.friend */
+    CLUB, FRIEND, 1, ANN, 0, 0,                         /* 2: Club.friend <- Ann */
+    ANN, FRIEND, 1, BOB, 0, 0,                          /* 3: Ann.friend <- Bob */
+    BOB, FRIEND, 1, CLEO, 0, 0,                         /* 4: Bob.friend <- Cleo */
+};
+
 /* An automaton and its edge; label 4 has an owner and no name. */
 static const uint16_t named[] = {0, 0, 1, 1, 1, 1, 1, 0, 4, SHOP, DISCOUNT, 0};
 
@@ -46,6 +55,10 @@ static const uint16_t mistaken[] = {1, 0, 0, 0, SHOP, DISCOUNT, 1, 65, 0, 0}; /*
 static const uint16_t record[] = {1, SCHOOL, 2, 0, 3, 0};
 static const uint16_t misled[] = {1, ANN, 2, 0, 3, 0};  /* with another middle, whom credential 2 does not name */
 static const uint16_t outright[] = {4, 0};              /* by credential 4 alone */
+
+/* Cleo is in Club.friend through Bob, and Bob through Ann: the role comes three times on a branch, with three principals. */
+static const uint16_t friends[] = {1, BOB, 1, ANN, 2, 0, 3, 0, 4, 0};
+static const uint16_t circle[] = {1, BOB, 1, CLEO, 1, BOB}; /* Cleo through Bob, and Bob through Cleo: the same pair again */
 
 /* Each refusal in words, by its number. */
 static const char *const words[] = {
@@ -62,7 +75,7 @@ static const char *const words[] = {
     "there are more minimal sets than cells",
     "this node has fewer than two numbers left, or the tree ends before it and numbers are left over",
     "this node's credential or middle does not fit its goal",
-    "this node is too deep, or its role is already on the branch",
+    "this node is too deep, or its pair of principal and role is already on the branch",
     "this automaton is used and rejects a word",
     "the set is not on the list of minimal sets",
     "there are fewer cells than the record has numbers",
@@ -175,6 +188,8 @@ int main(void)
     tell_cells(4, UNCHANGED);
     tell("list V", bwlchareg_list(SLICE(V), ANN, SHOP, DISCOUNT, 2, SLICE(cells), &value), 0, 1);
     tell_cells(8, UNCHANGED);
+    tell("list W", bwlchareg_list(SLICE(W), CLEO, CLUB, FRIEND, 3, SLICE(cells), &value), 0, 1);
+    tell_cells(15, UNCHANGED);
     tell("list T, one cell", bwlchareg_list(SLICE(T), ANN, SHOP, DISCOUNT, 2, cells, 1, &value), 10, 0);
     tell_cells(7, UNCHANGED);
     tell("list no credentials", bwlchareg_list(SLICE(empty), ANN, SHOP, DISCOUNT, 2, SLICE(cells), &value), 9, 0);
@@ -187,6 +202,8 @@ int main(void)
     tell("verify with T, depth 1", bwlchareg_verify(SLICE(T), ANN, SHOP, DISCOUNT, 1, SLICE(record), &value), 13, 2);
     tell("verify two nodes of it", bwlchareg_verify(SLICE(T), ANN, SHOP, DISCOUNT, 2, record, 4, &value), 11, 3);
     tell("verify another middle", bwlchareg_verify(SLICE(T), ANN, SHOP, DISCOUNT, 2, SLICE(misled), &value), 12, 2);
+    tell("verify with W", bwlchareg_verify(SLICE(W), CLEO, CLUB, FRIEND, 3, SLICE(friends), &value), 0, 15);
+    tell("verify a circle with W", bwlchareg_verify(SLICE(W), CLEO, CLUB, FRIEND, 3, SLICE(circle), &value), 13, 3);
 
     write_the_list();
     tell_write("write set 7 of U", SLICE(U), 7, LENGTH(numbers), 15, NULL, 0);

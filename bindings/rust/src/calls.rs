@@ -79,8 +79,8 @@ pub fn check_query(table: &[u16], query: Query) -> Result<(), Refusal> {
 ///
 /// On an accepted table and a valid query a record is accepted exactly when it
 /// is one whole derivation of the queried membership, within the depth limit
-/// and with no role twice on a branch, and every word of it is accepted by
-/// every automaton attached to a credential that it uses.
+/// and with no pair of principal and role twice on a branch, and every word of
+/// it is accepted by every automaton attached to a credential that it uses.
 ///
 /// # Errors
 ///

@@ -25,7 +25,7 @@ use std::fmt;
 /// | 10 | there are more minimal sets than cells | 0 |
 /// | 11 | fewer than two numbers are left for a node, or numbers are left over after the tree | the node, or the number of nodes + 1 |
 /// | 12 | a node's credential is not in the table, defines another role than the goal's, or is kind 1 of another principal, or the middle is wrong | the node |
-/// | 13 | a node's level is above the depth limit, or its role is already on the branch | the node |
+/// | 13 | a node's level is above the depth limit, or its pair of principal and role is already on the branch | the node |
 /// | 14 | an automaton of a credential that the record uses rejects a word of the record | the least such automaton |
 /// | 15 | the set is not on the list of minimal sets | 0 |
 /// | 16 | there are fewer cells than the record has numbers | 0 |
@@ -159,7 +159,10 @@ fn condition(number: u32) -> &'static str {
             "does not fit its goal: its credential is not in the table, defines \
              another role or names another principal, or its middle is wrong"
         }
-        13 => "is deeper than the depth limit, or its role is already on the branch",
+        13 => {
+            "is deeper than the depth limit, or its pair of principal and role is \
+             already on the branch"
+        }
         14 => "rejects a word of the record",
         Refusal::NOT_LISTED => "the set is not on the list of minimal sets",
         Refusal::LONGER_RECORD => "there are fewer cells than the record has numbers",

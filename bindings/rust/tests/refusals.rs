@@ -257,7 +257,7 @@ fn branches_and_words() {
     let shallow = Query { depth: 1, ..QUERY };
     let words = "node 2 is deeper than the depth limit";
     told(verify(&TABLE, shallow, &RECORD), 13, 2, words);
-    let words = "its role is already on the branch";
+    let words = "its pair of principal and role is already on the branch";
     told(verify(&TABLE, QUERY, &[4, 0, 4, 0]), 13, 2, words);
 
     // Principal 4 in 1.4 asks for 4 in 1.3 too, so credential 2 is made 4's.
