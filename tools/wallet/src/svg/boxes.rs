@@ -10,7 +10,7 @@ use crate::Wallet;
 /// A line that goes on with the one above is indented by this.
 const FURTHER: &str = "  ";
 /// These words stay on a line with the word behind them.
-const TIED: [&str; 5] = ["<-", "&", "under", "in", "node"];
+const TIED: [&str; 6] = ["<-", "&", "under", "in", "node", "the"];
 
 /// What is written at a node.
 #[derive(Clone, Debug, Default)]
@@ -139,8 +139,8 @@ fn broken(lines: &[String], limit: usize) -> Vec<String> {
     shorter
 }
 
-/// The pieces of a line that stay whole: its words, but the tied ones and a
-/// number with a colon together with the word behind them.
+/// The pieces of a line that stay whole: its words, but the tied ones and what
+/// begins with a digit, `2:` or `2nd`, together with the word behind them.
 fn pieces(line: &str) -> Vec<String> {
     let mut pieces: Vec<String> = Vec::new();
     let mut tied = false;
@@ -149,8 +149,7 @@ fn pieces(line: &str) -> Vec<String> {
             Some(piece) if tied => *piece = format!("{piece} {word}"),
             _ => pieces.push(word.to_string()),
         }
-        let number = word.strip_suffix(':').map(str::parse::<u16>);
-        tied = TIED.contains(&word) || matches!(number, Some(Ok(_)));
+        tied = TIED.contains(&word) || word.starts_with(|sign: char| sign.is_ascii_digit());
     }
     pieces
 }
