@@ -7,3 +7,4 @@ pub mod Using
 pub mod Bounding
 pub mod Attaching
 pub mod Running
+pub mod Promised

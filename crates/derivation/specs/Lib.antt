@@ -5,3 +5,4 @@ pub mod Bounds
 pub mod Accepted
 pub mod Attached
 pub mod Held
+pub mod Promised

@@ -84,10 +84,13 @@ pub record OnBranch (t : List ℕ) (branch : List Goal) (above : Above) : Type 0
   pub room : length (above .persons) ≡ mostCredentials
   pub same : (g : Goal) → HasPlace t g → fresh branch g ≡ not (isAbove t above g)
 
+pub nothing-pair : (p r : ℕ) → pairAbove nothingAbove p r ≡ false
+unfolding pairAbove nothingAbove
+nothing-pair p r = rw (zeros mostCredentials r) (inSet-zero p)
+
 pub nothing-above : (t : List ℕ) (g : Goal) → isAbove t nothingAbove g ≡ false
-unfolding isAbove pairAbove nothingAbove
-nothing-above t g =
-    rw (zeros mostCredentials (roleAt t (g .role))) (inSet-zero (personAt t (g .principal .0)))
+unfolding isAbove
+nothing-above t g = nothing-pair (personAt t (g .principal .0)) (roleAt t (g .role))
 
 pub nothing-room : length (nothingAbove .persons) ≡ mostCredentials
 unfolding nothingAbove

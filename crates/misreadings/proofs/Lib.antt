@@ -1,1 +1,2 @@
 pub mod Misreadings
+pub mod Upgrading

@@ -38,7 +38,7 @@ within-through t S levels g c m goals applies own tried each =
     within-asked : (b : Bool) {all : Bool} → all ≡ true → pick b true all ≡ true
     within-asked b e = rw e (pick-same b refl)
 
-derived-within : {t : List ℕ} → WellFormed t → (S : ℕ) {levels : ℕ} {branch goals : List Goal} {f : Forest}
+pub derived-within : {t : List ℕ} → WellFormed t → (S : ℕ) {levels : ℕ} {branch goals : List Goal} {f : Forest}
     → Derives t levels branch goals f → UsesOnly f S → everyGoal (within t S levels) goals ≡ true
 unfolding everyGoal
 derived-within wf S done only = refl

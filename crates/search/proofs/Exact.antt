@@ -4,7 +4,7 @@
 use mathlib.Core.Path.{_≡_, refl, sym, ap, ap₂, _∙_}
 use mathlib.Core.List.{List}
 use mathlib.Core.Bool.{Bool, true, false, not}
-use Prim.Native.Nat.{ℕ, zero, suc, _<_}
+use Prim.Native.Nat.{ℕ, zero, suc, _<_, _≤_}
 use native.Mathlib.Omega.{arith}
 use native.Mathlib.Decide.{ℕ-discrete}
 use lib.ListN.{length}
@@ -50,6 +50,18 @@ proves-more t S A (suc levels) above s g h =
     (proves-more t S A levels deeper below) (part A (acceptingSet t below)) (part A (acceptingSet t below)) (λ e. e) t g (suc c)
     (and-second _ _ both)))
     (and-second _ _ h))
+
+pub proves-later : (t : List ℕ) (S A levels more : ℕ) → levels ≤ more → (above : Above) (s : StateSets) (g : Goal)
+    → proves t S A levels above s g ≡ true → proves t S A more above s g ≡ true
+proves-later t S A levels zero few above s g h = let e : levels ≡ 0 = omega arith in rw e at h
+proves-later t S A levels (suc more) few above s g h =
+    go (ℕ-discrete levels (suc more))
+    (λ before. proves-more t S A more above s g (proves-later t S A levels more before above s g h))
+  where
+    go : Dec (levels ≡ suc more) → (levels ≤ more → proves t S A (suc more) above s g ≡ true)
+        → proves t S A (suc more) above s g ≡ true
+    go (yes e) below = rw e at h
+    go (no e) below = below (omega arith)
 
 -- goals that stand at the same places are the same
 same-places : (t : List ℕ) (g h : Goal) → HasPlace t h

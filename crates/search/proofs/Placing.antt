@@ -109,7 +109,13 @@ searched-fewer levels′ fewer searched =
       wellFormed = searched .wellFormed;
       indexed = searched .indexed;
       members =
-          record { room = members .room; few = members .few; every = λ k l g h. members .every k (omega arith) g h; only = λ k l g h. members .only k (omega arith) g h };
+          record {
+            room = members .room;
+            few = members .few;
+            every = λ k l g h. members .every k (omega arith) g h;
+            only = λ k l g h. members .only k (omega arith) g h;
+          };
+      shallow = omega (arith, searched .shallow);
     }
 
 -- a principal with a place, and any role
@@ -315,10 +321,13 @@ pub most : {t : List ℕ} → WellFormed t → (i : ℕ) → i ≤ credentials t
 most wf i l = omega (arith, wf .sized .counted .fewCredentials)
 
 -- the row that tells of so many levels is one of the table's
-pub row-fits : {t rows : List ℕ} {S levels last row : ℕ} → Members t S levels last rows → row ≡ lesser levels last → row ≤ 16
+pub row-within : (levels last row : ℕ) → row ≡ lesser levels last → last ≤ 16 → row ≤ 16
 unfolding lesser pick
-row-fits {levels = levels} {last = last} members e = rw e (go (ltb levels last) refl)
+row-within levels last row e few = rw e (go (ltb levels last) refl)
   where
     go : (b : Bool) → ltb levels last ≡ b → pick b levels last ≤ 16
-    go true less = omega (arith, ltb-true levels last less, members .few)
-    go false less = members .few
+    go true less = omega (arith, ltb-true levels last less)
+    go false less = few
+
+pub row-fits : {t rows : List ℕ} {S levels last row : ℕ} → Members t S levels last rows → row ≡ lesser levels last → row ≤ 16
+row-fits {levels = levels} {last = last} {row = row} members e = row-within levels last row e (members .few)

@@ -223,7 +223,7 @@ module _ (t : List ℕ) (wf : WellFormed t) (S A : ℕ) where
 
   -- what the search finds is shown; the pairs `above` are those of the branch, and the automata have come to the state sets s along
   -- the word w
-  proves-shown : (levels : ℕ) (branch : List Goal) (above : Above) → OnBranch t branch above
+  pub proves-shown : (levels : ℕ) (branch : List Goal) (above : Above) → OnBranch t branch above
       → (w : List Role) (s : StateSets) → Led t A s w
       → (g : Goal) → proves t S A levels above s g ≡ true → Shown t S A levels branch w (g ∷ [])
   unfolding proves mayUse

@@ -44,7 +44,7 @@ step-down t S A (suc l) above s g left = rw (sub-one (suc l))
 
 module _ (t : List ℕ) (S A levels : ℕ) (above : Above) (s : StateSets) (person place : ℕ) (stands : Stands t person place)
     (there : place < credentials t) (left : levels ≡ 0 → ⊥) where
-  place-step : (not (pairAbove above person place) and anyBelow (provesWith t S
+  pub place-step : (not (pairAbove above person place) and anyBelow (provesWith t S
       (proves t S A (levels - 1) (withPair above person place) (stepped t A (credential t (suc place) .role) s))
       (part A (acceptingSet t (stepped t A (credential t (suc place) .role) s))) (goalAt t person place)) (credentials t))
       ≡ provesAt t S A levels above s person place

@@ -1,3 +1,4 @@
 pub mod Search
+pub mod Failing
 pub mod Promised
 pub mod Admits

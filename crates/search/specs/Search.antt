@@ -8,6 +8,7 @@ use mathlib.Core.Bool.{Bool, true, false, not}
 use lib.ListN.{getD}
 use lib.Dec.{eqb, ltb}
 use Rattle.sets.specs.Logic.{_and_, anyBelow, pick}
+use Rattle.table.specs.Limits.{mostDepth}
 use Rattle.table.specs.Layout.{credential, credentials, principal}
 use Rattle.table.specs.Holding.{WellFormed}
 use Rattle.table.specs.Checks.{Valid}
@@ -88,11 +89,13 @@ pub record Stands (t : List ℕ) (person place : ℕ) : Type 0 where
   pub few : place ≤ credentials t
   pub first : place < credentials t → roleAt t (credential t (suc place) .role) ≡ place
 
--- a search with so many levels left: an accepted table, its index, and the members within these levels by the credentials of S
+-- a search with so many levels left, no more than a query allows: an accepted table, its index, and the members within these levels
+-- by the credentials of S
 pub record Searched (t index rows : List ℕ) (S levels last : ℕ) : Type 0 where
   pub wellFormed : WellFormed t
   pub indexed : Indexed t index
   pub members : Members t S levels last rows
+  pub shallow : levels ≤ mostDepth
 
 -- credential i + 1 is tried for the principal who stands at `person`
 pub record Tried (t : List ℕ) (person i : ℕ) : Type 0 where

@@ -1,22 +1,17 @@
-// Whether the allowed credentials prove a goal when every word must be accepted by each of some automata. A goal is proved
-// through a credential, and a credential through the goals of its premises, so each rests on the other one level further down.
-// Goals are asked by the places of principal and role (crate members), and only those that the table of members has.
+// Whether the allowed credentials prove a goal when every word must be accepted by each of some automata, and the tests of which
+// the search is made. Goals are asked by the places of principal and role (crate members).
 use crate::Terms;
+use crate::seeking;
 use automata::Moved;
 use automata::StateSets;
 use members::Above;
 use members::ROW;
 use sets::AutomatonSet;
 use sets::CredentialSet;
-use table::INTERSECTION_CONTAINMENT;
-use table::LINKING_CONTAINMENT;
 use table::Number;
 use table::Role;
-use table::SIMPLE_CONTAINMENT;
-use table::SIMPLE_MEMBERSHIP;
 use table::layout;
 ghost use mathlib.Core.Path.{_≡_};
-ghost use mathlib.Core.Logic.{_⊎_};
 ghost use Prim.Native.Nat.{suc, _<_, _≤_};
 ghost use lib.ListN.{getD, length};
 ghost use lib.Dec.{eqb};
@@ -28,11 +23,13 @@ ghost use Rattle.automata.specs.Together.{acceptingSet};
 ghost use Rattle.members.specs.Places.{isPerson};
 ghost use Rattle.members.specs.Trying.{provesBy};
 ghost use Rattle.members.specs.Members.{Indexed, Placed, askedCell, lesser, rowCell, tableCells};
+ghost use Rattle.members.specs.Levels.{askedMembers};
 ghost use Rattle.search.specs.Search;
 ghost use Rattle.search.specs.Search.{Searched, Stands, Tried, askedBefore, goalAt, proves, provesAt, usable};
+ghost use Rattle.search.specs.Failing.{mayBeProved};
 
 // The principal at `person` is proved to be in the role at `place`, with so many levels left, by some allowed credential, where the
-// pairs `above` stand on the branch. Where an imposed automaton is dead no word is accepted, so the branch is left.
+// pairs `above` stand on the branch.
 pub fn goal_search(
     table: &[Number],
     index: &[u8],
@@ -48,45 +45,20 @@ pub fn goal_search(
     requires { ⌜ Stands (now table) person place ⌝ }
     ensures { λ r. ⌜ r ≡ provesAt (now (table .entry)) (terms .allowed) (terms .constraints) levels above states person place ⌝ }
 {
-    if levels == 0 {
-        return false;
-    }
-    let n = layout::credentials(table);
-    if n <= place {
-        return false;
-    }
-    if !is_listed(rows, row_of(levels, terms.last), person, place) {
-        return false;
-    }
-    if above.has(person, place) {
-        return false;
-    }
-    let role = role_of(table, place);
-    let below = stepped(table, terms.constraints, role, states);
-    if any_dead(terms.constraints, below.dead) {
-        return false;
-    }
-    let deeper = above.with(person, place);
-    let mut i = 0;
-    while i < n {
-        if may_use(index, terms.allowed, place, i) {
-            if credential_search(
-                table,
-                index,
-                rows,
-                terms,
-                person,
-                i,
-                levels - 1,
-                below.states,
-                deeper,
-            ) {
-                return true;
-            }
-        }
-        i += 1;
-    }
-    false
+    let mut memory = [0; failures::CELLS];
+    let answer = seeking::seek_goal(
+        table,
+        index,
+        rows,
+        terms,
+        person,
+        place,
+        levels,
+        states,
+        above,
+        &mut memory,
+    );
+    answer.proved
 }
 
 // Credential i + 1 proves the goal, with some middle; so many levels are left for what it asks.
@@ -107,143 +79,24 @@ pub fn credential_search(
         (proves (now (table .entry)) (terms .allowed) (terms .constraints) levels above states)
         (part (terms .constraints) (acceptingSet (now (table .entry)) states)) (goalAt (now (table .entry)) person i) (suc i) ⌝ }
 {
-    let credential = layout::credential(table, i + 1);
-    let kind = credential.kind;
-    match kind {
-        SIMPLE_MEMBERSHIP => ends_word(table, index, terms.constraints, person, i, states),
-        SIMPLE_CONTAINMENT => parts_search(
-            table,
-            index,
-            rows,
-            terms,
-            person,
-            i,
-            levels,
-            states,
-            above,
-        ),
-        LINKING_CONTAINMENT => linked_search(
-            table,
-            index,
-            rows,
-            terms,
-            person,
-            i,
-            levels,
-            states,
-            above,
-        ),
-        INTERSECTION_CONTAINMENT => parts_search(
-            table,
-            index,
-            rows,
-            terms,
-            person,
-            i,
-            levels,
-            states,
-            above,
-        ),
-        _ => false,
-    }
-}
-
-// Credential i + 1, of kind 2 or 4, proves the goal: the principal is in each of the roles that it asks.
-fn parts_search(
-    table: &[Number],
-    index: &[u8],
-    rows: &[CredentialSet],
-    terms: Terms,
-    person: usize,
-    i: usize,
-    levels: usize,
-    states: StateSets,
-    above: Above,
-) -> bool
-    requires { ⌜ Searched (now table) (now index) (now rows) (terms .allowed) levels (terms .last) ⌝ }
-    requires { ⌜ Tried (now table) person i ⌝ }
-    requires { ⌜ (credential (now table) (suc i) .kind ≡ 2) ⊎ (credential (now table) (suc i) .kind ≡ 4) ⌝ }
-    ensures { λ r. ⌜ r ≡ provesBy (now (table .entry))
-        (proves (now (table .entry)) (terms .allowed) (terms .constraints) levels above states)
-        (part (terms .constraints) (acceptingSet (now (table .entry)) states)) (goalAt (now (table .entry)) person i) (suc i) ⌝ }
-{
-    if !sets::has(
-        members::asked_members(index, rows, row_of(levels, terms.last), i),
+    let mut memory = [0; failures::CELLS];
+    let answer = seeking::seek_through(
+        table,
+        index,
+        rows,
+        terms,
         person,
-    ) {
-        return false;
-    }
-    let mut k = 0;
-    while k < 4 {
-        if !is_asked_before(index, i, k) {
-            if !goal_search(
-                table,
-                index,
-                rows,
-                terms,
-                person,
-                members::asked_cell(index, i, k),
-                levels,
-                states,
-                above,
-            ) {
-                return false;
-            }
-        }
-        k += 1;
-    }
-    true
-}
-
-// Credential i + 1, of kind 3, proves the goal: some middle is in its first role, and the principal in the middle's second.
-fn linked_search(
-    table: &[Number],
-    index: &[u8],
-    rows: &[CredentialSet],
-    terms: Terms,
-    person: usize,
-    i: usize,
-    levels: usize,
-    states: StateSets,
-    above: Above,
-) -> bool
-    requires { ⌜ Searched (now table) (now index) (now rows) (terms .allowed) levels (terms .last) ⌝ }
-    requires { ⌜ Tried (now table) person i ⌝ }
-    requires { ⌜ credential (now table) (suc i) .kind ≡ 3 ⌝ }
-    ensures { λ r. ⌜ r ≡ provesBy (now (table .entry))
-        (proves (now (table .entry)) (terms .allowed) (terms .constraints) levels above states)
-        (part (terms .constraints) (acceptingSet (now (table .entry)) states)) (goalAt (now (table .entry)) person i) (suc i) ⌝ }
-{
-    let n = layout::credentials(table);
-    let row = row_of(levels, terms.last);
-    let first = members::asked_cell(index, i, 0);
-    let mut j = 0;
-    while j < n {
-        let second = members::link_cell(index, i, j);
-        if is_middle(table, index, rows, row, person, j, first, second) {
-            if goal_search(table, index, rows, terms, j, first, levels, states, above) {
-                if goal_search(
-                    table,
-                    index,
-                    rows,
-                    terms,
-                    person,
-                    second,
-                    levels,
-                    states,
-                    above,
-                ) {
-                    return true;
-                }
-            }
-        }
-        j += 1;
-    }
-    false
+        i,
+        levels,
+        states,
+        above,
+        &mut memory,
+    );
+    answer.proved
 }
 
 // Credential i + 1, of kind 1, proves the goal: it names the principal, and each of the automata accepts the word that ends here.
-fn ends_word(
+pub fn ends_word(
     table: &[Number],
     index: &[u8],
     constraints: AutomatonSet,
@@ -291,6 +144,49 @@ pub fn is_middle(
     members::is_person(table, index, j)
 }
 
+// Levels are left, the role is defined, and the principal is in it by the row of the levels: else it need not be sought.
+pub fn may_be_proved(
+    table: &[Number],
+    rows: &[CredentialSet],
+    last: usize,
+    person: usize,
+    place: usize,
+    levels: usize,
+) -> bool
+    requires { ⌜ WellFormed (now table) ⌝ }
+    requires { ⌜ (length (now rows) ≡ tableCells) × (last ≤ 16) ⌝ }
+    requires { ⌜ (person < 20) × (place ≤ 20) ⌝ }
+    ensures { λ r. ⌜ r ≡ mayBeProved (now (table .entry)) (now (rows .entry)) last person place levels ⌝ }
+{
+    if levels == 0 {
+        return false;
+    }
+    if layout::credentials(table) <= place {
+        return false;
+    }
+    is_listed(rows, row_of(levels, last), person, place)
+}
+
+// By the row of the levels, the principal is in each role that credential i + 1 asks.
+pub fn are_listed(
+    index: &[u8],
+    rows: &[CredentialSet],
+    last: usize,
+    person: usize,
+    i: usize,
+    levels: usize,
+) -> bool
+    requires { ⌜ Placed (now index) ⌝ }
+    requires { ⌜ (length (now rows) ≡ tableCells) × (last ≤ 16) ⌝ }
+    requires { ⌜ (person < 20) × (i < 20) ⌝ }
+    ensures { λ r. ⌜ r ≡ inSet (askedMembers (now (index .entry)) (now (rows .entry)) (lesser levels last) i) person ⌝ }
+{
+    sets::has(
+        members::asked_members(index, rows, row_of(levels, last), i),
+        person,
+    )
+}
+
 // The row that tells of so many levels: from the last row on nothing is new.
 pub fn row_of(levels: usize, last: usize) -> usize
     ensures { λ r. ⌜ r ≡ lesser levels last ⌝ }
@@ -335,7 +231,7 @@ pub fn stepped(table: &[Number], constraints: AutomatonSet, role: Role, states: 
 }
 
 // Some automaton that is imposed is dead.
-fn any_dead(constraints: AutomatonSet, dead: AutomatonSet) -> bool
+pub fn any_dead(constraints: AutomatonSet, dead: AutomatonSet) -> bool
     ensures { λ r. ⌜ r ≡ meets constraints dead ⌝ }
 {
     constraints & dead != 0
@@ -354,7 +250,7 @@ pub fn may_use(index: &[u8], allowed: CredentialSet, place: usize, i: usize) -> 
 }
 
 // A chain that names a role more than once proves it once: every word is judged alike, whichever of them it goes through.
-fn is_asked_before(index: &[u8], i: usize, k: usize) -> bool
+pub fn is_asked_before(index: &[u8], i: usize, k: usize) -> bool
     requires { ⌜ Placed (now index) ⌝ }
     requires { ⌜ (i < 20) × (k < 4) ⌝ }
     ensures { λ r. ⌜ r ≡ askedBefore (now (index .entry)) i k ⌝ }

@@ -3,7 +3,8 @@
 // `derivation` promises: which goals a credential asks, and what may not repeat on a branch.
 // specs/Search.antt and specs/Admits.antt say what the answers mean.
 mod admission; // admission.rt: whether some accepted record uses only credentials of a set
-mod goals; // goals.rt: a goal through a credential, and a credential through the goals of its premises
+mod goals; // goals.rt: whether a goal or a credential is proved, and the search's tests
+mod seeking; // seeking.rt: a goal through a credential, and a credential through the goals of its premises
 
 pub use admission::admits;
 use automata::StateSets;

@@ -5,6 +5,7 @@ use native.Mathlib.Omega.{arith}
 use Prim.Native.Nat.{_<_}
 use denote.Ref.{now}
 use Rattle.table.specs.Layout.{credentials}
+use Rattle.derivation.proofs.Above.{depth-fits}
 use Rattle.search.proofs.Placing.{below-most, row-fits}
 use Rattle.search.proofs.Starting.{goal-found, goal-listed, goal-stands, goal-unnamed}
 use borrow.Author.Needs.{needs}
@@ -66,7 +67,12 @@ goal-search-requires : tie.Need-goal-search-requires
 goal-search-requires c κs =
     let at = c .before .before .before .before in
     let pre = from at .pre in (
-      record { wellFormed = pre .0 .wellFormed; indexed = pre .0 .indexed; members = rw (at .wide .ensures .0) (pre .1) },
+      record {
+        wellFormed = pre .0 .wellFormed;
+        indexed = pre .0 .indexed;
+        members = rw (at .wide .ensures .0) (pre .1);
+        shallow = omega (arith, depth-fits _ (pre .0 .valid), at .wide .ensures .0);
+      },
       goal-stands (pre .0) (at .before .before .before .before .goal-person .ensures .0) (there at)
           (at .before .goal-role .ensures .0),
     )

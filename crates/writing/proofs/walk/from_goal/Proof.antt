@@ -1,5 +1,6 @@
 -- `writing::walk::from_goal` meets its contract. Assumes nothing.
 use native.Mathlib.Omega.{arith}
+use Rattle.derivation.proofs.Above.{depth-fits}
 use Rattle.writing.proofs.Beginning.{begins-proved, begins-stands, begins-walked}
 use borrow.Author.Needs.{needs}
 use Rattle.writing.proofs.walk.from_goal.Statement.{statement}
@@ -34,7 +35,12 @@ walk-requires c κs =
     let who = at .before .before .before .goal-person .ensures .0 in
     let place = at .before .before .goal-role .ensures .0 in
     let levels = at .before .wide .ensures .0 in (
-      record { wellFormed = pre .0 .wellFormed; indexed = pre .0 .indexed; members = rw levels (pre .1 .0) },
+      record {
+        wellFormed = pre .0 .wellFormed;
+        indexed = pre .0 .indexed;
+        members = rw levels (pre .1 .0);
+        shallow = omega (arith, depth-fits _ (pre .0 .valid), levels);
+      },
       (
         begins-stands (pre .0) (pre .1 .0) _ (pre .1 .1 .0) who place,
         (

@@ -1,0 +1,85 @@
+-- `failures::keep` meets its contract: the three stretches of a slot are written. Assumes nothing.
+use mathlib.Core.Path.{_∙_}
+use native.Mathlib.Omega.{arith}
+use lib.ListN.{length-set}
+use Rattle.failures.proofs.Slots.{head-written, kept}
+use borrow.Author.Needs.{needs}
+use Rattle.failures.proofs.keep.Statement.{statement}
+use Rattle.failures.proofs.keep.Tie as tie
+
+mul-at : tie.Need-mul-at
+mul-at c = search needs
+
+cast-memory : tie.Need-cast-memory
+cast-memory c = search needs
+
+mul-memory : tie.Need-mul-memory
+mul-memory c = search needs
+
+slice-write-memory : tie.Need-slice-write-memory
+slice-write-memory c = search needs
+
+cast-memory-2 : tie.Need-cast-memory-2
+cast-memory-2 c = search needs
+
+add-memory : tie.Need-add-memory
+add-memory c = search needs
+
+mul-memory-2 : tie.Need-mul-memory-2
+mul-memory-2 c = search needs
+
+slice-write-memory-2 : tie.Need-slice-write-memory-2
+slice-write-memory-2 c = simp length-set (omega arith)
+
+cast-memory-3 : tie.Need-cast-memory-3
+cast-memory-3 c = search needs
+
+add-memory-2 : tie.Need-add-memory-2
+add-memory-2 c = search needs
+
+mul-memory-3 : tie.Need-mul-memory-3
+mul-memory-3 c = search needs
+
+slice-write-memory-3 : tie.Need-slice-write-memory-3
+slice-write-memory-3 c = simp length-set (omega arith)
+
+put-states-requires : tie.Need-put-states-requires
+put-states-requires c κs = search needs
+
+put-met-requires : tie.Need-put-met-requires
+put-met-requires c κs =
+    let pre = c .before .before .before .before .before .before .pre .0 in
+    (c .before .before .before .put-states .ensures .room ∙ simp length-set (pre .0), pre .1)
+
+same-length : tie.Need-same-length
+same-length c =
+    c .before .before .put-met .ensures .room
+    ∙ c .before .before .before .before .before .before .put-states .ensures .room
+    ∙ simp length-set
+
+returns : tie.Need-returns
+returns c =
+    let pre = c .before .before .before .before .before .before .before .before .before .pre .0 in
+    let states = c .before .before .before .before .before .before .put-states .ensures in
+    kept _ _ _ _ _ _ _ _ _ _ (head-written _ _ _ _ _ (pre .0) (pre .1)) states (c .before .before .put-met .ensures)
+
+pub keep-spec : {M : Type 1} → statement M
+keep-spec =
+    tie.close
+    (tie.spec
+    mul-at
+    cast-memory
+    mul-memory
+    slice-write-memory
+    cast-memory-2
+    add-memory
+    mul-memory-2
+    slice-write-memory-2
+    cast-memory-3
+    add-memory-2
+    mul-memory-3
+    slice-write-memory-3
+    put-states-requires
+    put-met-requires
+    same-length
+    returns)

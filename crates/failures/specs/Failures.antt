@@ -1,0 +1,72 @@
+-- A memory of goals that failed, as a search keeps it: slots of thirty-two cells each. A slot has the levels that were left (cell
+-- 0), the places of principal and role (cells 1 and 2), the state sets (eight cells from cell 4 on), and the pairs of the branch
+-- that stood in the way: for each place of a role the principals (twenty cells from cell 12 on). What a slot means is for the
+-- search to say (crate search, specs/Failing.antt).
+use Prim.Native.Nat.{ℕ, _+_, _*_, _<_, _≤_}
+use mathlib.Core.Path.{_≡_}
+use mathlib.Core.List.{List}
+use mathlib.Core.Bool.{Bool, true, not}
+use mathlib.Core.Logic.{_⊎_}
+use lib.ListN.{getD, length}
+use lib.Bits.{bitOr}
+use lib.Dec.{eqb}
+use Rattle.sets.specs.Logic.{_and_}
+use Rattle.sets.specs.Sets.{part}
+use Rattle.table.specs.Limits.{mostAutomata, mostCredentials}
+use Rattle.automata.specs.declared.StateSets.{StateSets}
+use Rattle.members.specs.Above.{pairAbove}
+use Rattle.members.specs.declared.above.Above.{Above}
+
+abbrev pub slots : ℕ
+slots = 256
+
+abbrev pub slotCells : ℕ
+slotCells = 32
+
+abbrev pub memoryCells : ℕ
+memoryCells = slotCells * slots
+
+abbrev pub slotCell : ℕ → ℕ → ℕ
+slotCell k x = slotCells * k + x
+
+abbrev pub stateCell : ℕ → ℕ → ℕ
+stateCell k j = slotCell k (4 + j)
+
+abbrev pub metCell : ℕ → ℕ → ℕ
+metCell k r = slotCell k (12 + r)
+
+-- what slot k holds
+pub record Holds (memory : List ℕ) (k person place levels : ℕ) (s : StateSets) (met : Above) : Type 0 where
+  pub levels-is : getD memory (slotCell k 0) 0 ≡ levels
+  pub person-is : getD memory (slotCell k 1) 0 ≡ person
+  pub place-is : getD memory (slotCell k 2) 0 ≡ place
+  pub states-are : (j : ℕ) → j < mostAutomata → getD memory (stateCell k j) 0 ≡ getD (s .sets) j 0
+  pub met-is : (r : ℕ) → r < mostCredentials → getD memory (metCell k r) 0 ≡ getD (met .persons) r 0
+
+-- slot k speaks of this goal, from these state sets, with as many levels or more, and all that stood in the way stands here too
+pub record Recalled (memory : List ℕ) (k person place levels : ℕ) (s : StateSets) (above : Above) : Type 0 where
+  pub enough : levels ≤ getD memory (slotCell k 0) 0
+  pub person-is : getD memory (slotCell k 1) 0 ≡ person
+  pub place-is : getD memory (slotCell k 2) 0 ≡ place
+  pub states-are : (j : ℕ) → j < mostAutomata → getD memory (stateCell k j) 0 ≡ getD (s .sets) j 0
+  pub covered : (r : ℕ) → r < mostCredentials → part (getD memory (metCell k r) 0) (getD (above .persons) r 0) ≡ true
+
+-- slot k is written, and no other
+pub record Kept (k person place levels : ℕ) (s : StateSets) (met : Above) (before after : List ℕ) : Type 0 where
+  pub room : length after ≡ length before
+  pub holds : Holds after k person place levels s met
+  pub others : (x : ℕ) → (x < slotCell k 0) ⊎ (slotCell (k + 1) 0 ≤ x) → getD after x 0 ≡ getD before x 0
+
+-- the pairs that stood in the way in slot k
+abbrev pub MetAt : List ℕ → ℕ → Above → Type 0
+MetAt memory k met = (r : ℕ) → r < mostCredentials → getD (met .persons) r 0 ≡ getD memory (metCell k r) 0
+
+-- the pairs of both
+abbrev pub Joined : Above → Above → Above → Type 0
+Joined one other both =
+    (r : ℕ) → r < mostCredentials → getD (both .persons) r 0 ≡ bitOr (getD (one .persons) r 0) (getD (other .persons) r 0)
+
+-- all but one pair
+abbrev pub Spared : Above → ℕ → ℕ → Above → Type 0
+Spared all person place rest =
+    (p r : ℕ) → r < mostCredentials → pairAbove rest p r ≡ (pairAbove all p r and not (eqb person p and eqb place r))

@@ -1,0 +1,942 @@
+-- The search meets its contracts, by the levels left: each loop knows that what it has tried so far does not prove the goal below any
+-- branch on which the pairs stand that it has met, or, over the parts, that none of them has failed; and that the memory has only
+-- goals that fail. Assumes nothing.
+use Prim.Native.Nat.{ℕ, _*_, _+_, _-_, _<_, _≤_}
+use mathlib.Core.Bool.{false}
+use mathlib.Core.List.{List}
+use mathlib.Core.Logic.{inl, inr, ⊎-elim}
+use mathlib.Core.Path.{_≡_, _∙_, refl, sym}
+use native.Mathlib.Omega.{arith}
+use lib.ListN.{length}
+use borrow.Author.Tests.{not-false, not-true}
+use borrow.Author.Needs.{needs}
+use borrow.Fn.Kinds.{In, Out, PK}
+use borrow.Fn.PlainCycle.{Measures, is, falls, and}
+use Rattle.sets.specs.Logic.{anyBelow}
+use Rattle.sets.proofs.Tests.{failed, passed}
+use Rattle.table.specs.Limits.{mostAutomata, mostCredentials}
+use Rattle.search.specs.Search.{provesAt}
+use Rattle.search.specs.Failing.{Failed, Remembered}
+use Rattle.search.proofs.Placing.{below-most, cell-named, kind-other, kind-read, partMissed, row-fits, searched-fewer}
+use Rattle.search.proofs.Leaving.{dead-tried}
+use Rattle.search.proofs.Failing.{judged-told, recalled-failed, remembered-more}
+use Rattle.search.proofs.Below.{goal-again, goal-failed, goal-proved, goal-unlisted, judged-failed, judged-found, judged-moved}
+use Rattle.search.proofs.Below.{link-failed, link-first, link-found, link-second, link-skipped, links-all, links-none}
+use Rattle.search.proofs.Below.{judged-never, judged-proved, middle-read, noneLinked, noneTried, opened, part-failed, parts-missed}
+use Rattle.search.proofs.Below.{tried-all, tried-failed, tried-none, tried-proved, tried-unused}
+use Rattle.search.proofs.Trying.{all-proved, part-proved, part-repeated, stands-first, stands-part, stands-second}
+use Rattle.search.proofs.seeking.seek_below.Reads as seek-below
+use Rattle.search.proofs.seeking.seek_below.Kinds as seek-below-kinds
+use Rattle.search.proofs.seeking.+seek_below+seek_goal+seek_link+seek_linked+seek_parts+seek_through.Lts-seek_below as seek-below-lts
+use Rattle.search.proofs.seeking.seek_goal.Reads as seek-goal
+use Rattle.search.proofs.seeking.seek_goal.Kinds as seek-goal-kinds
+use Rattle.search.proofs.seeking.+seek_below+seek_goal+seek_link+seek_linked+seek_parts+seek_through.Lts-seek_goal as seek-goal-lts
+use Rattle.search.proofs.seeking.seek_link.Reads as seek-link
+use Rattle.search.proofs.seeking.seek_link.Kinds as seek-link-kinds
+use Rattle.search.proofs.seeking.+seek_below+seek_goal+seek_link+seek_linked+seek_parts+seek_through.Lts-seek_link as seek-link-lts
+use Rattle.search.proofs.seeking.seek_linked.Reads as seek-linked
+use Rattle.search.proofs.seeking.seek_linked.Kinds as seek-linked-kinds
+use Rattle.search.proofs.seeking.+seek_below+seek_goal+seek_link+seek_linked+seek_parts+seek_through.Lts-seek_linked as seek-linked-lts
+use Rattle.search.proofs.seeking.seek_parts.Reads as seek-parts
+use Rattle.search.proofs.seeking.seek_parts.Kinds as seek-parts-kinds
+use Rattle.search.proofs.seeking.+seek_below+seek_goal+seek_link+seek_linked+seek_parts+seek_through.Lts-seek_parts as seek-parts-lts
+use Rattle.search.proofs.seeking.seek_through.Reads as seek-through
+use Rattle.search.proofs.seeking.seek_through.Kinds as seek-through-kinds
+use Rattle.search.proofs.seeking.+seek_below+seek_goal+seek_link+seek_linked+seek_parts+seek_through.Lts-seek_through as seek-through-lts
+use Rattle.failures.proofs.joined.Reads as joined-reads
+use Rattle.failures.proofs.keep.Reads as keep-reads
+use Rattle.failures.proofs.met_at.Reads as met-at-reads
+use Rattle.failures.proofs.recalls.Reads as recalls-reads
+use Rattle.failures.proofs.slot.Reads as slot-reads
+use Rattle.failures.proofs.without.Reads as without-reads
+use Rattle.members.proofs.above.Above.has.Reads as has-reads
+use Rattle.members.proofs.above.Above.nothing.Reads as nothing-reads
+use Rattle.members.proofs.above.Above.with.Reads as with-reads
+use Rattle.members.proofs.asked_cell.Reads as asked-cell-reads
+use Rattle.members.proofs.link_cell.Reads as link-cell-reads
+use Rattle.search.proofs.goals.any_dead.Reads as any-dead-reads
+use Rattle.search.proofs.goals.are_listed.Reads as are-listed-reads
+use Rattle.search.proofs.goals.ends_word.Reads as ends-word-reads
+use Rattle.search.proofs.goals.is_asked_before.Reads as is-asked-before-reads
+use Rattle.search.proofs.goals.is_middle.Reads as is-middle-reads
+use Rattle.search.proofs.goals.may_be_proved.Reads as may-be-proved-reads
+use Rattle.search.proofs.goals.may_use.Reads as may-use-reads
+use Rattle.search.proofs.goals.role_of.Reads as role-of-reads
+use Rattle.search.proofs.goals.row_of.Reads as row-of-reads
+use Rattle.search.proofs.goals.stepped.Reads as stepped-reads
+use Rattle.search.proofs.seeking.failed.Reads as failed-reads
+use Rattle.search.proofs.seeking.found.Reads as found-reads
+use Rattle.search.proofs.seeking.proved.Reads as proved-reads
+use Rattle.table.proofs.layout.credential.Reads as credential-reads
+use Rattle.table.proofs.layout.credentials.Reads as credentials-reads
+use Rattle.search.proofs.seeking.+seek_below+seek_goal+seek_link+seek_linked+seek_parts+seek_through.{statement}
+use Rattle.search.proofs.seeking.+seek_below+seek_goal+seek_link+seek_linked+seek_parts+seek_through.Tie.{close}
+
+-- each function calls the next with as many levels, and a goal is entered with one less
+abbrev μ-seek-below : Measures 4 seek-below-kinds.ps ℕ
+μ-seek-below κs a = 5 * (a .1 .1 .1 .1 .1 .1 .0) + 4
+
+abbrev μ-seek-goal : Measures 4 seek-goal-kinds.ps ℕ
+μ-seek-goal κs a = 5 * (a .1 .1 .1 .1 .1 .1 .0)
+
+abbrev μ-seek-link : Measures 4 seek-link-kinds.ps ℕ
+μ-seek-link κs a = 5 * (a .1 .1 .1 .1 .1 .1 .1 .1 .0) + 1
+
+abbrev μ-seek-linked : Measures 4 seek-linked-kinds.ps ℕ
+μ-seek-linked κs a = 5 * (a .1 .1 .1 .1 .1 .1 .0) + 2
+
+abbrev μ-seek-parts : Measures 4 seek-parts-kinds.ps ℕ
+μ-seek-parts κs a = 5 * (a .1 .1 .1 .1 .1 .1 .0) + 1
+
+abbrev μ-seek-through : Measures 4 seek-through-kinds.ps ℕ
+μ-seek-through κs a = 5 * (a .1 .1 .1 .1 .1 .1 .0) + 3
+
+-- what a function asks where its measure is t, and where it is less
+abbrev measured : (ps : List (PK 4)) → Measures 4 ps ℕ → In 4 ps → ℕ → In 4 ps
+measured ps μ pre t = and 4 ps (is 4 ps μ t) pre
+
+abbrev fallen : (ps : List (PK 4)) → Measures 4 ps ℕ → In 4 ps → ℕ → In 4 ps
+fallen ps μ pre t = and 4 ps (falls 4 ps _<_ μ t) pre
+
+abbrev seek-below-at : ℕ → In 4 seek-below-kinds.ps
+seek-below-at = measured seek-below-kinds.ps μ-seek-below seek-below.Pre
+
+abbrev seek-below-below : ℕ → In 4 seek-below-kinds.ps
+seek-below-below = fallen seek-below-kinds.ps μ-seek-below seek-below.Pre
+
+abbrev seek-goal-at : ℕ → In 4 seek-goal-kinds.ps
+seek-goal-at = measured seek-goal-kinds.ps μ-seek-goal seek-goal.Pre
+
+abbrev seek-goal-below : ℕ → In 4 seek-goal-kinds.ps
+seek-goal-below = fallen seek-goal-kinds.ps μ-seek-goal seek-goal.Pre
+
+abbrev seek-link-at : ℕ → In 4 seek-link-kinds.ps
+seek-link-at = measured seek-link-kinds.ps μ-seek-link seek-link.Pre
+
+abbrev seek-link-below : ℕ → In 4 seek-link-kinds.ps
+seek-link-below = fallen seek-link-kinds.ps μ-seek-link seek-link.Pre
+
+abbrev seek-linked-at : ℕ → In 4 seek-linked-kinds.ps
+seek-linked-at = measured seek-linked-kinds.ps μ-seek-linked seek-linked.Pre
+
+abbrev seek-linked-below : ℕ → In 4 seek-linked-kinds.ps
+seek-linked-below = fallen seek-linked-kinds.ps μ-seek-linked seek-linked.Pre
+
+abbrev seek-parts-at : ℕ → In 4 seek-parts-kinds.ps
+seek-parts-at = measured seek-parts-kinds.ps μ-seek-parts seek-parts.Pre
+
+abbrev seek-parts-below : ℕ → In 4 seek-parts-kinds.ps
+seek-parts-below = fallen seek-parts-kinds.ps μ-seek-parts seek-parts.Pre
+
+abbrev seek-through-at : ℕ → In 4 seek-through-kinds.ps
+seek-through-at = measured seek-through-kinds.ps μ-seek-through seek-through.Pre
+
+abbrev seek-through-below : ℕ → In 4 seek-through-kinds.ps
+seek-through-below = fallen seek-through-kinds.ps μ-seek-through seek-through.Pre
+
+abbrev seek-below-claims : ℕ → seek-below-lts.Claims
+seek-below-claims t = (
+  role-of-reads.Asked,
+  role-of-reads.Learnt,
+  stepped-reads.Asked,
+  stepped-reads.Learnt,
+  any-dead-reads.Asked,
+  any-dead-reads.Learnt,
+  nothing-reads.Asked,
+  nothing-reads.Learnt,
+  failed-reads.Asked,
+  failed-reads.Learnt,
+  credentials-reads.Asked,
+  credentials-reads.Learnt,
+  may-use-reads.Asked,
+  may-use-reads.Learnt,
+  seek-through-below t,
+  seek-through.Post,
+  proved-reads.Asked,
+  proved-reads.Learnt,
+  joined-reads.Asked,
+  joined-reads.Learnt,
+)
+
+abbrev seek-goal-claims : ℕ → seek-goal-lts.Claims
+seek-goal-claims t = (
+  may-be-proved-reads.Asked,
+  may-be-proved-reads.Learnt,
+  nothing-reads.Asked,
+  nothing-reads.Learnt,
+  failed-reads.Asked,
+  failed-reads.Learnt,
+  has-reads.Asked,
+  has-reads.Learnt,
+  with-reads.Asked,
+  with-reads.Learnt,
+  slot-reads.Asked,
+  slot-reads.Learnt,
+  recalls-reads.Asked,
+  recalls-reads.Learnt,
+  met-at-reads.Asked,
+  met-at-reads.Learnt,
+  seek-below-below t,
+  seek-below.Post,
+  proved-reads.Asked,
+  proved-reads.Learnt,
+  without-reads.Asked,
+  without-reads.Learnt,
+  keep-reads.Asked,
+  keep-reads.Learnt,
+)
+
+abbrev seek-link-claims : ℕ → seek-link-lts.Claims
+seek-link-claims t = (
+  seek-goal-below t,
+  seek-goal.Post,
+  failed-reads.Asked,
+  failed-reads.Learnt,
+)
+
+abbrev seek-linked-claims : ℕ → seek-linked-lts.Claims
+seek-linked-claims t = (
+  credentials-reads.Asked,
+  credentials-reads.Learnt,
+  row-of-reads.Asked,
+  row-of-reads.Learnt,
+  asked-cell-reads.Asked,
+  asked-cell-reads.Learnt,
+  nothing-reads.Asked,
+  nothing-reads.Learnt,
+  link-cell-reads.Asked,
+  link-cell-reads.Learnt,
+  is-middle-reads.Asked,
+  is-middle-reads.Learnt,
+  seek-link-below t,
+  seek-link.Post,
+  proved-reads.Asked,
+  proved-reads.Learnt,
+  joined-reads.Asked,
+  joined-reads.Learnt,
+  failed-reads.Asked,
+  failed-reads.Learnt,
+)
+
+abbrev seek-parts-claims : ℕ → seek-parts-lts.Claims
+seek-parts-claims t = (
+  are-listed-reads.Asked,
+  are-listed-reads.Learnt,
+  nothing-reads.Asked,
+  nothing-reads.Learnt,
+  failed-reads.Asked,
+  failed-reads.Learnt,
+  is-asked-before-reads.Asked,
+  is-asked-before-reads.Learnt,
+  asked-cell-reads.Asked,
+  asked-cell-reads.Learnt,
+  seek-goal-below t,
+  seek-goal.Post,
+  proved-reads.Asked,
+  proved-reads.Learnt,
+)
+
+abbrev seek-through-claims : ℕ → seek-through-lts.Claims
+seek-through-claims t = (
+  credential-reads.Asked,
+  credential-reads.Learnt,
+  ends-word-reads.Asked,
+  ends-word-reads.Learnt,
+  found-reads.Asked,
+  found-reads.Learnt,
+  seek-parts-below t,
+  seek-parts.Post,
+  seek-linked-below t,
+  seek-linked.Post,
+  nothing-reads.Asked,
+  nothing-reads.Learnt,
+  failed-reads.Asked,
+  failed-reads.Learnt,
+)
+
+abbrev seek-below-Inv-loop : seek-below-lts.InvT-loop
+seek-below-Inv-loop table index rows terms person place levels above memory₀ below n met₀ i₀ memory met i =
+    (i ≤ n) × (Failed (noneTried table (terms .allowed) (terms .constraints) levels (below .states) person place i) above met
+    × Remembered table (terms .allowed) (terms .constraints) memory)
+
+abbrev seek-below-μ-loop : seek-below-lts.MeasureT-loop
+seek-below-μ-loop table index rows terms person place levels above memory₀ below n met₀ i₀ memory met i = n - i
+
+-- a place of `seek_below`, or a need, where its measure is t; and what it needs, whatever its measure is
+abbrev seek-below-Place : Type 1
+seek-below-Place =
+    seek-below-lts.Claims → In 4 seek-below-kinds.ps → Out 4 seek-below-kinds.ps seek-below-kinds.r
+    → seek-below-lts.InvT-loop → seek-below-lts.MeasureT-loop → Type 0
+
+abbrev seek-below-place : seek-below-Place → ℕ → Type 0
+seek-below-place place t = place (seek-below-claims t) (seek-below-at t) seek-below.Post seek-below-Inv-loop seek-below-μ-loop
+
+abbrev seek-below-needs : seek-below-Place → Type 0
+seek-below-needs need = (t : ℕ) → seek-below-place need t
+
+seek-below-role-of-requires : seek-below-needs seek-below-lts.Need-role-of-requires
+seek-below-role-of-requires t c κs = search needs
+
+seek-below-stepped-requires : seek-below-needs seek-below-lts.Need-stepped-requires
+seek-below-stepped-requires t c κs = search needs
+
+seek-below-any-dead-requires : seek-below-needs seek-below-lts.Need-any-dead-requires
+seek-below-any-dead-requires t c κs = search needs
+
+seek-below-nothing-requires : seek-below-needs seek-below-lts.Need-nothing-requires
+seek-below-nothing-requires t c κs = search needs
+
+seek-below-failed-requires : seek-below-needs seek-below-lts.Need-failed-requires
+seek-below-failed-requires t c κs = search needs
+
+seek-below-returns : seek-below-needs seek-below-lts.Need-returns
+seek-below-returns t c =
+    let (searched, (stands, remembered)) = c .before .before .before .before .before .before .before .before .before .before .pre .1 in (
+      judged-moved _ _ _ _ _ _ _ (c .before .before .before .before .before .role-of .ensures) (c .before .before .before .before .stepped .ensures)
+          (judged-never (c .failed .ensures) (c .before .nothing .ensures) (λ b.
+          dead-tried _ _ _ _ _ (c .before .before .before .before .stepped .ensures) (sym (c .before .before .before .any-dead .ensures) ∙ c .before .before .if1 .taken) _ b _)),
+      remembered,
+    )
+
+seek-below-credentials-requires : seek-below-needs seek-below-lts.Need-credentials-requires
+seek-below-credentials-requires t c κs = search needs
+
+seek-below-nothing-requires-2 : seek-below-needs seek-below-lts.Need-nothing-requires-2
+seek-below-nothing-requires-2 t c κs = search needs
+
+seek-below-loop-holds : seek-below-needs seek-below-lts.Need-loop-holds
+seek-below-loop-holds t c =
+    let (searched, ((stands, there), remembered)) = c .before .before .before .before .before .before .before .before .before .before .pre .1 in
+    (omega arith, (rw (c .nothing2 .ensures) (tried-none (searched .indexed) stands there _ _ _ _ _), remembered))
+
+seek-below-may-use-requires : seek-below-needs seek-below-lts.Need-may-use-requires
+seek-below-may-use-requires t c κs = search needs
+
+seek-below-seek-through-requires : seek-below-needs seek-below-lts.Need-seek-through-requires
+seek-below-seek-through-requires t c κs =
+    let (searched, ((stands, there), remembered)) = c .before .before .before .before .before .before .before .before .before .before .before .before .before .before .before .pre .1 in (
+      omega (arith, c .before .before .before .before .before .before .before .before .before .before .before .before .before .before .before .pre .0),
+      (
+        searched,
+        (
+          record {
+            there = omega (arith, c .before .before .before .loop-test .taken, c .before .before .before .before .before .before .credentials .ensures .same);
+            who = stands .there;
+            named = stands .named;
+          },
+          c .before .before .before .before .loop .inv .1 .1,
+        ),
+      ),
+    )
+
+seek-below-proved-requires : seek-below-needs seek-below-lts.Need-proved-requires
+seek-below-proved-requires t c κs = search needs
+
+seek-below-same-length : seek-below-needs seek-below-lts.Need-same-length
+seek-below-same-length t c = c .before .before .before .before .seek-through .ensures .1 .room ∙ sym (c .before .before .before .before .before .before .before .before .before .before .before .before .before .before .before .before .before .before .before .before .pre .1 .1 .1 .room)
+
+seek-below-returns-2 : seek-below-needs seek-below-lts.Need-returns-2
+seek-below-returns-2 t c =
+    let (searched, ((stands, there), remembered)) = c .before .before .before .before .before .before .before .before .before .before .before .before .before .before .before .before .before .before .before .before .pre .1 in
+    let (judged, now-remembered) = c .before .before .before .before .seek-through .ensures in (
+      judged-moved _ _ _ _ _ _ _ (c .before .before .before .before .before .before .before .before .before .before .before .before .before .before .before .role-of .ensures) (c .before .before .before .before .before .before .before .before .before .before .before .before .before .before .stepped .ensures)
+          (judged-proved (c .proved .ensures)
+          (tried-proved (searched .indexed) stands there _ _ _ _ _ (omega (arith, c .before .before .before .before .before .before .before .before .loop-test .taken, c .before .before .before .before .before .before .before .before .before .before .before .credentials .ensures .same)) (c .before .before .before .before .before .before .before .may-use .ensures) (c .before .before .before .before .before .before .if2 .taken) judged (c .before .if3 .taken))),
+      now-remembered,
+    )
+
+seek-below-joined-requires : seek-below-needs seek-below-lts.Need-joined-requires
+seek-below-joined-requires t c κs = search needs
+
+seek-below-add-i : seek-below-needs seek-below-lts.Need-add-i
+seek-below-add-i t c = search needs
+
+seek-below-loop-less : seek-below-needs seek-below-lts.Need-loop-less
+seek-below-loop-less t c = search needs
+
+seek-below-loop-again : seek-below-needs seek-below-lts.Need-loop-again
+seek-below-loop-again t c =
+    let (searched, ((stands, there), remembered)) = c .before .before .before .before .before .before .before .before .before .before .before .before .before .before .pre .1 in
+    let (so-far, before) = c .before .before .before .loop .inv .1 in
+    let next = c .before .before .loop-test .taken in
+    let may-use = c .before .may-use .ensures in
+    let all = c .before .before .before .before .before .credentials .ensures .same in (
+      omega (arith, next),
+      ⊎-elim
+          (λ way. (
+            rw (way .8)
+                (tried-failed (searched .indexed) stands there _ _ _ _ _ (omega (arith, next, all)) may-use (way .0 .taken)
+                (way .2 .ensures .0) (way .5 .left) _ _ (way .6 .ensures) so-far),
+            rw (way .7) (way .2 .ensures .1),
+          ))
+          (λ way. (
+            rw (way .2)
+                (tried-unused (searched .indexed) stands there _ _ _ _ _ (omega (arith, next, all)) may-use (way .0 .left) so-far),
+            rw (way .1) before,
+          ))
+          (c .if2 .came),
+    )
+
+seek-below-failed-requires-2 : seek-below-needs seek-below-lts.Need-failed-requires-2
+seek-below-failed-requires-2 t c κs = search needs
+
+seek-below-same-length-2 : seek-below-needs seek-below-lts.Need-same-length-2
+seek-below-same-length-2 t c = c .before .before .loop .inv .1 .1 .room ∙ sym (c .before .before .before .before .before .before .before .before .before .before .before .before .before .pre .1 .1 .1 .room)
+
+seek-below-returns-3 : seek-below-needs seek-below-lts.Need-returns-3
+seek-below-returns-3 t c =
+    let (searched, ((stands, there), remembered)) = c .before .before .before .before .before .before .before .before .before .before .before .before .before .pre .1 in
+    let (failed-so-far, now-remembered) = c .before .before .loop .inv .1 in (
+      judged-moved _ _ _ _ _ _ _ (c .before .before .before .before .before .before .before .before .role-of .ensures) (c .before .before .before .before .before .before .before .stepped .ensures)
+          (judged-failed (c .failed2 .ensures) (tried-all (searched .indexed) stands there _ _ _ _ _ (omega (arith, c .before .loop-test .left, c .before .before .loop .inv .0, c .before .before .before .before .credentials .ensures .same)) failed-so-far)),
+      now-remembered,
+    )
+
+-- a place of `seek_goal`, or a need, where its measure is t; and what it needs, whatever its measure is
+abbrev seek-goal-Place : Type 1
+seek-goal-Place =
+    seek-goal-lts.Claims → In 4 seek-goal-kinds.ps → Out 4 seek-goal-kinds.ps seek-goal-kinds.r
+    → Type 0
+
+abbrev seek-goal-place : seek-goal-Place → ℕ → Type 0
+seek-goal-place place t = place (seek-goal-claims t) (seek-goal-at t) seek-goal.Post
+
+abbrev seek-goal-needs : seek-goal-Place → Type 0
+seek-goal-needs need = (t : ℕ) → seek-goal-place need t
+
+-- how long the arrays are that it is given
+module _ (t : ℕ) (at : seek-goal-place seek-goal-lts.Start t) where
+  seek-goal-eight : length (at .args .states .sets) ≡ mostAutomata
+  seek-goal-eight = search needs
+
+  seek-goal-wide : length (at .args .above .persons) ≡ mostCredentials
+  seek-goal-wide = search needs
+
+seek-goal-may-be-proved-requires : seek-goal-needs seek-goal-lts.Need-may-be-proved-requires
+seek-goal-may-be-proved-requires t c κs = search needs
+
+seek-goal-nothing-requires : seek-goal-needs seek-goal-lts.Need-nothing-requires
+seek-goal-nothing-requires t c κs = search needs
+
+seek-goal-failed-requires : seek-goal-needs seek-goal-lts.Need-failed-requires
+seek-goal-failed-requires t c κs = search needs
+
+seek-goal-returns : seek-goal-needs seek-goal-lts.Need-returns
+seek-goal-returns t c =
+    let (searched, (stands, remembered)) = c .before .before .before .before .before .before .before .before .pre .1 in
+    let missing = failed (c .before .before .before .may-be-proved .ensures) (c .before .before .if1 .taken) in
+    (judged-never (c .failed .ensures) (c .before .nothing .ensures) (goal-unlisted _ _ _ _ _ _ _ stands searched missing), remembered)
+
+seek-goal-has-requires : seek-goal-needs seek-goal-lts.Need-has-requires
+seek-goal-has-requires t c κs =
+    let (searched, (stands, remembered)) = c .before .before .before .before .before .before .pre .1 in
+    let at-goal = opened searched stands (c .before .may-be-proved .ensures) (c .if1 .left) in
+    (at-goal .few-persons, at-goal .few-places)
+
+seek-goal-nothing-requires-2 : seek-goal-needs seek-goal-lts.Need-nothing-requires-2
+seek-goal-nothing-requires-2 t c κs = search needs
+
+seek-goal-with-requires : seek-goal-needs seek-goal-lts.Need-with-requires
+seek-goal-with-requires t c κs =
+    let (searched, (stands, remembered)) = c .before .before .before .before .before .before .before .before .before .pre .1 in
+    let at-goal = opened searched stands (c .before .before .before .before .may-be-proved .ensures) (c .before .before .before .if1 .left) in
+    (at-goal .few-persons, at-goal .few-places)
+
+seek-goal-failed-requires-2 : seek-goal-needs seek-goal-lts.Need-failed-requires-2
+seek-goal-failed-requires-2 t c κs = search needs
+
+seek-goal-returns-2 : seek-goal-needs seek-goal-lts.Need-returns-2
+seek-goal-returns-2 t c =
+    let (searched, (stands, remembered)) = c .before .before .before .before .before .before .before .before .before .before .before .pre .1 in
+    let at-goal = opened searched stands (c .before .before .before .before .before .before .may-be-proved .ensures) (c .before .before .before .before .before .if1 .left) in
+    let again = goal-again _ _ _ _ _ _ _ stands (at-goal .there) (at-goal .left) (at-goal .few-places) _ (sym (c .before .before .before .before .has .ensures) ∙ c .before .before .before .if2 .taken) in
+    (judged-failed (c .failed2 .ensures) (rw (c .before .with .ensures, c .before .before .nothing2 .ensures) again), remembered)
+
+seek-goal-slot-requires : seek-goal-needs seek-goal-lts.Need-slot-requires
+seek-goal-slot-requires t c κs =
+    let (searched, (stands, remembered)) = c .before .before .before .before .before .before .before .before .pre .1 in
+    let at-goal = opened searched stands (c .before .before .before .may-be-proved .ensures) (c .before .before .if1 .left) in
+    (at-goal .few-persons, at-goal .few-places)
+
+seek-goal-recalls-requires : seek-goal-needs seek-goal-lts.Need-recalls-requires
+seek-goal-recalls-requires t c κs = search needs
+
+seek-goal-met-at-requires : seek-goal-needs seek-goal-lts.Need-met-at-requires
+seek-goal-met-at-requires t c κs = search needs
+
+seek-goal-failed-requires-3 : seek-goal-needs seek-goal-lts.Need-failed-requires-3
+seek-goal-failed-requires-3 t c κs = search needs
+
+seek-goal-same-length : seek-goal-needs seek-goal-lts.Need-same-length
+seek-goal-same-length t c = search needs
+
+seek-goal-returns-3 : seek-goal-needs seek-goal-lts.Need-returns-3
+seek-goal-returns-3 t c =
+    let (searched, (stands, remembered)) = c .before .before .before .before .before .before .before .before .before .before .before .before .before .before .before .pre .1 in
+    let eight = seek-goal-eight t (c .before .before .before .before .before .before .before .before .before .before .before .before .before .before .before) in (
+      judged-failed (c .failed3 .ensures)
+          (recalled-failed _ _ _ remembered (c .before .before .before .before .before .before .slot .ensures) eight (c .before .before .before .before .recalls .ensures (c .before .before .before .if3 .taken)) (c .before .met-at .ensures)),
+      remembered,
+    )
+
+seek-goal-sub-seek-below : seek-goal-needs seek-goal-lts.Need-sub-seek-below
+seek-goal-sub-seek-below t c =
+    let (searched, (stands, remembered)) = c .before .before .before .before .before .before .before .before .before .before .before .before .pre .1 in
+    let at-goal = opened searched stands (c .before .before .before .before .before .before .before .may-be-proved .ensures) (c .before .before .before .before .before .before .if1 .left) in
+    omega (arith, at-goal .left)
+
+seek-goal-with-requires-2 : seek-goal-needs seek-goal-lts.Need-with-requires-2
+seek-goal-with-requires-2 t c κs =
+    let (searched, (stands, remembered)) = c .before .before .before .before .before .before .before .before .before .before .before .before .pre .1 in
+    let at-goal = opened searched stands (c .before .before .before .before .before .before .before .may-be-proved .ensures) (c .before .before .before .before .before .before .if1 .left) in
+    (at-goal .few-persons, at-goal .few-places)
+
+seek-goal-seek-below-requires : seek-goal-needs seek-goal-lts.Need-seek-below-requires
+seek-goal-seek-below-requires t c κs =
+    let (searched, (stands, remembered)) = c .before .before .before .before .before .before .before .before .before .before .before .before .before .before .pre .1 in
+    let at-goal = opened searched stands (c .before .before .before .before .before .before .before .before .before .may-be-proved .ensures) (c .before .before .before .before .before .before .before .before .if1 .left) in (
+      omega (arith, c .before .before .before .before .before .before .before .before .before .before .before .before .before .before .pre .0, at-goal .left),
+      (searched-fewer _ (omega arith) searched, ((stands, at-goal .there), remembered)),
+    )
+
+seek-goal-proved-requires : seek-goal-needs seek-goal-lts.Need-proved-requires
+seek-goal-proved-requires t c κs = search needs
+
+seek-goal-same-length-2 : seek-goal-needs seek-goal-lts.Need-same-length-2
+seek-goal-same-length-2 t c = search needs
+
+seek-goal-returns-4 : seek-goal-needs seek-goal-lts.Need-returns-4
+seek-goal-returns-4 t c =
+    let (searched, (stands, remembered)) = c .before .before .before .before .before .before .before .before .before .before .before .before .before .before .before .before .before .before .before .pre .1 in
+    let at-goal = opened searched stands (c .before .before .before .before .before .before .before .before .before .before .before .before .before .before .may-be-proved .ensures) (c .before .before .before .before .before .before .before .before .before .before .before .before .before .if1 .left) in
+    let (judged, now-remembered) = c .before .before .before .before .seek-below .ensures in
+    let new = sym (c .before .before .before .before .before .before .before .before .before .before .before .before .has .ensures) ∙ c .before .before .before .before .before .before .before .before .before .before .before .if2 .left in (
+      judged-proved (c .proved .ensures)
+          (goal-proved _ _ _ _ _ _ _ stands (at-goal .there) (at-goal .left) _ new (rw (c .before .before .before .before .before .before .with2 .ensures) at (judged .passes (c .before .if4 .taken)))),
+      now-remembered,
+    )
+
+seek-goal-without-requires : seek-goal-needs seek-goal-lts.Need-without-requires
+seek-goal-without-requires t c κs =
+    let (searched, (stands, remembered)) = c .before .before .before .before .before .before .before .before .before .before .before .before .before .before .before .before .before .before .pre .1 in
+    let at-goal = opened searched stands (c .before .before .before .before .before .before .before .before .before .before .before .before .before .may-be-proved .ensures) (c .before .before .before .before .before .before .before .before .before .before .before .before .if1 .left) in
+    (at-goal .few-persons, at-goal .few-places)
+
+seek-goal-keep-requires : seek-goal-needs seek-goal-lts.Need-keep-requires
+seek-goal-keep-requires t c κs =
+    let (searched, (stands, remembered)) = c .before .before .before .before .before .before .before .before .before .before .before .before .before .before .before .before .before .before .before .before .pre .1 in
+    let at-goal = opened searched stands (c .before .before .before .before .before .before .before .before .before .before .before .before .before .before .before .may-be-proved .ensures) (c .before .before .before .before .before .before .before .before .before .before .before .before .before .before .if1 .left) in
+    let (judged, now-remembered) = c .before .before .before .before .before .seek-below .ensures in
+    ((now-remembered .room, c .before .before .before .before .before .before .before .before .before .before .before .slot .ensures), (at-goal .few-persons, (at-goal .few-places, searched .shallow)))
+
+seek-goal-failed-requires-4 : seek-goal-needs seek-goal-lts.Need-failed-requires-4
+seek-goal-failed-requires-4 t c κs = search needs
+
+seek-goal-same-length-3 : seek-goal-needs seek-goal-lts.Need-same-length-3
+seek-goal-same-length-3 t c = search needs
+
+seek-goal-returns-5 : seek-goal-needs seek-goal-lts.Need-returns-5
+seek-goal-returns-5 t c =
+    let (searched, (stands, remembered)) = c .before .before .before .before .before .before .before .before .before .before .before .before .before .before .before .before .before .before .before .before .before .before .before .before .pre .1 in
+    let at-goal = opened searched stands (c .before .before .before .before .before .before .before .before .before .before .before .before .before .before .before .before .before .before .before .may-be-proved .ensures) (c .before .before .before .before .before .before .before .before .before .before .before .before .before .before .before .before .before .before .if1 .left) in
+    let (judged, now-remembered) = c .before .before .before .before .before .before .before .before .before .seek-below .ensures in
+    let eight = seek-goal-eight t (c .before .before .before .before .before .before .before .before .before .before .before .before .before .before .before .before .before .before .before .before .before .before .before .before) in
+    let wide = seek-goal-wide t (c .before .before .before .before .before .before .before .before .before .before .before .before .before .before .before .before .before .before .before .before .before .before .before .before) in
+    let below = rw (c .before .before .before .before .before .before .before .before .before .before .before .with2 .ensures) at (judged .failed (c .before .before .before .before .before .before .if4 .left)) in
+    let failure =
+    goal-failed _ _ _ _ _ _ _ stands (at-goal .there) (at-goal .left) _ _ _ wide (c .before .before .before .before .before .without .ensures) below in (
+      judged-failed (c .failed4 .ensures) failure,
+      remembered-more _ _ _ now-remembered (c .before .before .before .before .before .before .before .before .before .before .before .before .before .before .before .slot .ensures) (c .before .before .before .keep .ensures) eight (failure .fails),
+    )
+
+-- a place of `seek_link`, or a need, where its measure is t; and what it needs, whatever its measure is
+abbrev seek-link-Place : Type 1
+seek-link-Place =
+    seek-link-lts.Claims → In 4 seek-link-kinds.ps → Out 4 seek-link-kinds.ps seek-link-kinds.r
+    → Type 0
+
+abbrev seek-link-place : seek-link-Place → ℕ → Type 0
+seek-link-place place t = place (seek-link-claims t) (seek-link-at t) seek-link.Post
+
+abbrev seek-link-needs : seek-link-Place → Type 0
+seek-link-needs need = (t : ℕ) → seek-link-place need t
+
+seek-link-seek-goal-requires : seek-link-needs seek-link-lts.Need-seek-goal-requires
+seek-link-seek-goal-requires t c κs = search needs
+
+seek-link-failed-requires : seek-link-needs seek-link-lts.Need-failed-requires
+seek-link-failed-requires t c κs = search needs
+
+seek-link-same-length : seek-link-needs seek-link-lts.Need-same-length
+seek-link-same-length t c = search needs
+
+seek-link-returns : seek-link-needs seek-link-lts.Need-returns
+seek-link-returns t c =
+    let (judged, remembered) = c .before .before .before .before .before .seek-goal .ensures in
+    (judged-failed (c .failed .ensures) (link-first _ _ _ _ _ _ _ _ _ (judged .failed (not-true _ (c .before .if1 .taken)))), remembered)
+
+seek-link-seek-goal-requires-2 : seek-link-needs seek-link-lts.Need-seek-goal-requires-2
+seek-link-seek-goal-requires-2 t c κs = search needs
+
+seek-link-same-length-2 : seek-link-needs seek-link-lts.Need-same-length-2
+seek-link-same-length-2 t c = search needs
+
+seek-link-returns-2 : seek-link-needs seek-link-lts.Need-returns-2
+seek-link-returns-2 t c =
+    let (first, before) = c .before .before .before .before .before .before .before .before .seek-goal .ensures in
+    let (second, remembered) = c .before .before .seek-goal2 .ensures in
+    (link-second _ _ _ _ _ _ _ _ _ (first .passes (not-false _ (c .before .before .before .before .if1 .left))) second, remembered)
+
+abbrev seek-linked-Inv-loop : seek-linked-lts.InvT-loop
+seek-linked-Inv-loop table index rows terms person i levels states above memory₀ n row first met₀ j₀ memory met j =
+    (j ≤ n) × (Failed (noneLinked table index (terms .allowed) (terms .constraints) levels states person i j) above met
+    × Remembered table (terms .allowed) (terms .constraints) memory)
+
+abbrev seek-linked-μ-loop : seek-linked-lts.MeasureT-loop
+seek-linked-μ-loop table index rows terms person i levels states above memory₀ n row first met₀ j₀ memory met j = n - j
+
+-- a place of `seek_linked`, or a need, where its measure is t; and what it needs, whatever its measure is
+abbrev seek-linked-Place : Type 1
+seek-linked-Place =
+    seek-linked-lts.Claims → In 4 seek-linked-kinds.ps → Out 4 seek-linked-kinds.ps seek-linked-kinds.r
+    → seek-linked-lts.InvT-loop → seek-linked-lts.MeasureT-loop → Type 0
+
+abbrev seek-linked-place : seek-linked-Place → ℕ → Type 0
+seek-linked-place place t = place (seek-linked-claims t) (seek-linked-at t) seek-linked.Post seek-linked-Inv-loop seek-linked-μ-loop
+
+abbrev seek-linked-needs : seek-linked-Place → Type 0
+seek-linked-needs need = (t : ℕ) → seek-linked-place need t
+
+seek-linked-credentials-requires : seek-linked-needs seek-linked-lts.Need-credentials-requires
+seek-linked-credentials-requires t c κs = search needs
+
+seek-linked-row-of-requires : seek-linked-needs seek-linked-lts.Need-row-of-requires
+seek-linked-row-of-requires t c κs = search needs
+
+seek-linked-asked-cell-requires : seek-linked-needs seek-linked-lts.Need-asked-cell-requires
+seek-linked-asked-cell-requires t c κs = search needs
+
+seek-linked-nothing-requires : seek-linked-needs seek-linked-lts.Need-nothing-requires
+seek-linked-nothing-requires t c κs = search needs
+
+seek-linked-loop-holds : seek-linked-needs seek-linked-lts.Need-loop-holds
+seek-linked-loop-holds t c =
+    let (searched, (tried, (kind, remembered))) = c .before .before .before .before .before .before .before .before .pre .1 in
+    (omega arith, (rw (c .nothing .ensures) (links-none searched tried kind _ _ _), remembered))
+
+seek-linked-link-cell-requires : seek-linked-needs seek-linked-lts.Need-link-cell-requires
+seek-linked-link-cell-requires t c κs = search needs
+
+seek-linked-is-middle-requires : seek-linked-needs seek-linked-lts.Need-is-middle-requires
+seek-linked-is-middle-requires t c κs =
+    let (searched, (tried, (kind, remembered))) = c .before .before .before .before .before .before .before .before .before .before .before .pre .1 in (
+      searched .wellFormed,
+      (
+        searched .indexed,
+        (
+          (searched .members .room, row-fits (searched .members) (c .before .before .before .before .before .row-of .ensures)),
+          (
+            (tried .who, omega (arith, c .before .loop-test .taken, c .before .before .before .before .before .before .credentials .ensures .same)),
+            (c .before .before .before .before .asked-cell .ensures .1, c .link-cell .ensures .1),
+          ),
+        ),
+      ),
+    )
+
+seek-linked-seek-link-requires : seek-linked-needs seek-linked-lts.Need-seek-link-requires
+seek-linked-seek-link-requires t c κs =
+    let (searched, (tried, (kind, remembered))) = c .before .before .before .before .before .before .before .before .before .before .before .before .before .before .pre .1 in
+    let middle =
+    middle-read searched tried kind (omega (arith, c .before .before .before .before .loop-test .taken, c .before .before .before .before .before .before .before .before .before .credentials .ensures .same)) (c .before .before .before .before .before .before .before .before .row-of .ensures)
+    (c .before .before .before .before .before .before .before .asked-cell .ensures .0) (c .before .before .before .link-cell .ensures .0) (c .before .before .is-middle .ensures) in (
+      omega (arith, c .before .before .before .before .before .before .before .before .before .before .before .before .before .before .pre .0),
+      (searched, ((stands-first middle (c .before .if1 .taken), stands-second middle (c .before .if1 .taken)), c .before .before .before .before .before .loop .inv .1 .1)),
+    )
+
+seek-linked-proved-requires : seek-linked-needs seek-linked-lts.Need-proved-requires
+seek-linked-proved-requires t c κs = search needs
+
+seek-linked-same-length : seek-linked-needs seek-linked-lts.Need-same-length
+seek-linked-same-length t c = c .before .before .before .before .seek-link .ensures .1 .room ∙ sym (c .before .before .before .before .before .before .before .before .before .before .before .before .before .before .before .before .before .before .before .pre .1 .1 .1 .1 .room)
+
+seek-linked-returns : seek-linked-needs seek-linked-lts.Need-returns
+seek-linked-returns t c =
+    let (searched, (tried, (kind, remembered))) = c .before .before .before .before .before .before .before .before .before .before .before .before .before .before .before .before .before .before .before .pre .1 in
+    let middle =
+    middle-read searched tried kind (omega (arith, c .before .before .before .before .before .before .before .before .before .loop-test .taken, c .before .before .before .before .before .before .before .before .before .before .before .before .before .before .credentials .ensures .same)) (c .before .before .before .before .before .before .before .before .before .before .before .before .before .row-of .ensures)
+    (c .before .before .before .before .before .before .before .before .before .before .before .before .asked-cell .ensures .0) (c .before .before .before .before .before .before .before .before .link-cell .ensures .0) (c .before .before .before .before .before .before .before .is-middle .ensures) in
+    let (judged, now-remembered) = c .before .before .before .before .seek-link .ensures in
+    (judged-proved (c .proved .ensures) (link-found middle _ _ judged (c .before .before .before .before .before .before .if1 .taken) (c .before .if2 .taken)), now-remembered)
+
+seek-linked-joined-requires : seek-linked-needs seek-linked-lts.Need-joined-requires
+seek-linked-joined-requires t c κs = search needs
+
+seek-linked-add-j : seek-linked-needs seek-linked-lts.Need-add-j
+seek-linked-add-j t c = search needs
+
+seek-linked-loop-less : seek-linked-needs seek-linked-lts.Need-loop-less
+seek-linked-loop-less t c = search needs
+
+seek-linked-loop-again : seek-linked-needs seek-linked-lts.Need-loop-again
+seek-linked-loop-again t c =
+    let (searched, (tried, (kind, remembered))) = c .before .before .before .before .before .before .before .before .before .before .before .before .before .pre .1 in
+    let middle =
+    middle-read searched tried kind (omega (arith, c .before .before .before .loop-test .taken, c .before .before .before .before .before .before .before .before .credentials .ensures .same)) (c .before .before .before .before .before .before .before .row-of .ensures)
+    (c .before .before .before .before .before .before .asked-cell .ensures .0) (c .before .before .link-cell .ensures .0) (c .before .is-middle .ensures) in
+    let (so-far, before) = c .before .before .before .before .loop .inv .1 in (
+      omega (arith, c .before .before .before .loop-test .taken),
+      ⊎-elim
+          (λ way. (
+            rw (way .8) (link-failed middle _ _ (way .2 .ensures .0) (way .5 .left) _ _ (way .6 .ensures) so-far),
+            rw (way .7) (way .2 .ensures .1),
+          ))
+          (λ way. (rw (way .2) (link-skipped middle _ _ (way .0 .left) so-far), rw (way .1) before))
+          (c .if1 .came),
+    )
+
+seek-linked-failed-requires : seek-linked-needs seek-linked-lts.Need-failed-requires
+seek-linked-failed-requires t c κs = search needs
+
+seek-linked-same-length-2 : seek-linked-needs seek-linked-lts.Need-same-length-2
+seek-linked-same-length-2 t c = c .before .before .loop .inv .1 .1 .room ∙ sym (c .before .before .before .before .before .before .before .before .before .before .before .pre .1 .1 .1 .1 .room)
+
+seek-linked-returns-2 : seek-linked-needs seek-linked-lts.Need-returns-2
+seek-linked-returns-2 t c =
+    let (searched, (tried, (kind, remembered))) = c .before .before .before .before .before .before .before .before .before .before .before .pre .1 in
+    let (failed-so-far, now-remembered) = c .before .before .loop .inv .1 in
+    (judged-failed (c .failed .ensures) (links-all searched tried kind _ _ _ (omega (arith, c .before .loop-test .left, c .before .before .loop .inv .0, c .before .before .before .before .before .before .credentials .ensures .same)) failed-so-far), now-remembered)
+
+abbrev seek-parts-Inv-loop : seek-parts-lts.InvT-loop
+seek-parts-Inv-loop table index rows terms person i levels states above memory₀ k₀ memory k =
+    (k ≤ 4) × ((anyBelow (partMissed index (provesAt table (terms .allowed) (terms .constraints) levels above states) person i) k
+    ≡ false) × Remembered table (terms .allowed) (terms .constraints) memory)
+
+abbrev seek-parts-μ-loop : seek-parts-lts.MeasureT-loop
+seek-parts-μ-loop table index rows terms person i levels states above memory₀ k₀ memory k = 4 - k
+
+-- a place of `seek_parts`, or a need, where its measure is t; and what it needs, whatever its measure is
+abbrev seek-parts-Place : Type 1
+seek-parts-Place =
+    seek-parts-lts.Claims → In 4 seek-parts-kinds.ps → Out 4 seek-parts-kinds.ps seek-parts-kinds.r
+    → seek-parts-lts.InvT-loop → seek-parts-lts.MeasureT-loop → Type 0
+
+abbrev seek-parts-place : seek-parts-Place → ℕ → Type 0
+seek-parts-place place t = place (seek-parts-claims t) (seek-parts-at t) seek-parts.Post seek-parts-Inv-loop seek-parts-μ-loop
+
+abbrev seek-parts-needs : seek-parts-Place → Type 0
+seek-parts-needs need = (t : ℕ) → seek-parts-place need t
+
+module _ (t : ℕ) (at : seek-parts-place seek-parts-lts.Start t) where
+  seek-parts-wide : length (at .args .above .persons) ≡ mostCredentials
+  seek-parts-wide = search needs
+
+seek-parts-are-listed-requires : seek-parts-needs seek-parts-lts.Need-are-listed-requires
+seek-parts-are-listed-requires t c κs = search needs
+
+seek-parts-nothing-requires : seek-parts-needs seek-parts-lts.Need-nothing-requires
+seek-parts-nothing-requires t c κs = search needs
+
+seek-parts-failed-requires : seek-parts-needs seek-parts-lts.Need-failed-requires
+seek-parts-failed-requires t c κs = search needs
+
+seek-parts-returns : seek-parts-needs seek-parts-lts.Need-returns
+seek-parts-returns t c =
+    let (searched, (tried, (kind, remembered))) = c .before .before .before .before .before .before .before .before .pre .1 in
+    let missed = parts-missed searched tried kind _ _ (c .before .before .before .are-listed .ensures) (c .before .before .if1 .taken) in
+    (judged-never (c .failed .ensures) (c .before .nothing .ensures) missed, remembered)
+
+seek-parts-loop-holds : seek-parts-needs seek-parts-lts.Need-loop-holds
+unfolding anyBelow
+seek-parts-loop-holds t c =
+    let (searched, (tried, (kind, remembered))) = c .before .before .before .before .before .before .pre .1 in
+    (omega arith, (refl, remembered))
+
+seek-parts-is-asked-before-requires : seek-parts-needs seek-parts-lts.Need-is-asked-before-requires
+seek-parts-is-asked-before-requires t c κs = search needs
+
+seek-parts-asked-cell-requires : seek-parts-needs seek-parts-lts.Need-asked-cell-requires
+seek-parts-asked-cell-requires t c κs = search needs
+
+seek-parts-seek-goal-requires : seek-parts-needs seek-parts-lts.Need-seek-goal-requires
+seek-parts-seek-goal-requires t c κs =
+    let (searched, (tried, (kind, remembered))) = c .before .before .before .before .before .before .before .before .before .before .before .before .pre .1 in
+    let stands = stands-part searched tried kind _ (c .before .before .before .before .loop-test .taken) _ (c .before .asked-cell .ensures .0) in
+    (omega (arith, c .before .before .before .before .before .before .before .before .before .before .before .before .pre .0), (searched, (stands, c .before .before .before .before .before .loop .inv .1 .1)))
+
+seek-parts-failed-requires-2 : seek-parts-needs seek-parts-lts.Need-failed-requires-2
+seek-parts-failed-requires-2 t c κs = search needs
+
+seek-parts-same-length : seek-parts-needs seek-parts-lts.Need-same-length
+seek-parts-same-length t c = c .before .before .before .before .before .seek-goal .ensures .1 .room ∙ sym (c .before .before .before .before .before .before .before .before .before .before .before .before .before .before .before .before .before .before .pre .1 .1 .1 .1 .room)
+
+seek-parts-returns-2 : seek-parts-needs seek-parts-lts.Need-returns-2
+seek-parts-returns-2 t c =
+    let (searched, (tried, (kind, remembered))) = c .before .before .before .before .before .before .before .before .before .before .before .before .before .before .before .before .before .before .pre .1 in
+    let (judged, now-remembered) = c .before .before .before .before .before .seek-goal .ensures in
+    let missed = judged .failed (not-true _ (c .before .if3 .taken)) in (
+      judged-failed (c .failed2 .ensures)
+          (part-failed searched tried kind _ _ _ _ (c .before .before .before .before .before .before .before .before .before .before .loop-test .taken) (c .before .before .before .before .before .before .before .asked-cell .ensures .0) missed),
+      now-remembered,
+    )
+
+seek-parts-add-k : seek-parts-needs seek-parts-lts.Need-add-k
+seek-parts-add-k t c = search needs
+
+seek-parts-loop-less : seek-parts-needs seek-parts-lts.Need-loop-less
+seek-parts-loop-less t c = search needs
+
+seek-parts-loop-again : seek-parts-needs seek-parts-lts.Need-loop-again
+seek-parts-loop-again t c =
+    let (searched, (tried, (kind, remembered))) = c .before .before .before .before .before .before .before .before .before .before .pre .1 in
+    let (so-far, before) = c .before .before .before .loop .inv .1 in
+    let wide = seek-parts-wide t (c .before .before .before .before .before .before .before .before .before .before) in (
+      omega (arith, c .before .before .loop-test .taken),
+      ⊎-elim
+          (λ way. (
+            part-proved searched tried kind _ _ _ _ _ (way .1 .ensures .0) (judged-told wide (way .3 .ensures .0)) so-far (way .7 .left),
+            rw (way .8) (way .3 .ensures .1),
+          ))
+          (λ way. (
+            part-repeated searched tried kind _ _ _ _ so-far (passed (c .before .is-asked-before .ensures) (way .0 .left)),
+            rw (way .1) before,
+          ))
+          (c .if2 .came),
+    )
+
+seek-parts-proved-requires : seek-parts-needs seek-parts-lts.Need-proved-requires
+seek-parts-proved-requires t c κs = search needs
+
+seek-parts-same-length-2 : seek-parts-needs seek-parts-lts.Need-same-length-2
+seek-parts-same-length-2 t c = c .before .before .loop .inv .1 .1 .room ∙ sym (c .before .before .before .before .before .before .before .before .before .pre .1 .1 .1 .1 .room)
+
+seek-parts-returns-3 : seek-parts-needs seek-parts-lts.Need-returns-3
+seek-parts-returns-3 t c =
+    let (searched, (tried, (kind, remembered))) = c .before .before .before .before .before .before .before .before .before .pre .1 in
+    let (none-missed, now-remembered) = c .before .before .loop .inv .1 in
+    (judged-proved (c .proved .ensures) (sym (all-proved searched tried kind _ _ _ _ _ (omega (arith, c .before .loop-test .left, c .before .before .loop .inv .0)) none-missed)), now-remembered)
+
+-- a place of `seek_through`, or a need, where its measure is t; and what it needs, whatever its measure is
+abbrev seek-through-Place : Type 1
+seek-through-Place =
+    seek-through-lts.Claims → In 4 seek-through-kinds.ps → Out 4 seek-through-kinds.ps seek-through-kinds.r
+    → Type 0
+
+abbrev seek-through-place : seek-through-Place → ℕ → Type 0
+seek-through-place place t = place (seek-through-claims t) (seek-through-at t) seek-through.Post
+
+abbrev seek-through-needs : seek-through-Place → Type 0
+seek-through-needs need = (t : ℕ) → seek-through-place need t
+
+seek-through-add-credential : seek-through-needs seek-through-lts.Need-add-credential
+seek-through-add-credential t c = search needs
+
+seek-through-credential-requires : seek-through-needs seek-through-lts.Need-credential-requires
+seek-through-credential-requires t c κs = search needs
+
+seek-through-ends-word-requires : seek-through-needs seek-through-lts.Need-ends-word-requires
+seek-through-ends-word-requires t c κs =
+    let (searched, (tried, remembered)) = c .before .before .before .before .before .before .pre .1 in
+    (searched .wellFormed, (searched .indexed .placed, below-most (searched .wellFormed) _ (tried .there)))
+
+seek-through-found-requires : seek-through-needs seek-through-lts.Need-found-requires
+seek-through-found-requires t c κs = search needs
+
+seek-through-seek-parts-requires : seek-through-needs seek-through-lts.Need-seek-parts-requires
+seek-through-seek-parts-requires t c κs =
+    let (searched, (tried, remembered)) = c .before .before .before .before .before .before .before .pre .1 in
+    let kind = kind-read _ _ _ (c .before .before .credential .ensures) 2 (c .before .match .keys2) in
+    (omega (arith, c .before .before .before .before .before .before .before .pre .0), (searched, (tried, (inl kind, remembered))))
+
+seek-through-seek-linked-requires : seek-through-needs seek-through-lts.Need-seek-linked-requires
+seek-through-seek-linked-requires t c κs =
+    let (searched, (tried, remembered)) = c .before .before .before .before .before .before .before .pre .1 in
+    let kind = kind-read _ _ _ (c .before .before .credential .ensures) 3 (c .before .match .keys3) in
+    (omega (arith, c .before .before .before .before .before .before .before .pre .0), (searched, (tried, (kind, remembered))))
+
+seek-through-seek-parts-requires-2 : seek-through-needs seek-through-lts.Need-seek-parts-requires-2
+seek-through-seek-parts-requires-2 t c κs =
+    let (searched, (tried, remembered)) = c .before .before .before .before .before .before .before .pre .1 in
+    let kind = kind-read _ _ _ (c .before .before .credential .ensures) 4 (c .before .match .keys4) in
+    (omega (arith, c .before .before .before .before .before .before .before .pre .0), (searched, (tried, (inr kind, remembered))))
+
+seek-through-nothing-requires : seek-through-needs seek-through-lts.Need-nothing-requires
+seek-through-nothing-requires t c κs = search needs
+
+seek-through-failed-requires : seek-through-needs seek-through-lts.Need-failed-requires
+seek-through-failed-requires t c κs = search needs
+
+seek-through-returns : seek-through-needs seek-through-lts.Need-returns
+seek-through-returns t c =
+    let (searched, (tried, remembered)) = c .before .before .before .before .before .before .before .before .pre .1 in
+    let kind = kind-read _ _ _ (c .before .before .before .credential .ensures) 1 (c .before .before .match .keys1) in
+    (judged-found _ (c .found .ensures) (λ x. c .before .ends-word .ensures ∙ sym (cell-named searched tried _ _ _ _ kind)), remembered)
+
+seek-through-same-length : seek-through-needs seek-through-lts.Need-same-length
+seek-through-same-length t c = search needs
+
+seek-through-returns-2 : seek-through-needs seek-through-lts.Need-returns-2
+seek-through-returns-2 t c = search needs
+
+seek-through-same-length-2 : seek-through-needs seek-through-lts.Need-same-length-2
+seek-through-same-length-2 t c = search needs
+
+seek-through-returns-3 : seek-through-needs seek-through-lts.Need-returns-3
+seek-through-returns-3 t c = search needs
+
+seek-through-same-length-3 : seek-through-needs seek-through-lts.Need-same-length-3
+seek-through-same-length-3 t c = search needs
+
+seek-through-returns-4 : seek-through-needs seek-through-lts.Need-returns-4
+seek-through-returns-4 t c = search needs
+
+seek-through-returns-5 : seek-through-needs seek-through-lts.Need-returns-5
+seek-through-returns-5 t c =
+    let (searched, (tried, remembered)) = c .before .before .before .before .before .before .before .before .pre .1 in
+    let no = c .before .before .match .rest in (
+      judged-never (c .failed .ensures) (c .before .nothing .ensures) (λ b.
+          sym (kind-other _ _ _ (c .before .before .before .credential .ensures) _ _ _ (no .0 .0 .0 .1) (no .0 .0 .1) (no .0 .1) (no .1))),
+      remembered,
+    )
+
+pub +seek-below+seek-goal+seek-link+seek-linked+seek-parts+seek-through-spec : {M : Type 1} → statement M
++seek-below+seek-goal+seek-link+seek-linked+seek-parts+seek-through-spec =
+    close μ-seek-below μ-seek-goal μ-seek-link μ-seek-linked μ-seek-parts μ-seek-through
+    (λ t. seek-below-lts.spec (seek-below-claims t) (seek-below-at t) seek-below.Post seek-below-Inv-loop seek-below-μ-loop
+    (seek-below-role-of-requires t) (seek-below-stepped-requires t) (seek-below-any-dead-requires t)
+    (seek-below-nothing-requires t) (seek-below-failed-requires t) (seek-below-returns t)
+    (seek-below-credentials-requires t) (seek-below-nothing-requires-2 t) (seek-below-loop-holds t)
+    (seek-below-may-use-requires t) (seek-below-seek-through-requires t) (seek-below-proved-requires t)
+    (seek-below-same-length t) (seek-below-returns-2 t) (seek-below-joined-requires t) (seek-below-add-i t)
+    (seek-below-loop-less t) (seek-below-loop-again t) (seek-below-failed-requires-2 t) (seek-below-same-length-2 t)
+    (seek-below-returns-3 t))
+    (λ t. seek-goal-lts.spec (seek-goal-claims t) (seek-goal-at t) seek-goal.Post
+    (seek-goal-may-be-proved-requires t) (seek-goal-nothing-requires t) (seek-goal-failed-requires t)
+    (seek-goal-returns t) (seek-goal-has-requires t) (seek-goal-nothing-requires-2 t) (seek-goal-with-requires t)
+    (seek-goal-failed-requires-2 t) (seek-goal-returns-2 t) (seek-goal-slot-requires t)
+    (seek-goal-recalls-requires t) (seek-goal-met-at-requires t) (seek-goal-failed-requires-3 t)
+    (seek-goal-same-length t) (seek-goal-returns-3 t) (seek-goal-sub-seek-below t) (seek-goal-with-requires-2 t)
+    (seek-goal-seek-below-requires t) (seek-goal-proved-requires t) (seek-goal-same-length-2 t)
+    (seek-goal-returns-4 t) (seek-goal-without-requires t) (seek-goal-keep-requires t)
+    (seek-goal-failed-requires-4 t) (seek-goal-same-length-3 t) (seek-goal-returns-5 t))
+    (λ t. seek-link-lts.spec (seek-link-claims t) (seek-link-at t) seek-link.Post
+    (seek-link-seek-goal-requires t) (seek-link-failed-requires t) (seek-link-same-length t) (seek-link-returns t)
+    (seek-link-seek-goal-requires-2 t) (seek-link-same-length-2 t) (seek-link-returns-2 t))
+    (λ t. seek-linked-lts.spec (seek-linked-claims t) (seek-linked-at t) seek-linked.Post seek-linked-Inv-loop seek-linked-μ-loop
+    (seek-linked-credentials-requires t) (seek-linked-row-of-requires t) (seek-linked-asked-cell-requires t)
+    (seek-linked-nothing-requires t) (seek-linked-loop-holds t) (seek-linked-link-cell-requires t)
+    (seek-linked-is-middle-requires t) (seek-linked-seek-link-requires t) (seek-linked-proved-requires t)
+    (seek-linked-same-length t) (seek-linked-returns t) (seek-linked-joined-requires t) (seek-linked-add-j t)
+    (seek-linked-loop-less t) (seek-linked-loop-again t) (seek-linked-failed-requires t)
+    (seek-linked-same-length-2 t) (seek-linked-returns-2 t))
+    (λ t. seek-parts-lts.spec (seek-parts-claims t) (seek-parts-at t) seek-parts.Post seek-parts-Inv-loop seek-parts-μ-loop
+    (seek-parts-are-listed-requires t) (seek-parts-nothing-requires t) (seek-parts-failed-requires t)
+    (seek-parts-returns t) (seek-parts-loop-holds t) (seek-parts-is-asked-before-requires t)
+    (seek-parts-asked-cell-requires t) (seek-parts-seek-goal-requires t) (seek-parts-failed-requires-2 t)
+    (seek-parts-same-length t) (seek-parts-returns-2 t) (seek-parts-add-k t) (seek-parts-loop-less t)
+    (seek-parts-loop-again t) (seek-parts-proved-requires t) (seek-parts-same-length-2 t) (seek-parts-returns-3 t))
+    λ t. seek-through-lts.spec (seek-through-claims t) (seek-through-at t) seek-through.Post
+    (seek-through-add-credential t) (seek-through-credential-requires t) (seek-through-ends-word-requires t)
+    (seek-through-found-requires t) (seek-through-seek-parts-requires t) (seek-through-seek-linked-requires t)
+    (seek-through-seek-parts-requires-2 t) (seek-through-nothing-requires t) (seek-through-failed-requires t)
+    (seek-through-returns t) (seek-through-same-length t) (seek-through-returns-2 t) (seek-through-same-length-2 t)
+    (seek-through-returns-3 t) (seek-through-same-length-3 t) (seek-through-returns-4 t) (seek-through-returns-5 t)
