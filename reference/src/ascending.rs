@@ -14,11 +14,11 @@
 use std::collections::HashMap;
 use std::rc::Rc;
 
-use crate::enumeration::{in_order, middles};
+use crate::enumeration::middles;
 use crate::pairs::{is_in, Witness};
 use crate::patience::Patience;
 use crate::query::Asked;
-use crate::sorts::{Goal, Principal, Role};
+use crate::sorts::{Goal, Principal};
 use crate::table::{Members, Table};
 
 /// The derivations of what is asked, made one at a time as they are called for.
@@ -38,18 +38,18 @@ pub struct Ascending<'a> {
     patience: Patience,
 }
 
-/// What the derivations of a goal depend on: the roles above it, by which its
+/// What the derivations of a goal depend on: the goals above it, by which its
 /// level is known too. In which order they come does not matter.
 #[derive(PartialEq, Eq, Hash)]
 struct Place {
     goal: Goal,
-    above: Vec<Role>,
+    above: Vec<Goal>,
 }
 
 /// The derivations of a goal at a place.
 struct Row {
-    /// The roles from the top goal down to this one, both included.
-    branch: Vec<Role>,
+    /// The goals from the top one down to this one, both included.
+    branch: Vec<Goal>,
     /// The first ones, ascending.
     found: Vec<Rc<Witness>>,
     /// The ways by which the others go, the next one last.
@@ -68,6 +68,11 @@ struct Way {
 }
 
 impl Way {
+    /// Whether no derivation has been taken yet.
+    fn is_new(&self) -> bool {
+        self.turn.iter().all(|&turn| turn == 0)
+    }
+
     /// The same way at its next turn: one derivation further at this premise,
     /// and at the first of each premise behind it.
     fn turned(mut self, premise: usize) -> Way {
@@ -126,13 +131,14 @@ impl<'a> Ascending<'a> {
     /// where the way goes on; nothing if it has been gone through.
     fn step(&mut self, row: usize, way: Way) -> Option<Option<Way>> {
         self.patience.spend(1)?;
+        if way.is_new() && !self.leads_somewhere(row, &way)? {
+            return Some(None);
+        }
         let mut premises = Vec::new();
         for (index, &premise) in way.premises.iter().enumerate() {
             let below = self.row_below(row, premise);
             match self.look_up(below, way.turn[index])? {
                 Some(witness) => premises.push(witness),
-                // A premise without any derivation: the way leads nowhere.
-                None if way.turn[index] == 0 => return Some(None),
                 None => return Some(index.checked_sub(1).map(|before| way.turned(before))),
             }
         }
@@ -142,25 +148,39 @@ impl<'a> Ascending<'a> {
         Some(last.map(|last| way.turned(last)))
     }
 
+    /// Whether every premise of a way has a derivation; if there is patience for
+    /// it. The last is asked first: in a club everybody is a friend of somebody,
+    /// but few are friends of the one who is tried as a middle.
+    fn leads_somewhere(&mut self, row: usize, way: &Way) -> Option<bool> {
+        for &premise in way.premises.iter().rev() {
+            let below = self.row_below(row, premise);
+            if self.look_up(below, 0)?.is_none() {
+                return Some(false);
+            }
+        }
+        Some(true)
+    }
+
     /// The row of a premise, which stands below the branch of a row.
     fn row_below(&mut self, row: usize, premise: Goal) -> usize {
         let branch = self.rows[row].branch.clone();
         self.row(premise, &branch)
     }
 
-    /// The row of a goal below these roles.
-    fn row(&mut self, goal: Goal, above: &[Role]) -> usize {
-        let place = Place {
+    /// The row of a goal below these goals.
+    fn row(&mut self, goal: Goal, above: &[Goal]) -> usize {
+        let mut place = Place {
             goal,
-            above: in_order(above),
+            above: above.to_vec(),
         };
+        place.above.sort();
         if let Some(&row) = self.places.get(&place) {
             return row;
         }
-        let excluded = above.len() >= self.depth || above.contains(&goal.role);
+        let excluded = above.len() >= self.depth || above.contains(&goal);
         let row = self.rows.len();
         self.rows.push(Row {
-            branch: [above, &[goal.role]].concat(),
+            branch: [above, &[goal]].concat(),
             found: Vec::new(),
             ways: if excluded { vec![] } else { self.ways(goal) },
         });

@@ -5,7 +5,7 @@ use std::slice;
 
 use crate::query::Asked;
 use crate::refusal::Refusal;
-use crate::sorts::{Goal, Role};
+use crate::sorts::Goal;
 use crate::table::Table;
 
 /// How many numbers a record has for each node: its credential and its middle.
@@ -61,8 +61,9 @@ struct Reader<'a> {
 }
 
 impl Reader<'_> {
-    /// Reads a derivation of a goal, which stands below these roles.
-    fn derivation(&mut self, goal: Goal, above: &mut Vec<Role>) -> Result<Derivation, Refusal> {
+    /// Reads a derivation of a goal, which stands below these goals: no pair of
+    /// principal and role may come again on its branch.
+    fn derivation(&mut self, goal: Goal, above: &mut Vec<Goal>) -> Result<Derivation, Refusal> {
         self.nodes += 1;
         let node = self.nodes;
         let (credential, middle) = self.pair().ok_or(Refusal::new(11, node))?;
@@ -71,10 +72,10 @@ impl Reader<'_> {
             .premises(goal, credential, middle)
             .ok_or(Refusal::new(12, node))?;
         let level = above.len() + 1;
-        if level > self.depth || above.contains(&goal.role) {
+        if level > self.depth || above.contains(&goal) {
             return Err(Refusal::new(13, node));
         }
-        above.push(goal.role);
+        above.push(goal);
         let mut premises = Vec::new();
         for goal in goals {
             premises.push(self.derivation(goal, above)?);

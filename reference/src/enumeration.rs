@@ -2,38 +2,47 @@
 //!
 //! The pairs of a goal are made from the bottom up: those of its premises are
 //! joined, for every credential and middle through which the goal can be
-//! proved. Nothing is imposed on the way. Which pairs are of accepted records
-//! is asked when they are all there.
+//! proved. Which pairs are of accepted records is asked when they are all there.
+//!
+//! No goal may occur twice on a branch, so the derivations of a goal depend on
+//! the goals above it. There are very many ways to come to a goal, and most of
+//! them make no difference. So it is asked first what a goal amounts to whatever
+//! stands above it. Only if a best derivation comes back to a goal above is it
+//! asked again, without that goal; unless it comes back with every automaton
+//! standing where it stood. Then what lies between the two can be left out: the
+//! words that remain are judged as before, and nothing is used that was not.
 
 use std::collections::HashMap;
 use std::rc::Rc;
 
-use crate::pairs::{Pair, Pairs, Witness};
+use crate::pairs::{Found, Pair, Pairs, Spot};
 use crate::patience::Patience;
 use crate::query::Asked;
-use crate::sorts::{Goal, Principal, Role};
+use crate::sorts::{Goal, Principal};
 use crate::table::{Members, Table};
 use crate::words::Standing;
 
-/// What the derivations of a goal depend on. The level is one more than the
-/// number of roles above.
-#[derive(PartialEq, Eq, Hash)]
+/// What is asked of a goal: its derivations within some levels.
+#[derive(Clone, PartialEq, Eq, Hash)]
 struct Place {
-    goal: Goal,
-    /// The roles from the top goal down to here, this one not among them. In
-    /// which order they come matters to the automata alone.
-    above: Vec<Role>,
-    /// Where the automata stand after the roles above.
-    standing: Standing,
+    /// The goal, and where the automata stand.
+    spot: Spot,
+    /// How many levels there are, the goal's own included.
+    levels: usize,
+    /// Goals that may not occur, ascending.
+    without: Vec<Goal>,
 }
 
 /// An enumeration that is under way.
 struct Enumeration<'a> {
     table: &'a Table,
-    /// The highest level that a node may have.
-    depth: usize,
     /// The middles that are tried.
     middles: Vec<Principal>,
+    /// What each spot is: a goal, and where the automata stand once they have
+    /// read its role.
+    spots: Vec<(Goal, Standing)>,
+    /// The numbers of the spots.
+    numbers: HashMap<(Goal, Standing), Spot>,
     /// The places that are done.
     done: HashMap<Place, Rc<Pairs>>,
     /// How long it may go on.
@@ -45,12 +54,18 @@ struct Enumeration<'a> {
 pub fn pairs(table: &Table, asked: Asked, patience: Patience) -> Option<Rc<Pairs>> {
     let mut enumeration = Enumeration {
         table,
-        depth: usize::from(asked.depth),
         middles: middles(table),
+        spots: Vec::new(),
+        numbers: HashMap::new(),
         done: HashMap::new(),
         patience,
     };
-    enumeration.goal(asked.goal, &[], &Standing::start(table))
+    let top = Place {
+        spot: enumeration.spot(asked.goal, &Standing::start(table)),
+        levels: usize::from(asked.depth),
+        without: Vec::new(),
+    };
+    enumeration.derivations(top)
 }
 
 /// The principals of kind 1 credentials, each once, ascending.
@@ -71,31 +86,31 @@ pub fn middles(table: &Table) -> Vec<Principal> {
 }
 
 impl Enumeration<'_> {
-    /// The pairs of a goal below these roles, which have brought the automata
-    /// to where they stand.
-    fn goal(&mut self, goal: Goal, above: &[Role], standing: &Standing) -> Option<Rc<Pairs>> {
-        if above.len() >= self.depth || above.contains(&goal.role) {
-            return Some(Rc::default());
+    /// The spot of a goal where the automata stand so before its role.
+    fn spot(&mut self, goal: Goal, before: &Standing) -> Spot {
+        let spot = (goal, before.after(self.table, goal.role));
+        let next = self.spots.len();
+        let number = *self.numbers.entry(spot.clone()).or_insert(next);
+        if number == next {
+            self.spots.push(spot);
         }
-        let place = Place {
-            goal,
-            above: in_order(above),
-            standing: standing.clone(),
-        };
+        number
+    }
+
+    /// The best derivations at a place, each without a goal twice on a branch.
+    fn derivations(&mut self, place: Place) -> Option<Rc<Pairs>> {
         if let Some(pairs) = self.done.get(&place) {
             return Some(Rc::clone(pairs));
         }
         self.patience.spend(1)?;
-        let branch = [above, &[goal.role]].concat();
-        let standing = standing.after(self.table, goal.role);
-        let pairs = Rc::new(self.ways(goal, &branch, &standing)?);
+        let pairs = Rc::new(self.ways(&place)?);
         self.done.insert(place, Rc::clone(&pairs));
         Some(pairs)
     }
 
-    /// The pairs of a goal through every credential, by way of every middle.
-    /// The branch and the standing are those with the goal's role.
-    fn ways(&mut self, goal: Goal, branch: &[Role], standing: &Standing) -> Option<Pairs> {
+    /// The same, through every credential and by way of every middle.
+    fn ways(&mut self, place: &Place) -> Option<Pairs> {
+        let goal = self.spots[place.spot].0;
         let mut pairs = Pairs::default();
         for (number, credential) in (1u16..).zip(&self.table.credentials) {
             let middles = match credential.members {
@@ -104,9 +119,10 @@ impl Enumeration<'_> {
             };
             for middle in middles {
                 if let Some(premises) = self.table.premises(goal, number, middle) {
-                    let node = (number, middle);
-                    let through = self.through(node, &premises, branch, standing)?;
-                    pairs.add_all(&through, &mut self.patience)?;
+                    let through = self.through(place, (number, middle), &premises)?;
+                    for found in through.iter() {
+                        pairs.add(found.without_return(), &mut self.patience)?;
+                    }
                 }
             }
         }
@@ -114,32 +130,75 @@ impl Enumeration<'_> {
     }
 
     /// The pairs of a goal through one credential, by way of one middle. A node
-    /// without premises is of kind 1: a word ends at it.
+    /// without premises is of kind 1: a word ends at it. Otherwise the last
+    /// premise is asked first: in a club everybody is a friend of somebody, but
+    /// few are friends of the one who is tried as a middle.
     fn through(
         &mut self,
+        place: &Place,
         (credential, middle): (u16, u16),
         premises: &[Goal],
-        branch: &[Role],
-        standing: &Standing,
     ) -> Option<Pairs> {
         let rejecting = match premises {
-            [] => standing.rejecting(self.table),
+            [] => self.spots[place.spot].1.rejecting(self.table),
             _ => 0,
         };
         let used = 1 << (credential - 1);
-        let node = Witness::node(credential, middle);
-        let mut pairs = Pairs::one(Pair { used, rejecting }, node);
-        for &premise in premises {
-            let below = self.goal(premise, branch, standing)?;
-            pairs = pairs.with_premise(&below, &mut self.patience)?;
+        let pair = Pair { used, rejecting };
+        let mut pairs = Pairs::one(Found::node(pair, place.spot, credential, middle));
+        let mut all = Vec::new();
+        for &premise in premises.iter().rev() {
+            let below = self.premise(place, premise)?;
+            if below.iter().next().is_none() {
+                return Some(Pairs::default());
+            }
+            all.push(below);
+        }
+        for below in all.iter().rev() {
+            pairs = pairs.with_premise(below, &mut self.patience)?;
         }
         Some(pairs)
     }
-}
 
-/// The same roles in ascending order.
-pub fn in_order(roles: &[Role]) -> Vec<Role> {
-    let mut roles = roles.to_vec();
-    roles.sort();
-    roles
+    /// The best derivations of a premise of the goal at a place. They do not
+    /// come back to goals that may not occur there, nor to the goal itself,
+    /// unless the automata stand as before.
+    fn premise(&mut self, place: &Place, premise: Goal) -> Option<Rc<Pairs>> {
+        let (goal, standing) = self.spots[place.spot].clone();
+        if place.levels == 1 || premise == goal || place.without.contains(&premise) {
+            return Some(Rc::default());
+        }
+        let mut below = Place {
+            spot: self.spot(premise, &standing),
+            levels: place.levels - 1,
+            without: Vec::new(),
+        };
+        loop {
+            let pairs = self.derivations(below.clone())?;
+            let met = self.met(place, &pairs)?;
+            if met.is_empty() {
+                return Some(pairs);
+            }
+            below.without.extend(met);
+            below.without.sort();
+        }
+    }
+
+    /// The goals to which these derivations, of a premise of the goal at a
+    /// place, may not come back but do.
+    fn met(&mut self, place: &Place, pairs: &Pairs) -> Option<Vec<Goal>> {
+        let own = self.spots[place.spot].0;
+        let mut met = Vec::new();
+        for found in pairs.iter() {
+            self.patience.spend(1)?;
+            for &spot in found.below() {
+                let goal = self.spots[spot].0;
+                let is_own = goal == own && spot != place.spot;
+                if (is_own || place.without.contains(&goal)) && !met.contains(&goal) {
+                    met.push(goal);
+                }
+            }
+        }
+        Some(met)
+    }
 }

@@ -35,10 +35,10 @@ pub fn minimal_sets_within(
     asked: Asked,
 ) -> Option<Vec<Minimal>> {
     let pairs = enumeration::pairs(table, asked, patience)?;
-    let accepted = pairs.iter().filter(|(pair, _)| is_accepted(table, *pair));
-    let sets = accepted.map(|(pair, witness)| Minimal {
-        set: pair.used,
-        witness: Rc::clone(witness),
+    let accepted = pairs.iter().filter(|found| is_accepted(table, found.pair));
+    let sets = accepted.map(|found| Minimal {
+        set: found.pair.used,
+        witness: Rc::clone(&found.witness),
     });
     let mut sets: Vec<Minimal> = sets.collect();
     sets.sort_by_key(|minimal| minimal.set);

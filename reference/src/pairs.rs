@@ -3,7 +3,8 @@
 //! All that matters of a derivation for the list is a pair: its used set, and
 //! the set of automata that reject one of its words. Whether the record is
 //! accepted can be told from the pair alone, and the pair of a derivation is
-//! made from those of its premises.
+//! made from those of its premises. The other pair of which the definition
+//! speaks, a principal and a role, is a [`Goal`](crate::sorts::Goal) here.
 
 use std::rc::Rc;
 
@@ -29,10 +30,26 @@ pub struct Witness {
     used: u32,
 }
 
-/// Pairs of which none dominates another, each with a derivation.
+/// The number of a goal together with where the automata stand.
+pub type Spot = usize;
+
+/// A derivation that has been found, or a node that still lacks premises.
+#[derive(Debug)]
+pub struct Found {
+    /// What it amounts to.
+    pub pair: Pair,
+    /// The derivation.
+    pub witness: Rc<Witness>,
+    spot: Spot,
+    premises: Vec<Rc<Found>>,
+    /// The spots of all nodes below the first one, ascending.
+    below: Vec<Spot>,
+}
+
+/// Derivations of which none dominates another.
 #[derive(Debug, Default)]
 pub struct Pairs {
-    best: Vec<(Pair, Rc<Witness>)>,
+    best: Vec<Rc<Found>>,
 }
 
 impl Pair {
@@ -119,48 +136,108 @@ impl Witness {
     }
 }
 
-impl Pairs {
-    /// One pair with its derivation.
-    pub fn one(pair: Pair, witness: Witness) -> Pairs {
-        Pairs {
-            best: vec![(pair, Rc::new(witness))],
+impl Found {
+    /// A node without its premises.
+    pub fn node(pair: Pair, spot: Spot, credential: u16, middle: u16) -> Found {
+        Found {
+            pair,
+            witness: Rc::new(Witness::node(credential, middle)),
+            spot,
+            premises: Vec::new(),
+            below: Vec::new(),
         }
     }
 
-    /// The pairs and their derivations.
-    pub fn iter(&self) -> impl Iterator<Item = (Pair, &Rc<Witness>)> {
-        self.best.iter().map(|(pair, witness)| (*pair, witness))
+    /// The spots of all nodes below the first one, ascending.
+    pub fn below(&self) -> &[Spot] {
+        &self.below
     }
 
-    /// Adds a pair unless another dominates it, and leaves aside those that it
-    /// dominates. Of two derivations of one pair the one with fewer nodes is
-    /// kept, so that records stay short. A step is made for every comparison.
-    fn add(&mut self, pair: Pair, witness: Rc<Witness>, patience: &mut Patience) -> Option<()> {
+    /// The same node with one premise more.
+    fn with(&self, premise: &Rc<Found>) -> Found {
+        let mut premises = self.premises.clone();
+        premises.push(Rc::clone(premise));
+        let mut below = [&self.below[..], &premise.below, &[premise.spot]].concat();
+        below.sort();
+        below.dedup();
+        Found {
+            pair: self.pair.with(premise.pair),
+            witness: Rc::new(self.witness.with(&premise.witness)),
+            spot: self.spot,
+            premises,
+            below,
+        }
+    }
+
+    /// The derivation below which the spot of its first node does not come
+    /// again: this one, or the part of it to which it returns. That part uses
+    /// no more, and its words are among those of the whole.
+    pub fn without_return(self: &Rc<Found>) -> Rc<Found> {
+        let mut found = self;
+        while found.below.binary_search(&self.spot).is_ok() {
+            let mut premises = found.premises.iter();
+            let leads_there = |premise: &&Rc<Found>| premise.is_at_or_above(self.spot);
+            found = premises.find(leads_there).expect("a way to what is below");
+        }
+        Rc::clone(found)
+    }
+
+    /// Whether one of the nodes is at a spot.
+    fn is_at_or_above(&self, spot: Spot) -> bool {
+        self.spot == spot || self.below.binary_search(&spot).is_ok()
+    }
+}
+
+impl Pairs {
+    /// One derivation.
+    pub fn one(found: Found) -> Pairs {
+        Pairs {
+            best: vec![Rc::new(found)],
+        }
+    }
+
+    /// The derivations.
+    pub fn iter(&self) -> impl Iterator<Item = &Rc<Found>> {
+        self.best.iter()
+    }
+
+    /// Adds a derivation unless another dominates it, and leaves aside those
+    /// that it dominates, if there is patience for it.
+    pub fn add(&mut self, found: Rc<Found>, patience: &mut Patience) -> Option<()> {
+        let (pair, nodes) = (found.pair, found.witness.nodes);
+        self.add_unless_dominated(pair, nodes, || found, patience)
+    }
+
+    /// The same for a derivation of so many nodes that is made only if it is
+    /// wanted. Of two derivations of one pair the one with fewer nodes is kept,
+    /// so that records stay short. A step is made for every comparison.
+    fn add_unless_dominated(
+        &mut self,
+        pair: Pair,
+        nodes: u64,
+        make: impl FnOnce() -> Rc<Found>,
+        patience: &mut Patience,
+    ) -> Option<()> {
         patience.spend(self.best.len() + 1)?;
-        let longer =
-            |(held, other): &(Pair, Rc<Witness>)| *held == pair && other.nodes > witness.nodes;
+        let longer = |held: &Found| held.pair == pair && held.witness.nodes > nodes;
         let mut best = self.best.iter();
-        if !best.any(|held| held.0.dominates(pair) && !longer(held)) {
-            self.best.retain(|(held, _)| !pair.dominates(*held));
-            self.best.push((pair, witness));
+        if !best.any(|held| held.pair.dominates(pair) && !longer(held)) {
+            self.best.retain(|held| !pair.dominates(held.pair));
+            self.best.push(make());
         }
         Some(())
-    }
-
-    /// Adds all of some other pairs, if there is patience for it.
-    pub fn add_all(&mut self, others: &Pairs, patience: &mut Patience) -> Option<()> {
-        let mut others = others.iter();
-        others.try_for_each(|(pair, witness)| self.add(pair, Rc::clone(witness), patience))
     }
 
     /// What these derivations, which lack a premise, amount to with each
     /// derivation of that premise, if there is patience for it.
     pub fn with_premise(&self, premise: &Pairs, patience: &mut Patience) -> Option<Pairs> {
         let mut joined = Pairs::default();
-        for (pair, witness) in self.iter() {
-            for (other, below) in premise.iter() {
-                let whole = Rc::new(witness.with(below));
-                joined.add(pair.with(other), whole, patience)?;
+        for found in self.iter() {
+            for below in premise.iter() {
+                let pair = found.pair.with(below.pair);
+                let nodes = found.witness.nodes + below.witness.nodes;
+                let make = || Rc::new(found.with(below));
+                joined.add_unless_dominated(pair, nodes, make, patience)?;
             }
         }
         Some(joined)
@@ -169,21 +246,23 @@ impl Pairs {
 
 #[cfg(test)]
 mod tests {
-    use super::{Pair, Pairs, Patience, Witness};
+    use std::rc::Rc;
+
+    use super::{Found, Pair, Pairs, Patience};
 
     fn pair(used: u32, rejecting: u32) -> Pair {
         Pair { used, rejecting }
     }
 
     fn leaf(used: u32, rejecting: u32, credential: u16) -> Pairs {
-        Pairs::one(pair(used, rejecting), Witness::node(credential, 0))
+        Pairs::one(Found::node(pair(used, rejecting), 0, credential, 0))
     }
 
     /// What stays of some pairs that are added one after the other.
     fn added(all: &[&Pairs]) -> Pairs {
         let mut best = Pairs::default();
-        for pairs in all {
-            let added = best.add_all(pairs, &mut Patience::new(1_000));
+        for found in all.iter().flat_map(|pairs| pairs.iter()) {
+            let added = best.add(Rc::clone(found), &mut Patience::new(1_000));
             added.expect("few steps");
         }
         best
@@ -195,7 +274,7 @@ mod tests {
     }
 
     fn sorted(pairs: &Pairs) -> Vec<Pair> {
-        let mut pairs: Vec<Pair> = pairs.iter().map(|(pair, _)| pair).collect();
+        let mut pairs: Vec<Pair> = pairs.iter().map(|found| found.pair).collect();
         pairs.sort();
         pairs
     }
@@ -230,7 +309,7 @@ mod tests {
         let long = joined(&joined(&short, &short), &short);
         for both in [[&short, &long], [&long, &short]] {
             let best = added(&both);
-            let records: Vec<Vec<u16>> = best.iter().map(|(_, held)| held.record()).collect();
+            let records: Vec<Vec<u16>> = best.iter().map(|held| held.witness.record()).collect();
             assert_eq!(records, [[1, 0]]);
         }
     }

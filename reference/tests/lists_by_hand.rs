@@ -177,7 +177,7 @@ fn every_middle_is_tried() {
 }
 
 #[test]
-fn no_role_occurs_twice_on_a_branch() {
+fn no_pair_occurs_twice_on_a_branch() {
     let other = [2, 1];
     let circle = [
         from(G, other),
@@ -191,10 +191,13 @@ fn no_role_occurs_twice_on_a_branch() {
     let three_roles = [on_every(0, 1), on_every(1, 2), on_every(2, 3)];
     let long = table(&[one, two, kept(three), four], &[], 8, &three_roles);
     assert_eq!(sets(&long, ASKED), [9]);
-    // The linking role is the goal's own.
+    // The linking role is the goal's own, with another principal.
     let linking = [linked(G, 1, 3), member(G, 7), member([7, 3], 9)];
-    assert!(is_none(&plain(&linking), ASKED));
-    // A role may occur on two branches.
+    assert_eq!(sets(&plain(&linking), ASKED), [7]);
+    // It is the goal's own with its own principal.
+    let own = [linked(G, 1, 3), from(G, A), member([9, 3], 9)];
+    assert!(is_none(&plain(&own), ASKED));
+    // A pair may occur on two branches.
     let parts = [[1, 2, 2], [1, 3, 0]];
     let siblings = [in_every(G, 1), from(A, C), from(B, C), member(C, 9)];
     assert_eq!(sets(&table(&siblings, &parts, 0, &[]), ASKED), [15]);

@@ -208,7 +208,7 @@ fn only_kind_3_has_a_middle() {
 }
 
 #[test]
-fn a_role_occurs_once_on_a_branch() {
+fn a_pair_occurs_once_on_a_branch() {
     let circle = table(
         &[
             [1, 1, 2, 2, 1, 0],
@@ -221,7 +221,7 @@ fn a_role_occurs_once_on_a_branch() {
         &[],
         &[],
     );
-    // The goal's role again, three levels down, and not only a level down.
+    // The goal again, three levels down, and not only a level down.
     let record = [1, 0, 2, 0, 3, 0, 4, 0];
     assert_eq!(verify(&circle, depth(16), &record), refused(13, 4));
     // The same names of other owners, or other names, are other roles.
@@ -229,7 +229,7 @@ fn a_role_occurs_once_on_a_branch() {
         verify(&circle, depth(3), &[1, 0, 2, 0, 5, 0]),
         Ok(1 + 2 + 16)
     );
-    // A role below the goal: 2.1, 2.2, 1.1, 2.1.
+    // Ann in a role below the goal: 2.1, 2.2, 1.1, 2.1.
     let below = Query {
         owner: 2,
         ..depth(16)
@@ -239,7 +239,7 @@ fn a_role_occurs_once_on_a_branch() {
 }
 
 #[test]
-fn a_role_occurs_once_on_a_branch_whoever_is_in_it() {
+fn a_role_occurs_again_on_a_branch_with_another_principal() {
     // Shop.discount for the students of whoever has the discount: the first
     // child has the goal's role, with another principal.
     let linked = table(
@@ -249,8 +249,9 @@ fn a_role_occurs_once_on_a_branch_whoever_is_in_it() {
         &[],
     );
     let record = [1, 2, 2, 0, 3, 0];
-    assert_eq!(verify(&linked, depth(16), &record), refused(13, 2));
-    // The second child has it.
+    assert_eq!(verify(&linked, depth(16), &record), Ok(7));
+    assert_eq!(verify(&linked, depth(1), &record), refused(13, 2));
+    // The second child has it, with the goal's own principal.
     let second = table(
         &[[1, 1, 3, 2, 1, 0], [1, 2, 1, 1, 0, 0], [1, 1, 1, 4, 0, 0]],
         &[],
@@ -262,7 +263,7 @@ fn a_role_occurs_once_on_a_branch_whoever_is_in_it() {
 }
 
 #[test]
-fn siblings_do_not_see_each_others_roles() {
+fn siblings_do_not_see_each_others_pairs() {
     // 1.1 from 2.1 and 3.1, and 3.1 from 2.1.
     let cousins = table(
         &[[1, 1, 4, 1, 0, 0], [2, 1, 1, 4, 0, 0], [3, 1, 2, 2, 1, 0]],

@@ -19,8 +19,9 @@ pub struct Policy {
     /// Who is in some role by a credential of kind 1. Nobody else is in any
     /// role at all.
     members: Vec<Principal>,
-    /// The fewest levels in which a goal can be derived, if roles may occur
-    /// twice on a branch. Other goals cannot be derived.
+    /// The fewest levels in which a goal can be derived. A derivation of so few
+    /// levels has no goal twice on a branch: what lies between the two could be
+    /// left out. Other goals cannot be derived.
     heights: BTreeMap<Goal, u16>,
 }
 
@@ -54,7 +55,7 @@ pub struct Wish {
     pub nodes: usize,
     /// Whether the highest way of proving a goal is preferred before.
     pub deep: bool,
-    /// Whether a role may occur twice on a branch.
+    /// Whether a goal may occur twice on a branch.
     pub repeats: bool,
 }
 
@@ -89,7 +90,7 @@ impl Policy {
             .collect()
     }
 
-    /// Whether a goal can be derived, roles occurring twice or not.
+    /// Whether a goal can be derived.
     pub fn is_derivable(&self, goal: Goal) -> bool {
         self.heights.contains_key(&goal)
     }
@@ -146,8 +147,8 @@ impl Policy {
         self.heights.get(&goal).copied()
     }
 
-    /// Grows a derivation of a goal. There may be none without a role twice
-    /// on a branch, or it may not be found in reasonable time.
+    /// Grows a derivation of a goal. There may be none within the levels, or it
+    /// may not be found in reasonable time.
     pub fn grow(&self, random: &mut Random, goal: Goal, wish: Wish) -> Option<Vec<Node>> {
         let mut growth = Growth {
             policy: self,
@@ -183,17 +184,17 @@ struct Growth<'a> {
 }
 
 impl Growth<'_> {
-    /// Adds a derivation of a goal that stands below these roles, or nothing
+    /// Adds a derivation of a goal that stands below these goals, or nothing
     /// if none is found.
-    fn goal(&mut self, random: &mut Random, goal: Goal, above: &mut Vec<Role>) -> bool {
-        let repeated = above.contains(&goal.role) && !self.wish.repeats;
+    fn goal(&mut self, random: &mut Random, goal: Goal, above: &mut Vec<Goal>) -> bool {
+        let repeated = above.contains(&goal) && !self.wish.repeats;
         let level = above.len() as u16 + 1;
         if repeated || level > self.wish.depth || self.trials == 0 {
             return false;
         }
         self.trials -= 1;
         let before = self.nodes.len();
-        above.push(goal.role);
+        above.push(goal);
         let mut ways = self.ways(random, goal, level);
         let found = ways.drain(..).any(|way| {
             self.nodes.truncate(before);

@@ -120,8 +120,8 @@ fn with_query(wallet: Wallet) -> (Records, Query) {
 }
 
 /// A table in which many goals can be derived, and a query for one of them.
-/// The depth limit allows for some derivation, if its words are accepted and
-/// no role comes twice; now and then it may be lower.
+/// The depth limit allows for some derivation, if its words are accepted; now
+/// and then it may be lower.
 fn goal_of_policy(random: &mut Random) -> (Records, Query) {
     let policy = Policy::new(policies::records(random));
     let (goal, height) = *random.pick(&policy.goals());

@@ -15,8 +15,9 @@ use crate::sorts::{Goal, Principal, HIGHEST};
 /// So many nodes at most are searched for two branches that differ.
 const SEARCHED: usize = 2_000;
 
-/// Another derivation from the same table, in which a role occurs twice on a
-/// branch and nothing else is wrong; and the index of the first such node.
+/// Another derivation from the same table, in which a pair of principal and role
+/// occurs twice on a branch and nothing else is wrong; and the index of the first
+/// such node.
 pub fn repeated(random: &mut Random, grown: &Grown) -> Option<(Claim, usize)> {
     let (goal, height) = *random.pick(&grown.policy.goals());
     let wish = Wish {
@@ -35,15 +36,15 @@ pub fn repeated(random: &mut Random, grown: &Grown) -> Option<(Claim, usize)> {
     Some((claim, node))
 }
 
-/// The index of the first node whose role occurs above it.
+/// The index of the first node whose goal occurs above it.
 fn first_repeated(nodes: &[Node]) -> Option<usize> {
     let mut above = Vec::new();
     for (index, node) in nodes.iter().enumerate() {
         above.truncate(usize::from(node.level) - 1);
-        if above.contains(&node.goal.role) {
+        if above.contains(&node.goal) {
             return Some(index);
         }
-        above.push(node.goal.role);
+        above.push(node.goal);
     }
     None
 }

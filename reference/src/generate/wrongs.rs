@@ -38,7 +38,7 @@ pub enum Wrong {
     LongerByOne,
     /// Several numbers are left over.
     LongerByMore,
-    /// A role occurs twice on a branch.
+    /// A pair of principal and role occurs twice on a branch.
     Repeated,
     /// The query's depth limit is lower than the derivation is deep.
     TooDeep,
@@ -59,7 +59,7 @@ pub enum Wrong {
     TooDeepAndChanged,
     /// The first node that is too deep is not there, or not whole.
     TooDeepAndCut,
-    /// The first node whose role occurs above is also wrong by itself.
+    /// The first node whose pair occurs above is also wrong by itself.
     RepeatedAndChanged,
     /// The record ends inside a node whose first number is wrong.
     CutAndChanged,
@@ -149,7 +149,7 @@ impl fmt::Display for Wrong {
             Wrong::CutInsideNode => "cut inside a node".into(),
             Wrong::LongerByOne => "longer by one number".into(),
             Wrong::LongerByMore => "longer by several numbers".into(),
-            Wrong::Repeated => "a role twice on a branch".into(),
+            Wrong::Repeated => "a pair twice on a branch".into(),
             Wrong::TooDeep => "depth limit lowered".into(),
             Wrong::MiddleOfKind(kind) => format!("wrong middle, kind {kind}"),
             Wrong::NoMember => "middle is no member".into(),
@@ -159,7 +159,7 @@ impl fmt::Display for Wrong {
             Wrong::BrokenElsewhere => "broken on another branch".into(),
             Wrong::TooDeepAndChanged => "too deep and changed".into(),
             Wrong::TooDeepAndCut => "too deep and cut".into(),
-            Wrong::RepeatedAndChanged => "twice on a branch and changed".into(),
+            Wrong::RepeatedAndChanged => "a pair twice on a branch, and changed".into(),
             Wrong::CutAndChanged => "changed and cut behind it".into(),
             Wrong::BrokenAndLonger => "broken and longer".into(),
             Wrong::Several => "several numbers changed".into(),

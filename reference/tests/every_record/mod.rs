@@ -1,6 +1,6 @@
 //! Every record for a query, found in the plainest way.
 
-use reference::sorts::{Goal, Role};
+use reference::sorts::Goal;
 use reference::table::Table;
 use reference::Query;
 
@@ -15,13 +15,13 @@ struct Search<'a> {
 }
 
 impl Search<'_> {
-    /// Every record for a goal below these roles, unless it takes too long.
-    fn records(&mut self, goal: Goal, above: &[Role]) -> Option<Vec<Vec<u16>>> {
-        if above.len() >= self.depth || above.contains(&goal.role) {
+    /// Every record for a goal below these goals, unless it takes too long.
+    fn records(&mut self, goal: Goal, above: &[Goal]) -> Option<Vec<Vec<u16>>> {
+        if above.len() >= self.depth || above.contains(&goal) {
             return Some(Vec::new());
         }
         self.steps = self.steps.checked_sub(1)?;
-        let branch = [above, &[goal.role]].concat();
+        let branch = [above, &[goal]].concat();
         let mut all = Vec::new();
         for credential in 1..=self.table.credentials.len() as u16 {
             for middle in 0..=64 {
@@ -33,24 +33,28 @@ impl Search<'_> {
         Some(all)
     }
 
-    /// Every record that begins with a node that has these premises.
+    /// Every record that begins with a node that has these premises. They are
+    /// put before each other from the last on: most middles fail there.
     fn through(
         &mut self,
         node: Vec<u16>,
         premises: &[Goal],
-        branch: &[Role],
+        branch: &[Goal],
     ) -> Option<Vec<Vec<u16>>> {
-        let mut begun = vec![node];
-        for &premise in premises {
-            let below = self.records(premise, branch)?;
-            self.steps = self.steps.checked_sub(begun.len() * below.len())?;
-            let mut joined = Vec::new();
-            for one in &begun {
-                joined.extend(below.iter().map(|other| [&one[..], other].concat()));
+        let mut ends = vec![Vec::new()];
+        for &premise in premises.iter().rev() {
+            if ends.is_empty() {
+                break;
             }
-            begun = joined;
+            let below = self.records(premise, branch)?;
+            self.steps = self.steps.checked_sub(ends.len() * below.len())?;
+            let mut joined = Vec::new();
+            for one in &below {
+                joined.extend(ends.iter().map(|other| [&one[..], other].concat()));
+            }
+            ends = joined;
         }
-        Some(begun)
+        Some(ends.iter().map(|end| [&node[..], end].concat()).collect())
     }
 }
 
