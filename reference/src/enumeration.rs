@@ -43,6 +43,8 @@ struct Enumeration<'a> {
     spots: Vec<(Goal, Standing)>,
     /// The numbers of the spots.
     numbers: HashMap<(Goal, Standing), Spot>,
+    /// The spots of goals right below other spots.
+    next: HashMap<(Spot, Goal), Spot>,
     /// The places that are done.
     done: HashMap<Place, Rc<Pairs>>,
     /// How long it may go on.
@@ -57,6 +59,7 @@ pub fn pairs(table: &Table, asked: Asked, patience: Patience) -> Option<Rc<Pairs
         middles: middles(table),
         spots: Vec::new(),
         numbers: HashMap::new(),
+        next: HashMap::new(),
         done: HashMap::new(),
         patience,
     };
@@ -95,6 +98,17 @@ impl Enumeration<'_> {
             self.spots.push(spot);
         }
         number
+    }
+
+    /// The spot of a goal right below another spot.
+    fn spot_below(&mut self, spot: Spot, goal: Goal) -> Spot {
+        if let Some(&next) = self.next.get(&(spot, goal)) {
+            return next;
+        }
+        let standing = self.spots[spot].1.clone();
+        let next = self.spot(goal, &standing);
+        self.next.insert((spot, goal), next);
+        next
     }
 
     /// The best derivations at a place, each without a goal twice on a branch.
@@ -164,12 +178,12 @@ impl Enumeration<'_> {
     /// come back to goals that may not occur there, nor to the goal itself,
     /// unless the automata stand as before.
     fn premise(&mut self, place: &Place, premise: Goal) -> Option<Rc<Pairs>> {
-        let (goal, standing) = self.spots[place.spot].clone();
+        let goal = self.spots[place.spot].0;
         if place.levels == 1 || premise == goal || place.without.contains(&premise) {
             return Some(Rc::default());
         }
         let mut below = Place {
-            spot: self.spot(premise, &standing),
+            spot: self.spot_below(place.spot, premise),
             levels: place.levels - 1,
             without: Vec::new(),
         };

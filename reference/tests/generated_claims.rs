@@ -6,7 +6,7 @@ mod owning;
 use std::collections::{BTreeMap, BTreeSet};
 
 use reference::derivation::NODE;
-use reference::generate::claims::{Claim, Grown};
+use reference::generate::claims::{table, Claim, Grown};
 use reference::generate::constraints::{self, Constraint};
 use reference::generate::growth::{Node, Policy, Wish};
 use reference::generate::spoil::spoil;
@@ -15,7 +15,7 @@ use reference::generate::{every, policies, wide};
 use reference::query::DEEPEST;
 use reference::random::Random;
 use reference::records::{Head, Records};
-use reference::sorts::Role;
+use reference::sorts::{Goal, Role};
 use reference::table::Table;
 use reference::words::accepts;
 use reference::{check, shop, verify, Refusal};
@@ -37,8 +37,8 @@ fn judge(claim: &Claim) -> Verdict {
 /// Hands over some thousand grown records.
 fn each_grown(mut use_it: impl FnMut(&mut Random, &Grown)) {
     let mut random = Random::new(SEED);
-    for _ in 0..600 {
-        let policy = Policy::new(policies::records(&mut random));
+    for _ in 0..900 {
+        let policy = Policy::new(table(&mut random));
         for _ in 0..2 {
             if let Some(grown) = Grown::new(&mut random, &policy) {
                 use_it(&mut random, &grown);
@@ -146,6 +146,32 @@ fn grown_records_repeat_credentials_and_roles_beside_each_other() {
         nodes.any(|node| *ways.entry(node.goal).or_insert(node.credential) != node.credential)
     };
     assert!(found(two_ways) > 0, "one goal by two credentials");
+}
+
+/// The branch of each node, from the top one down.
+fn branches(grown: &Grown) -> Vec<Vec<Goal>> {
+    let mut branch = Vec::new();
+    let mut goals = |node: &Node| {
+        branch.truncate(usize::from(node.level) - 1);
+        branch.push(node.goal);
+        branch.clone()
+    };
+    grown.nodes.iter().map(&mut goals).collect()
+}
+
+#[test]
+fn grown_records_have_a_role_again_on_a_branch_and_no_pair() {
+    let again = |branch: &Vec<Goal>, same: &dyn Fn(Goal, Goal) -> bool| {
+        let (&last, above) = branch.split_last().expect("the node itself");
+        above.iter().any(|&goal| same(goal, last))
+    };
+    let any = |grown: &Grown, same: &dyn Fn(Goal, Goal) -> bool| {
+        branches(grown).iter().any(|branch| again(branch, same))
+    };
+    assert_eq!(found(|grown| any(grown, &|one, other| one == other)), 0);
+    let roles = found(|grown| any(grown, &|one, other| one.role == other.role));
+    assert!(roles > 200, "{roles}");
+    assert!(found(|grown| any(grown, &|one, other| one.principal == other.principal)) > roles);
 }
 
 #[test]

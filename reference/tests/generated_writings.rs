@@ -80,7 +80,7 @@ fn derivations_come_in_the_order_of_their_records_and_none_is_left_out() {
 fn first_records_are_what_the_definition_says() {
     let mut sets = 0;
     let mut not_least = 0;
-    for (listing, records) in listings_with_records(1_000) {
+    for (listing, records) in listings_with_records(2_000) {
         let Listing { table, query, .. } = &listing;
         for set in listed(&listing) {
             let mut cells = vec![BEFORE; 1_000];
@@ -103,7 +103,7 @@ fn first_records_are_what_the_definition_says() {
 fn every_set_is_listed_or_refused() {
     let mut random = Random::new(SEED);
     let mut told = BTreeSet::new();
-    for _ in 0..200 {
+    for _ in 0..600 {
         let listing = listings::any(&mut random);
         let checked = check_query(&listing.table, listing.query);
         let sets = listed(&listing);

@@ -1,10 +1,12 @@
 //! Claims: a table, a query, and a record that is to prove it.
 
+use crate::generate::clubs::{self, Circle};
 use crate::generate::constraints::{self, Constraint, Role};
 use crate::generate::growth::{Node, Policy, Wish};
+use crate::generate::policies;
 use crate::query::{Query, DEEPEST};
 use crate::random::Random;
-use crate::records::Records;
+use crate::records::{Head, Records};
 use crate::sorts::Goal;
 use crate::verify;
 
@@ -109,6 +111,16 @@ impl<'a> Grown<'a> {
         grown.records.credentials[usize::from(credential) - 1][5] = number;
         Some(grown)
     }
+}
+
+/// A table from which records are grown, often with automata. In one of three
+/// roles lead back to themselves.
+pub fn table(random: &mut Random) -> Records {
+    if !random.one_in(3) {
+        return policies::records(random);
+    }
+    let circle = Circle::drawn(random);
+    clubs::made_up(random, circle, Head::LIMITS.credentials).records
 }
 
 /// A goal that can be derived, and its height: the highest one of a few.

@@ -3,6 +3,7 @@
 use std::fmt;
 
 use crate::generate::claims::query;
+use crate::generate::clubs::{self, Circle};
 use crate::generate::families::{self, Family};
 use crate::generate::growth::Policy;
 use crate::generate::wallets::Wallet;
@@ -35,6 +36,8 @@ pub enum Source {
     Detour,
     /// A wallet of a family.
     Shaped(Family),
+    /// A wallet in which a role leads back to itself.
+    Circle(Circle),
     /// A table in which many goals can be derived, and one of these goals.
     Policy,
     /// Such a table, and any query.
@@ -55,6 +58,7 @@ impl Source {
         let mut sources = vec![Source::Fixed, Source::Wallet, Source::Crossed];
         sources.push(Source::Detour);
         sources.extend(Family::ALL.map(Source::Shaped));
+        sources.extend(Circle::ALL.map(Source::Circle));
         sources.extend([Source::Policy, Source::AnyQuery, Source::Valid]);
         sources.extend([Source::Table, Source::Query, Source::Both]);
         sources
@@ -63,9 +67,13 @@ impl Source {
 
 /// A listing made up at random from any source.
 pub fn any(random: &mut Random) -> Listing {
-    match random.below(20) {
+    match random.below(30) {
         0 => from_source(random, Source::Valid),
         1 | 2 => from_source(random, Source::Detour),
+        3..=15 => {
+            let circle = Circle::drawn(random);
+            from_source(random, Source::Circle(circle))
+        }
         _ => made_up(random),
     }
 }
@@ -88,16 +96,15 @@ pub fn made_up(random: &mut Random) -> Listing {
 
 /// A listing made up at random from this source.
 fn from_source(random: &mut Random, source: Source) -> Listing {
+    let most = Head::LIMITS.credentials;
     let (records, mut query) = match source {
         Source::Policy => goal_of_policy(random),
         Source::AnyQuery => (policies::records(random), queries::valid(random)),
         Source::Valid => role_of_any(random),
         Source::Detour => with_query(detours::made_up(random)),
         Source::Crossed => with_query(crossed::made_up(random)),
-        Source::Shaped(family) => {
-            let most = Head::LIMITS.credentials;
-            with_query(families::made_up(random, family, most))
-        }
+        Source::Shaped(family) => with_query(families::made_up(random, family, most)),
+        Source::Circle(circle) => with_query(clubs::made_up(random, circle, most)),
         _ => with_query(wallets::made_up(random)),
     };
     let mut table = records.numbers();
@@ -158,6 +165,7 @@ impl fmt::Display for Source {
             Source::Crossed => "wallet with ways from part to part",
             Source::Detour => "wallet with detours",
             Source::Shaped(family) => return family.fmt(out),
+            Source::Circle(circle) => return circle.fmt(out),
             Source::Policy => "goal of a table with many",
             Source::AnyQuery => "any query",
             Source::Valid => "role of any valid table",

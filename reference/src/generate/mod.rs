@@ -4,7 +4,7 @@
 //! - [`queries`]: queries, valid and damaged
 //! - [`policies`], [`constraints`]: tables in which goals can be derived
 //! - [`wallets`], [`crossed`], [`detours`], [`shapes`], [`families`],
-//!   [`listings`]: tables with queries that have minimal sets
+//!   [`clubs`], [`listings`]: tables with queries that have minimal sets
 //! - [`growth`], [`claims`]: right records, grown from such tables
 //! - [`wrongs`], [`spoil`], [`misfits`], [`every`]: wrong ones
 //! - [`wide`]: records of very many nodes
@@ -12,6 +12,7 @@
 
 pub mod chains;
 pub mod claims;
+pub mod clubs;
 pub mod constraints;
 pub mod crossed;
 pub mod damage;

@@ -1,4 +1,5 @@
 //! Every record for a query, found in the plainest way.
+#![allow(dead_code)] // each test uses a part
 
 use reference::sorts::Goal;
 use reference::table::Table;
@@ -60,12 +61,17 @@ impl Search<'_> {
 
 /// Every record that derives a query, unless it takes too long.
 pub fn records(table: &[u16], query: Query) -> Option<Vec<Vec<u16>>> {
+    records_within(STEPS, table, query)
+}
+
+/// The same, unless it takes more steps than these.
+pub fn records_within(steps: usize, table: &[u16], query: Query) -> Option<Vec<Vec<u16>>> {
     let table = Table::read(table).ok()?;
     let asked = query.read().ok()?;
     let mut search = Search {
         table: &table,
         depth: usize::from(asked.depth),
-        steps: STEPS,
+        steps,
     };
     search.records(asked.goal, &[])
 }
