@@ -14,12 +14,12 @@
 use std::collections::HashMap;
 use std::rc::Rc;
 
-use crate::enumeration::middles;
 use crate::pairs::{is_in, Witness};
 use crate::patience::Patience;
 use crate::query::Asked;
 use crate::sorts::{Goal, Principal};
-use crate::table::{Members, Table};
+use crate::table::Table;
+use crate::ways::{middles, ways, Way};
 
 /// The derivations of what is asked, made one at a time as they are called for.
 pub struct Ascending<'a> {
@@ -53,21 +53,24 @@ struct Row {
     /// The first ones, ascending.
     found: Vec<Rc<Witness>>,
     /// The ways by which the others go, the next one last.
-    ways: Vec<Way>,
+    ways: Vec<Turning>,
 }
 
-/// A credential and a middle through which a goal can be proved, and how far
-/// its derivations have been gone through.
-struct Way {
-    credential: u16,
-    middle: u16,
-    premises: Vec<Goal>,
+/// A way of proving a goal, and how far its derivations have been gone through.
+struct Turning {
+    way: Way,
     /// Which derivation of each premise is the next to be taken, from 0. The
     /// last premise turns fastest.
     turn: Vec<usize>,
 }
 
-impl Way {
+impl Turning {
+    /// The way at its first turn.
+    fn new(way: Way) -> Turning {
+        let turn = vec![0; way.premises.len()];
+        Turning { way, turn }
+    }
+
     /// Whether no derivation has been taken yet.
     fn is_new(&self) -> bool {
         self.turn.iter().all(|&turn| turn == 0)
@@ -75,7 +78,7 @@ impl Way {
 
     /// The same way at its next turn: one derivation further at this premise,
     /// and at the first of each premise behind it.
-    fn turned(mut self, premise: usize) -> Way {
+    fn turned(mut self, premise: usize) -> Turning {
         self.turn[premise] += 1;
         self.turn[premise + 1..].fill(0);
         self
@@ -129,23 +132,26 @@ impl<'a> Ascending<'a> {
 
     /// Finds the derivation at a way's turn, or that a premise lacks it. Tells
     /// where the way goes on; nothing if it has been gone through.
-    fn step(&mut self, row: usize, way: Way) -> Option<Option<Way>> {
+    fn step(&mut self, row: usize, turning: Turning) -> Option<Option<Turning>> {
         self.patience.spend(1)?;
-        if way.is_new() && !self.leads_somewhere(row, &way)? {
+        if turning.is_new() && !self.leads_somewhere(row, &turning.way)? {
             return Some(None);
         }
         let mut premises = Vec::new();
-        for (index, &premise) in way.premises.iter().enumerate() {
+        for (index, &premise) in turning.way.premises.iter().enumerate() {
             let below = self.row_below(row, premise);
-            match self.look_up(below, way.turn[index])? {
+            match self.look_up(below, turning.turn[index])? {
                 Some(witness) => premises.push(witness),
-                None => return Some(index.checked_sub(1).map(|before| way.turned(before))),
+                None => return Some(index.checked_sub(1).map(|before| turning.turned(before))),
             }
         }
         let last = premises.len().checked_sub(1);
-        let witness = Witness::over(way.credential, way.middle, premises);
+        let Way {
+            credential, middle, ..
+        } = turning.way;
+        let witness = Witness::over(credential, middle, premises);
         self.rows[row].found.push(Rc::new(witness));
-        Some(last.map(|last| way.turned(last)))
+        Some(last.map(|last| turning.turned(last)))
     }
 
     /// Whether every premise of a way has a derivation; if there is patience for
@@ -188,27 +194,10 @@ impl<'a> Ascending<'a> {
         row
     }
 
-    /// Every way to a goal, the least credential and middle last.
-    fn ways(&self, goal: Goal) -> Vec<Way> {
-        let mut ways = Vec::new();
-        let numbered = (1u16..).zip(&self.table.credentials);
-        for (credential, of_table) in numbered.filter(|(number, _)| is_in(*number, self.set)) {
-            let middles = match of_table.members {
-                Members::Linked(..) => self.middles.iter().map(|m| m.number()).collect(),
-                _ => vec![0],
-            };
-            for middle in middles {
-                if let Some(premises) = self.table.premises(goal, credential, middle) {
-                    ways.push(Way {
-                        credential,
-                        middle,
-                        turn: vec![0; premises.len()],
-                        premises,
-                    });
-                }
-            }
-        }
-        ways.reverse();
-        ways
+    /// Every way to a goal from the set, the least credential and middle last.
+    fn ways(&self, goal: Goal) -> Vec<Turning> {
+        let all = ways(self.table, &self.middles, goal).into_iter().rev();
+        let from_set = all.filter(|way| is_in(way.credential, self.set));
+        from_set.map(Turning::new).collect()
     }
 }

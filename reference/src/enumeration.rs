@@ -19,7 +19,8 @@ use crate::pairs::{Found, Pair, Pairs, Spot};
 use crate::patience::Patience;
 use crate::query::Asked;
 use crate::sorts::{Goal, Principal};
-use crate::table::{Members, Table};
+use crate::table::Table;
+use crate::ways::{middles, ways, Way};
 use crate::words::Standing;
 
 /// What is asked of a goal: its derivations within some levels.
@@ -71,23 +72,6 @@ pub fn pairs(table: &Table, asked: Asked, patience: Patience) -> Option<Rc<Pairs
     enumeration.derivations(top)
 }
 
-/// The principals of kind 1 credentials, each once, ascending.
-///
-/// No other principal is in any role, so no other can be a middle: some child
-/// of a node that is not of kind 1 is about the node's own principal, hence
-/// below every node there is a kind 1 node about its principal.
-pub fn middles(table: &Table) -> Vec<Principal> {
-    let credentials = table.credentials.iter();
-    let members = credentials.filter_map(|credential| match credential.members {
-        Members::One(member) => Some(member),
-        _ => None,
-    });
-    let mut middles: Vec<Principal> = members.collect();
-    middles.sort();
-    middles.dedup();
-    middles
-}
-
 impl Enumeration<'_> {
     /// The spot of a goal where the automata stand so before its role.
     fn spot(&mut self, goal: Goal, before: &Standing) -> Spot {
@@ -122,52 +106,37 @@ impl Enumeration<'_> {
         Some(pairs)
     }
 
-    /// The same, through every credential and by way of every middle.
+    /// The same, by every way of proving the goal.
     fn ways(&mut self, place: &Place) -> Option<Pairs> {
-        let goal = self.spots[place.spot].0;
         let mut pairs = Pairs::default();
-        for (number, credential) in (1u16..).zip(&self.table.credentials) {
-            let middles = match credential.members {
-                Members::Linked(..) => self.middles.iter().map(|m| m.number()).collect(),
-                _ => vec![0],
-            };
-            for middle in middles {
-                if let Some(premises) = self.table.premises(goal, number, middle) {
-                    let through = self.through(place, (number, middle), &premises)?;
-                    for found in through.iter() {
-                        pairs.add(found.without_return(), &mut self.patience)?;
-                    }
-                }
+        for way in ways(self.table, &self.middles, self.spots[place.spot].0) {
+            for found in self.through(place, &way)?.iter() {
+                pairs.add(found.without_return(), &mut self.patience)?;
             }
         }
         Some(pairs)
     }
 
-    /// The pairs of a goal through one credential, by way of one middle. A node
-    /// without premises is of kind 1: a word ends at it. Otherwise the last
-    /// premise is asked first: in a club everybody is a friend of somebody, but
-    /// few are friends of the one who is tried as a middle.
-    fn through(
-        &mut self,
-        place: &Place,
-        (credential, middle): (u16, u16),
-        premises: &[Goal],
-    ) -> Option<Pairs> {
-        let rejecting = match premises {
+    /// The same, by one way. A node without premises is of kind 1: a word ends
+    /// at it. Otherwise the last premise is asked first: in a club everybody is
+    /// a friend of somebody, but few are friends of the one who is tried as a
+    /// middle.
+    fn through(&mut self, place: &Place, way: &Way) -> Option<Pairs> {
+        let rejecting = match way.premises[..] {
             [] => self.spots[place.spot].1.rejecting(self.table),
             _ => 0,
         };
-        let used = 1 << (credential - 1);
-        let pair = Pair { used, rejecting };
-        let mut pairs = Pairs::one(Found::node(pair, place.spot, credential, middle));
         let mut all = Vec::new();
-        for &premise in premises.iter().rev() {
+        for &premise in way.premises.iter().rev() {
             let below = self.premise(place, premise)?;
             if below.iter().next().is_none() {
                 return Some(Pairs::default());
             }
             all.push(below);
         }
+        let used = 1 << (way.credential - 1);
+        let pair = Pair { used, rejecting };
+        let mut pairs = Pairs::one(Found::node(pair, place.spot, way.credential, way.middle));
         for below in all.iter().rev() {
             pairs = pairs.with_premise(below, &mut self.patience)?;
         }

@@ -15,6 +15,7 @@
 //!   13)
 //! - [`words`]: the branches of that tree, and the automata that judge them
 //!   (refusal 14)
+//! - [`ways`]: through what a goal can be proved
 //! - [`pairs`], [`enumeration`]: what all derivations of a goal amount to
 //! - [`patience`]: how long they are looked for
 //! - [`listing`]: the minimal sets among that (refusals 9 and 10)
@@ -43,6 +44,7 @@ pub mod shop;
 pub mod sorts;
 pub mod stored;
 pub mod table;
+pub mod ways;
 pub mod words;
 pub mod writing;
 

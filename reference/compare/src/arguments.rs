@@ -7,8 +7,7 @@ const COUNT: u64 = 200_000;
 /// The number of made-up records if none is given.
 const RECORDS: u64 = 100_000;
 /// The number of made-up listings if none is given.
-const LISTS: u64 = 105_000;
-
+const LISTS: u64 = 130_000;
 /// The number of made-up writings if none is given.
 const WRITINGS: u64 = 40_000;
 

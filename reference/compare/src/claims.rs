@@ -1,6 +1,7 @@
 //! The claims on which the verdicts of the two sides are compared.
 
-use reference::generate::claims::{Claim, Grown};
+use reference::generate::claims::{self, Claim, Grown};
+use reference::generate::clubs;
 use reference::generate::constraints::{self, Constraint};
 use reference::generate::growth::{Policy, Wish};
 use reference::generate::spoil::spoil;
@@ -57,7 +58,7 @@ pub fn fixed(judge: &mut impl FnMut(Submitted)) {
 }
 
 /// The claims that are spoiled number by number, and how deep they go: those
-/// of the shop, and small ones.
+/// of the shop, that of a club, and small ones.
 fn bases(random: &mut Random) -> Vec<(Claim, u16)> {
     let claim = |table: &[u16], record: &[u16]| Claim {
         table: table.to_vec(),
@@ -69,6 +70,13 @@ fn bases(random: &mut Random) -> Vec<(Claim, u16)> {
         bases.push((claim(table, &shop::R), 2));
         bases.push((claim(table, &[4, 0]), 1));
     }
+    let line = clubs::line(3, 1);
+    let by_all = [1, 3, 1, 2, 2, 0, 3, 0, 4, 0];
+    let club = Claim {
+        query: line.query,
+        ..claim(&line.records.numbers(), &by_all)
+    };
+    bases.push((club, 3));
     while bases.len() < BASES {
         let policy = Policy::new(policies::records(random));
         if let Some(grown) = Grown::new(random, &policy) {
@@ -139,7 +147,7 @@ pub fn made_up(random: &mut Random, count: u64, judge: &mut impl FnMut(Submitted
     let wrongs = Wrong::all();
     let mut made = 0;
     while made < count {
-        let policy = Policy::new(policies::records(random));
+        let policy = Policy::new(claims::table(random));
         for _ in 0..FROM_ONE_TABLE.min(count - made) {
             let Some(grown) = Grown::new(random, &policy) else {
                 continue;

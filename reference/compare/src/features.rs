@@ -9,6 +9,7 @@ use reference::query::DEEPEST;
 use reference::table::{Members, Table};
 use reference::words::{comply, every_word};
 
+use crate::branches::{Again, OFTEN};
 use crate::dead;
 use crate::owners::{by_owner, matching_none};
 
@@ -31,6 +32,14 @@ pub enum Feature {
     DeadAutomaton,
     /// A credential of this kind is used.
     Kind(u16),
+    /// A role stands twice on a branch: before, the record was refused with 13.
+    RoleTwice,
+    /// So it does, and there is an automaton.
+    RoleTwiceAndAutomaton,
+    /// A role stands on a branch so often.
+    RoleOften,
+    /// A principal stands twice on a branch, and a role does.
+    PrincipalAndRole,
     /// The deepest node is as deep as the query allows.
     AtTheLimit,
     /// There are sixteen levels.
@@ -47,6 +56,8 @@ impl Feature {
         features.extend([Feature::ByOwner, Feature::OwnersRole]);
         features.push(Feature::DeadAutomaton);
         features.extend([1, 2, 3, 4].map(Feature::Kind));
+        features.extend([Feature::RoleTwice, Feature::RoleTwiceAndAutomaton]);
+        features.extend([Feature::RoleOften, Feature::PrincipalAndRole]);
         features.extend([Feature::AtTheLimit, Feature::SixteenLevels]);
         features.push(Feature::ManyNodes);
         features
@@ -55,7 +66,7 @@ impl Feature {
     /// How many accepted records must have it at the least.
     pub fn least(self) -> u64 {
         match self {
-            Feature::Automaton => 5_000,
+            Feature::Automaton | Feature::RoleTwice => 5_000,
             _ => 1,
         }
     }
@@ -68,6 +79,7 @@ impl Feature {
         let derivation = derivation.expect("an accepted record");
         let uses = Uses::of(&table, derivation.used_set());
         let shape = Shape::of(&derivation);
+        let again = Again::of(&derivation);
         let uses_owner = uses.any_of(by_owner(&table));
         let has = |feature: Feature| match feature {
             Feature::Automaton => !uses.automata.is_empty(),
@@ -81,6 +93,10 @@ impl Feature {
             // The record is accepted, so no used automaton is dead.
             Feature::DeadAutomaton => dead::on_words(&table, &derivation) != 0,
             Feature::Kind(kind) => uses.kinds.contains(&kind),
+            Feature::RoleTwice => again.role > 1,
+            Feature::RoleTwiceAndAutomaton => again.role > 1 && !uses.automata.is_empty(),
+            Feature::RoleOften => again.role >= OFTEN,
+            Feature::PrincipalAndRole => again.role > 1 && again.principal > 1,
             Feature::AtTheLimit => shape.levels == usize::from(asked.depth),
             Feature::SixteenLevels => shape.levels == usize::from(DEEPEST),
             Feature::ManyNodes => claim.record.len() > NODE * usize::from(u16::MAX),
@@ -167,6 +183,10 @@ impl fmt::Display for Feature {
             Feature::OwnersRole => "label 4 matches, and is needed".into(),
             Feature::DeadAutomaton => "an unused automaton is dead".into(),
             Feature::Kind(kind) => format!("uses a credential of kind {kind}"),
+            Feature::RoleTwice => "a role twice on a branch".into(),
+            Feature::RoleTwiceAndAutomaton => "so, and uses an automaton".into(),
+            Feature::RoleOften => format!("a role {OFTEN} times on a branch"),
+            Feature::PrincipalAndRole => "a role and a principal twice on branches".into(),
             Feature::AtTheLimit => "as deep as the query allows".into(),
             Feature::SixteenLevels => "sixteen levels".into(),
             Feature::ManyNodes => "more than 65,535 nodes".into(),

@@ -3,7 +3,7 @@
 use reference::generate::listings::{self, Listing, Source};
 use reference::generate::shapes::{self, Place, Way};
 use reference::generate::wallets::{self, Plan, Wallet};
-use reference::generate::{damage, queries, wide};
+use reference::generate::{clubs, damage, queries, wide};
 use reference::query::Query;
 use reference::random::Random;
 use reference::records::Records;
@@ -97,6 +97,9 @@ pub fn fixed_shapes(most_rungs: u16, judge: &mut impl FnMut(Listing)) {
     ] {
         wallets.extend(Way::ALL.map(|way| shapes::ways(each, way)));
     }
+    wallets.extend((1..=17).map(|people| clubs::line(people, 1)));
+    wallets.extend((2..=10).map(|people| clubs::line(people, people)));
+    wallets.extend((2..=4).map(clubs::clique));
     for wallet in wallets {
         judge(listing(&wallet.records.numbers(), wallet.query));
     }

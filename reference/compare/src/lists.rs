@@ -10,6 +10,7 @@ use reference::random::Random;
 use reference::table::Table;
 use reference::Refusal;
 
+use crate::before::Before;
 use crate::buffers::{Row, Size};
 use crate::marks::Mark;
 use crate::owners::Automata;
@@ -59,6 +60,7 @@ pub struct Lists {
     marks: BTreeMap<Mark, u64>,
     automata: Automata,
     word: Word,
+    before: Before,
 }
 
 impl Lists {
@@ -78,6 +80,7 @@ impl Lists {
             marks: BTreeMap::new(),
             automata: Automata::default(),
             word: Word::default(),
+            before: Before::default(),
         }
     }
 
@@ -99,6 +102,7 @@ impl Lists {
         }
         if let Ok(sets) = expected {
             self.word.ask(random, listing, &sets);
+            self.before.ask(listing, &sets);
             if self.listings.is_multiple_of(MARKED) || listing.source == Source::Fixed {
                 for mark in Mark::of(listing, &sets) {
                     *self.marks.entry(mark).or_default() += 1;
@@ -148,6 +152,10 @@ impl Lists {
             self.passed_over
         );
         println!("records too long to write out {}", self.word.too_long);
+        println!(
+            "too many derivations under the rule before {}",
+            self.before.unknown()
+        );
         let tests = self.lines();
         let mut too_few = 0;
         for (what, count, least) in &tests {
@@ -156,11 +164,12 @@ impl Lists {
         println!("counts that are too low {too_few} of {}", tests.len());
         println!("differences {}", self.differed);
         println!("differences with the verifier's word {}", self.word.failed);
-        let word = &self.word;
+        println!("sets before that include none {}", self.before.failed);
+        let (word, before) = (&self.word, &self.before);
         let words = word.proved + word.same + word.greater + word.rejected;
         Outcome {
-            passed: self.agreed + words + tests.len() as u64 - too_few,
-            failed: self.differed + word.failed + too_few,
+            passed: self.agreed + words + before.passed() + tests.len() as u64 - too_few,
+            failed: self.differed + word.failed + before.failed + too_few,
         }
     }
 
@@ -200,6 +209,7 @@ impl Lists {
             ("grown record, not accepted", self.word.rejected),
         ];
         lines.extend(word.map(|(what, count)| (what.into(), Some(count), 1)));
+        lines.extend(self.before.lines());
         lines
     }
 }
@@ -223,6 +233,7 @@ impl Add for Lists {
             marks: together(self.marks, other.marks),
             automata: self.automata + other.automata,
             word: self.word + other.word,
+            before: self.before + other.before,
         }
     }
 }

@@ -6,7 +6,9 @@
 //! Every table is given to the table call, and with a query to the query call.
 //! Every record, and several spoiled forms of it, is given to the verifying
 //! call. Every listing is given to the listing call with a buffer, and the
-//! verifier is asked about what it lists. Sets of further listings, and others,
+//! verifier is asked about what it lists; where roles lead back to themselves,
+//! the list is held against that under the rule before, which forbade a role
+//! twice on a branch. Sets of further listings, and others,
 //! are given to the writing call with a buffer, and the verifier is asked about
 //! what it writes. Tables and records, two strands of listings, and writings are
 //! compared at the same time. The last line printed is `N passed, M failed`; the
@@ -15,6 +17,8 @@
 #![forbid(unsafe_code)]
 
 mod arguments;
+mod before;
+mod branches;
 mod buffers;
 mod cases;
 mod claims;

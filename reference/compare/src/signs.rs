@@ -1,14 +1,16 @@
-//! What refused records are like, as far as automata go.
+//! What refused records are like, as far as automata and branches go.
 
 use std::fmt;
 
 use reference::derivation::Derivation;
 use reference::generate::claims::Claim;
 use reference::query::Asked;
+use reference::sorts::Goal;
 use reference::table::Table;
 use reference::words::comply;
 use reference::Refusal;
 
+use crate::branches::branch;
 use crate::dead::{self, Begun};
 use crate::features::Uses;
 use crate::owners::{by_owner, matching_every};
@@ -30,6 +32,18 @@ pub enum Sign {
     /// It is refused with this number, 11 to 13, at a node, and before that node
     /// there is one where an automaton is dead that is used by then.
     DeadBefore(u32),
+    /// It is refused with 13 for its level, and the pair is not on the branch.
+    Level,
+    /// It is refused with 13 for its level and for its pair.
+    LevelAndPair,
+    /// It is refused with 13 for its pair, which is that of the node above.
+    PairRightAbove,
+    /// It is refused with 13 for its pair, which is only farther above.
+    PairFarAbove,
+    /// So it is, and the pair is not that of the query.
+    PairWithin,
+    /// It is refused with 13 for its pair, and a role comes again before that.
+    RoleBefore,
 }
 
 impl Sign {
@@ -37,6 +51,8 @@ impl Sign {
     pub fn all() -> Vec<Sign> {
         let mut signs = vec![Sign::ByOwner, Sign::OtherOwner, Sign::Dead, Sign::Alive];
         signs.extend([11, 12, 13].map(Sign::DeadBefore));
+        signs.extend([Sign::Level, Sign::LevelAndPair, Sign::PairRightAbove]);
+        signs.extend([Sign::PairFarAbove, Sign::PairWithin, Sign::RoleBefore]);
         signs
     }
 
@@ -47,14 +63,44 @@ impl Sign {
         }
         let table = Table::read(&claim.table).expect("an accepted table");
         let asked = claim.query.read().expect("a valid query");
-        match refusal.number {
-            14 => rejected(&table, asked, claim, refusal),
-            number if is_dead_before(&table, asked, claim, refusal) => {
-                vec![Sign::DeadBefore(number)]
-            }
-            _ => Vec::new(),
+        if refusal.number == 14 {
+            return rejected(&table, asked, claim, refusal);
         }
+        let mut signs = match is_dead_before(&table, asked, claim, refusal) {
+            true => vec![Sign::DeadBefore(refusal.number)],
+            false => vec![],
+        };
+        if refusal.number == 13 {
+            let node = refusal.position as usize;
+            let branch = branch(&table, asked, &claim.record, node);
+            signs.extend(on_branch(&branch, usize::from(asked.depth)));
+        }
+        signs
     }
+}
+
+/// The signs of a node that is refused with 13, by its branch.
+fn on_branch(branch: &[Goal], depth: usize) -> Vec<Sign> {
+    let (goal, above) = branch.split_last().expect("the node itself");
+    let times = above.iter().filter(|other| *other == goal).count();
+    if branch.len() > depth {
+        return match times {
+            0 => vec![Sign::Level],
+            _ => vec![Sign::LevelAndPair],
+        };
+    }
+    let mut signs = match above.last() == Some(goal) {
+        true => vec![Sign::PairRightAbove],
+        false => vec![Sign::PairFarAbove],
+    };
+    if above.first() != Some(goal) {
+        signs.push(Sign::PairWithin);
+    }
+    let comes_again = |index: usize| above[..index].iter().any(|g| g.role == above[index].role);
+    if (0..above.len()).any(comes_again) {
+        signs.push(Sign::RoleBefore);
+    }
+    signs
 }
 
 /// The signs of a claim of which an automaton rejects a word.
@@ -93,6 +139,12 @@ impl fmt::Display for Sign {
             Sign::Dead => "refused 14 by a dead automaton".into(),
             Sign::Alive => "refused 14 by one that is not dead".into(),
             Sign::DeadBefore(number) => format!("refused {number} after a dead automaton"),
+            Sign::Level => "refused 13 by the level".into(),
+            Sign::LevelAndPair => "refused 13 by the level and the pair".into(),
+            Sign::PairRightAbove => "refused 13 by the pair right above".into(),
+            Sign::PairFarAbove => "refused 13 by a pair farther above".into(),
+            Sign::PairWithin => "refused 13 by a pair below the query's".into(),
+            Sign::RoleBefore => "refused 13 by the pair, a role twice before".into(),
         };
         out.pad(&words)
     }
@@ -101,9 +153,10 @@ impl fmt::Display for Sign {
 #[cfg(test)]
 mod tests {
     use reference::generate::claims::Claim;
+    use reference::generate::clubs;
     use reference::records::{EdgeRecord, Records};
     use reference::shop::{Q, R, T};
-    use reference::verify;
+    use reference::{verify, Query};
 
     use super::Sign;
 
@@ -149,5 +202,38 @@ mod tests {
         assert_eq!(signs(&[SHOP_S], &R[..4]), []);
         let longer = [&R[..], &[0]].concat();
         assert_eq!(signs(&[SHOP_S], &longer), [Sign::DeadBefore(11)]);
+    }
+
+    /// The signs of a record for a club with the line 2, 3, 4 of friends, of whom
+    /// the last is asked about, and within so many levels.
+    fn signs_in_club(depth: u16, record: &[u16]) -> Vec<Sign> {
+        let club = clubs::line(3, 1);
+        let claim = Claim {
+            table: club.records.numbers(),
+            query: Query {
+                depth,
+                ..club.query
+            },
+            record: record.to_vec(),
+        };
+        let verdict = verify(&claim.table, claim.query, &claim.record);
+        Sign::of(&claim, verdict.expect_err("a refusal"))
+    }
+
+    #[test]
+    fn refusal_13_tells_by_what() {
+        // 4 by way of 3, and 3 by way of 2.
+        assert_eq!(signs_in_club(2, &[1, 3, 1, 2, 2, 0]), [Sign::Level]);
+        assert_eq!(signs_in_club(16, &[1, 4, 1, 3]), [Sign::PairRightAbove]);
+        // 4, 3, 4: the role comes again before the pair does.
+        let back = [1, 3, 1, 4, 1, 3];
+        assert_eq!(signs_in_club(2, &back), [Sign::LevelAndPair]);
+        let far = [Sign::PairFarAbove, Sign::RoleBefore];
+        assert_eq!(signs_in_club(3, &back), far);
+        // 4, 3, 3 and 4, 3, 2, 3.
+        let within = [Sign::PairRightAbove, Sign::PairWithin, Sign::RoleBefore];
+        assert_eq!(signs_in_club(16, &[1, 3, 1, 3, 1, 2]), within);
+        let within = [Sign::PairFarAbove, Sign::PairWithin, Sign::RoleBefore];
+        assert_eq!(signs_in_club(16, &[1, 3, 1, 2, 1, 3, 1, 2]), within);
     }
 }

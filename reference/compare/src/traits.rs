@@ -5,15 +5,16 @@ use std::rc::Rc;
 
 use reference::ascending::Ascending;
 use reference::derivation::{Derivation, NODE};
-use reference::enumeration::middles;
 use reference::generate::listings::Listing;
 use reference::pairs::{is_in, Witness};
 use reference::patience::Patience;
 use reference::query::{Asked, DEEPEST};
 use reference::sorts::Goal;
 use reference::table::{Members, Table};
+use reference::ways::middles;
 use reference::writing::First;
 
+use crate::branches::{Again, OFTEN};
 use crate::dead;
 use crate::features::Uses;
 use crate::owners::by_owner;
@@ -42,6 +43,12 @@ pub enum Trait {
     Long,
     /// A node has the same derivation below it twice.
     Repeated,
+    /// A role stands twice on a branch.
+    RoleTwice,
+    /// So it does, and a used credential has an automaton.
+    RoleTwiceAndAutomaton,
+    /// A role stands on a branch so often.
+    RoleOften,
     /// A node's middle is not the least who is in the linking role by the set.
     LesserMiddle,
     /// A node's credential is not the least of the set that defines its role.
@@ -62,6 +69,11 @@ impl Trait {
         traits.extend([Trait::Automaton, Trait::ByOwner, Trait::DeadAutomaton]);
         traits.extend([Trait::Deep, Trait::SixteenLevels]);
         traits.extend([Trait::Long, Trait::Repeated]);
+        traits.extend([
+            Trait::RoleTwice,
+            Trait::RoleTwiceAndAutomaton,
+            Trait::RoleOften,
+        ]);
         traits.extend([Trait::LesserMiddle, Trait::LesserCredential]);
         traits.extend([Trait::OtherMiddle, Trait::OtherCredential]);
         traits.push(Trait::OtherByOwner);
@@ -76,6 +88,7 @@ impl Trait {
         let derivation = Derivation::read(&table, asked, &record);
         let derivation = derivation.expect("an accepted record");
         let uses = Uses::of(&table, set);
+        let again = Again::of(&derivation);
         let view = View {
             table: &table,
             asked,
@@ -93,6 +106,9 @@ impl Trait {
             Trait::SixteenLevels => levels(&derivation) == usize::from(DEEPEST),
             Trait::Long => record.len() > usize::from(u16::MAX),
             Trait::Repeated => any_node(&derivation, &is_repeating),
+            Trait::RoleTwice => again.role > 1,
+            Trait::RoleTwiceAndAutomaton => again.role > 1 && !uses.automata.is_empty(),
+            Trait::RoleOften => again.role >= OFTEN,
             Trait::LesserMiddle => any_node(&derivation, &|node| view.has_lesser_middle(node)),
             Trait::LesserCredential => {
                 any_node(&derivation, &|node| view.has_lesser_credential(node))
@@ -186,6 +202,9 @@ impl fmt::Display for Trait {
             Trait::SixteenLevels => "sixteen levels".into(),
             Trait::Long => "more than 65,535 numbers".into(),
             Trait::Repeated => "a sub-record twice".into(),
+            Trait::RoleTwice => "a role twice on a branch".into(),
+            Trait::RoleTwiceAndAutomaton => "so, and under a constraint".into(),
+            Trait::RoleOften => format!("a role {OFTEN} times on a branch"),
             Trait::LesserMiddle => "a lesser middle will not do".into(),
             Trait::LesserCredential => "a lesser credential will not do".into(),
             Trait::OtherMiddle => "a lesser middle derives, but breaks".into(),
