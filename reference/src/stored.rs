@@ -3,7 +3,8 @@
 //! They are for what neither a theorem nor the comparison shows: that the
 //! programs which the kit's interpreter and its compiler make of the proved code
 //! give the right answers. So they are few and small: all rows of the shop
-//! example, then every refusal, kind, label and size of buffer. Each list is
+//! example, then every refusal, kind, label and size of buffer, and a club, whose
+//! role comes again on a branch. Each list is
 //! made with little room for cuts too, which no call of the bindings does, and
 //! after it records are written for the first sets of the list and for others.
 //!
@@ -150,10 +151,44 @@ fn owned_by(owners: &[u16]) -> Records {
     wallet
 }
 
+/// A club whose friends' friends are its friends. Principal 6 is one of them by
+/// way of 5, who is a friend of the club's, and by way of 4 too.
+fn club() -> Records {
+    Records {
+        credentials: vec![
+            [1, 2, 3, 2, 2, 0], // 1: whoever is in M.2, for some M in 1.2, is in 1.2
+            [1, 2, 1, 4, 0, 0], // 2: principal 4 is in 1.2
+            [4, 2, 1, 5, 0, 0], // 3: principal 5 is in 4.2
+            [1, 2, 1, 5, 0, 0], // 4: principal 5 is in 1.2
+            [5, 2, 1, 6, 0, 0], // 5: principal 6 is in 5.2
+        ],
+        cells: vec![],
+        automata: vec![],
+        edges: vec![],
+    }
+}
+
+/// The club with a constraint on friends of friends: words of two roles at most.
+fn limited_club() -> Records {
+    let mut club = club();
+    club.credentials[0][5] = 1;
+    club.automata.push([1, 1 + 2 + 4]);
+    club.edges.extend([[1, 0, 2, 0, 0, 1], [1, 1, 2, 0, 0, 2]]);
+    club
+}
+
+/// Principal 6 in 1.2, within three levels.
+const FRIEND: Query = Query {
+    principal: 6,
+    owner: 1,
+    name: 2,
+    depth: 3,
+};
+
 /// Lists of the wallet, of the wallet without its second constraint, which has
 /// two sets, and of a chain of four roles that two credentials define each; then
 /// lists with label 4: of one set, of both, and of none, since the automaton is
-/// dead at the goal.
+/// dead at the goal; then lists of the club, of two sets and of one.
 fn lists() -> Vec<Case> {
     let wallet = wallet().numbers();
     let free = changed(|wallet| wallet.credentials[5][5] = 0);
@@ -180,6 +215,8 @@ fn lists() -> Vec<Case> {
         list(&owned_by(&[1, 2]).numbers(), ASKED, 2),
         list(&owned_by(&[1, 2, 3]).numbers(), ASKED, 2),
         list(&owned_by(&[1, 2]).numbers(), OWNED_BY_3, 1),
+        list(&club().numbers(), FRIEND, 2),
+        list(&limited_club().numbers(), FRIEND, 2),
     ]
 }
 
@@ -218,6 +255,7 @@ fn verdicts() -> Vec<Case> {
         ),
     ];
     cases.extend(verdicts_by_owner());
+    cases.extend(verdicts_of_the_club());
     cases
 }
 
@@ -241,5 +279,21 @@ fn verdicts_by_owner() -> Vec<Case> {
         verify(&dead, ASKED, &by_7[..6]),
         verify(&dead, ASKED, &[1, 0, 2, 0, 3, 0, 9, 0]),
         verify(&dead, two_levels, by_7),
+    ]
+}
+
+/// Records for the club: one with its role three times on a branch, which is
+/// accepted, rejected by the constraint, and too deep; then the pair of the query
+/// two levels below itself, and right below.
+fn verdicts_of_the_club() -> Vec<Case> {
+    let club = club().numbers();
+    let by_4 = [1, 5, 1, 4, 2, 0, 3, 0, 5, 0];
+    let two_levels = Query { depth: 2, ..FRIEND };
+    vec![
+        verify(&club, FRIEND, &by_4),
+        verify(&limited_club().numbers(), FRIEND, &by_4),
+        verify(&club, two_levels, &by_4),
+        verify(&club, FRIEND, &[1, 5, 1, 6, 1, 5, 4, 0]),
+        verify(&club, FRIEND, &[1, 6, 1, 5, 4, 0]),
     ]
 }

@@ -148,6 +148,25 @@ fn label_4_is_judged_as_it_should_be() {
     assert_eq!(told[3..], verdicts);
 }
 
+/// The answers to the cases of the club, in their order.
+#[test]
+fn a_role_comes_again_on_a_branch() {
+    let mut told = Vec::new();
+    for (case, lines) in cases().iter().zip(printed()) {
+        if case.query.principal == 6 {
+            told.push(lines);
+        }
+    }
+    let lists: Vec<&str> = told[..2].iter().map(|lines| lines[0]).collect();
+    assert_eq!(lists, ["0 2 23 25", &format!("0 1 25 {UNTOUCHED}")]);
+    let written = format!("0 10 1 5 1 4 2 0 3 0 5 0{}", " 43690".repeat(2));
+    assert_eq!(told[0][1], written);
+    let written = format!("0 6 1 5 4 0 5 0{}", " 43690".repeat(6));
+    assert_eq!([told[0][3], told[1][1]], [&written, &written]);
+    let verdicts = ["0 23", "14 1", "13 3", "13 3", "13 2"].map(|line| vec![line]);
+    assert_eq!(told[2..], verdicts);
+}
+
 #[test]
 fn every_kind_and_label_is_among_them() {
     let tables = cases().into_iter().map(|case| case.table);
