@@ -3,7 +3,9 @@
 
 mod by_hand_tables;
 
-use by_hand_tables::{from, in_every, kept, linked, member, on_any_of, on_every, plain, table};
+use by_hand_tables::{
+    chain, from, in_every, kept, linked, member, on, on_any_of, on_every, plain, table,
+};
 use reference::records::{CredentialRecord, EdgeRecord};
 use reference::{list, verify, write, Query, Refusal};
 
@@ -282,6 +284,41 @@ fn the_first_record_takes_the_least_middle_that_does() {
     assert_eq!(verify(&gate, query, &by_bob), Ok(63));
     assert!(record < by_bob);
     // With three levels Ann's friends' friends are too deep there, and so is Bob.
+    assert_eq!(sets(&gate, Query { depth: 3, ..query }), []);
+}
+
+#[test]
+fn a_membership_may_be_needless_once_a_role_comes_again() {
+    // Whoever is in A and in E is in G. Both are for the friends (9) of whoever is
+    // in B, and B for the friends of whoever is in A. A word with E may not end
+    // with B, so that 3 has to be in B by way of 2 there.
+    let [g, a, e, b] = [1, 2, 3, 4].map(|name| [1, name]);
+    let credentials = [
+        kept(in_every(g, 1)), // 1
+        linked(a, 4, 9),      // 2
+        linked(e, 4, 9),      // 3
+        linked(b, 2, 9),      // 4
+        member(a, 2),         // 5
+        member(b, 3),         // 6
+        member([2, 9], 3),    // 7
+        member([3, 9], 4),    // 8
+    ];
+    let under_a = [on(1, a, 2), on_every(2, 2)];
+    let under_e = [on(1, e, 3), on_every(3, 3), on(3, a, 4)];
+    let ends = [on_any_of(3, 2, 4), on_any_of(3, 3, 4)];
+    let edges = [&[on_every(0, 1)], &under_a[..], &under_e, &ends].concat();
+    let gate = table(&credentials, &chain(&[a, e]), 4 + 16, &edges);
+    let query = Query::from_numbers([4, 1, 1, 16]);
+    // 6 is needed under A only if A may not come again: 4 in A, 3 in B, 2 in A.
+    assert_eq!(sets(&gate, query), [255 - 32]);
+    let [by_2, by_6] = [&[4, 2, 5, 0, 7, 0][..], &[6, 0]];
+    let record = |under_a: &[u16], under_e: &[u16]| {
+        [&[1, 0, 2, 3], under_a, &[8, 0, 3, 3], under_e, &[8, 0]].concat()
+    };
+    assert_eq!(first(&gate, query, 223), record(by_2, by_2));
+    assert_eq!(verify(&gate, query, &record(by_6, by_2)), Ok(255));
+    assert_eq!(verify(&gate, query, &record(by_6, by_6)), refused(14, 1));
+    // With three levels there is no room for the way by 2 under E.
     assert_eq!(sets(&gate, Query { depth: 3, ..query }), []);
 }
 

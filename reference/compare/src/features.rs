@@ -38,8 +38,8 @@ pub enum Feature {
     RoleTwiceAndAutomaton,
     /// A role stands on a branch so often.
     RoleOften,
-    /// A principal stands twice on a branch, and a role does.
-    PrincipalAndRole,
+    /// A principal stands twice on a branch, in different roles.
+    PrincipalTwice,
     /// The deepest node is as deep as the query allows.
     AtTheLimit,
     /// There are sixteen levels.
@@ -57,7 +57,7 @@ impl Feature {
         features.push(Feature::DeadAutomaton);
         features.extend([1, 2, 3, 4].map(Feature::Kind));
         features.extend([Feature::RoleTwice, Feature::RoleTwiceAndAutomaton]);
-        features.extend([Feature::RoleOften, Feature::PrincipalAndRole]);
+        features.extend([Feature::RoleOften, Feature::PrincipalTwice]);
         features.extend([Feature::AtTheLimit, Feature::SixteenLevels]);
         features.push(Feature::ManyNodes);
         features
@@ -96,7 +96,7 @@ impl Feature {
             Feature::RoleTwice => again.role > 1,
             Feature::RoleTwiceAndAutomaton => again.role > 1 && !uses.automata.is_empty(),
             Feature::RoleOften => again.role >= OFTEN,
-            Feature::PrincipalAndRole => again.role > 1 && again.principal > 1,
+            Feature::PrincipalTwice => again.principal > 1,
             Feature::AtTheLimit => shape.levels == usize::from(asked.depth),
             Feature::SixteenLevels => shape.levels == usize::from(DEEPEST),
             Feature::ManyNodes => claim.record.len() > NODE * usize::from(u16::MAX),
@@ -186,7 +186,7 @@ impl fmt::Display for Feature {
             Feature::RoleTwice => "a role twice on a branch".into(),
             Feature::RoleTwiceAndAutomaton => "so, and uses an automaton".into(),
             Feature::RoleOften => format!("a role {OFTEN} times on a branch"),
-            Feature::PrincipalAndRole => "a role and a principal twice on branches".into(),
+            Feature::PrincipalTwice => "a principal twice on a branch".into(),
             Feature::AtTheLimit => "as deep as the query allows".into(),
             Feature::SixteenLevels => "sixteen levels".into(),
             Feature::ManyNodes => "more than 65,535 nodes".into(),
