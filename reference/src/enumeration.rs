@@ -8,9 +8,11 @@
 //! the goals above it. There are very many ways to come to a goal, and most of
 //! them make no difference. So it is asked first what a goal amounts to whatever
 //! stands above it. Only if a best derivation comes back to a goal above is it
-//! asked again, without that goal; unless it comes back with every automaton
-//! standing where it stood. Then what lies between the two can be left out: the
-//! words that remain are judged as before, and nothing is used that was not.
+//! asked again, without that goal: if none does, there are no better ones with
+//! less to choose from. Nor is it asked again where the derivation comes back
+//! with every automaton standing where it stood. Then what lies between the two
+//! is left out: the words that remain are judged as before, and nothing is used
+//! that was not.
 
 use std::collections::HashMap;
 use std::rc::Rc;
