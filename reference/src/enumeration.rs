@@ -41,6 +41,8 @@ struct Enumeration<'a> {
     table: &'a Table,
     /// The middles that are tried.
     middles: Vec<Principal>,
+    /// The ways of proving the goals that have been come to.
+    ways: HashMap<Goal, Rc<Vec<Way>>>,
     /// What each spot is: a goal, and where the automata stand once they have
     /// read its role.
     spots: Vec<(Goal, Standing)>,
@@ -60,6 +62,7 @@ pub fn pairs(table: &Table, asked: Asked, patience: Patience) -> Option<Rc<Pairs
     let mut enumeration = Enumeration {
         table,
         middles: middles(table),
+        ways: HashMap::new(),
         spots: Vec::new(),
         numbers: HashMap::new(),
         next: HashMap::new(),
@@ -110,9 +113,12 @@ impl Enumeration<'_> {
 
     /// The same, by every way of proving the goal.
     fn ways(&mut self, place: &Place) -> Option<Pairs> {
+        let goal = self.spots[place.spot].0;
+        let all = || Rc::new(ways(self.table, &self.middles, goal));
+        let all = Rc::clone(self.ways.entry(goal).or_insert_with(all));
         let mut pairs = Pairs::default();
-        for way in ways(self.table, &self.middles, self.spots[place.spot].0) {
-            for found in self.through(place, &way)?.iter() {
+        for way in all.iter() {
+            for found in self.through(place, way)?.iter() {
                 pairs.add(found.without_return(), &mut self.patience)?;
             }
         }
