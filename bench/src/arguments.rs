@@ -6,24 +6,31 @@ use std::str::FromStr;
 use std::time::Duration;
 
 use crate::climb::{Call, Climb};
+use crate::single;
 
 /// How the program is called.
 pub const USAGE: &str = "\
 usage: bench
        bench writing
        bench dead [--before FILE --after FILE]...
+       bench clubs [--limit SECONDS]
        bench peers [--limit SECONDS] [--plot FILE]
        bench page [--limit SECONDS] [--plot FILE] [--before FILE --after FILE]...
        bench climb [--writing] [--steps NUMBER] [--seed NUMBER] [--limit SECONDS]
+       bench single library | reference | write SET
 
 Without a word the calls of the library and of the reference are timed, then the
 writing of records, and the lines are in columns. With `writing` the latter is
 timed alone, and the tables are Markdown. With `dead` tables whose constraint
 dies early are timed, beside twins whose constraint does not, and the tables are
-Markdown. With `peers` several ways of listing are timed on the same wallets, and
+Markdown. With `clubs` the lists and records of clubs are timed, whose friends are
+the friends of their friends, and the tables are Markdown. With `peers` several ways of listing are timed on the same wallets, and
 the tables are Markdown. With `page` all this is done, all tables are Markdown,
 and a table about the machine comes first. With `climb` tables on which the
-library's list takes long are looked for, and the slowest ones printed.
+library's list takes long are looked for, and the slowest ones printed. With
+`single` one call is made for the numbers of a query and a table on standard input,
+and the numbers that it gives are printed: `clubs` starts it where a call may not
+end in time.
 
 --limit SECONDS   how long a call may take for one wallet, 1 if not given
 --plot FILE       where a plot of the ways is written, as SVG
@@ -42,6 +49,7 @@ const SEED: u64 = 2015;
 const PEERS: &[&str] = &["--limit", "--plot"];
 const PAGE: &[&str] = &["--limit", "--plot", "--before", "--after"];
 const DEAD: &[&str] = &["--before", "--after"];
+const CLUBS: &[&str] = &["--limit"];
 
 /// The limit if none is given.
 const LIMIT: Duration = Duration::from_secs(1);
@@ -59,12 +67,16 @@ pub enum Task {
     Writing,
     /// Time tables whose constraint dies early, by two builds too if they are given.
     Dead(Vec<[PathBuf; 2]>),
+    /// Time clubs. A call may take so long for one of them.
+    Clubs(Duration),
     /// Time several ways of listing.
     Peers(Options),
     /// All of this, as tables for the page.
     Page(Options),
     /// Look for tables on which a call takes long.
     Climb(Climb),
+    /// Make one call.
+    Single(single::Call),
 }
 
 /// How the page's tables are made, or those of them about the ways of listing.
@@ -88,9 +100,11 @@ pub fn task(arguments: impl IntoIterator<Item = OsString>) -> Result<Task, Strin
     match first.to_str() {
         Some("writing") => alone(arguments, Task::Writing),
         Some("dead") => Ok(Task::Dead(options(arguments, DEAD)?.builds)),
+        Some("clubs") => Ok(Task::Clubs(options(arguments, CLUBS)?.limit)),
         Some("peers") => Ok(Task::Peers(options(arguments, PEERS)?)),
         Some("page") => Ok(Task::Page(options(arguments, PAGE)?)),
         Some("climb") => Ok(Task::Climb(climb(arguments)?)),
+        Some("single") => single(arguments),
         Some("--help") => Ok(Task::Help),
         _ => Err(unknown(&first)),
     }
@@ -100,6 +114,19 @@ pub fn task(arguments: impl IntoIterator<Item = OsString>) -> Result<Task, Strin
 fn alone(mut rest: impl Iterator<Item = OsString>, task: Task) -> Result<Task, String> {
     rest.next()
         .map_or(Ok(task), |argument| Err(unknown(&argument)))
+}
+
+/// The one call that the rest of the arguments name.
+fn single(mut arguments: impl Iterator<Item = OsString>) -> Result<Task, String> {
+    let mut word = |before: &str| arguments.next().ok_or(missing(&before.into()));
+    let first = word("single")?;
+    let call = match first.to_str() {
+        Some("library") => single::Call::Library,
+        Some("reference") => single::Call::Reference,
+        Some("write") => single::Call::Write(number(&word("write")?)?),
+        _ => return Err(unknown(&first)),
+    };
+    alone(arguments, Task::Single(call))
 }
 
 /// The options that the rest of the arguments give, no others than these. Each is
@@ -198,7 +225,7 @@ fn missing(argument: &OsString) -> String {
 
 #[cfg(test)]
 mod tests {
-    use super::{task, Call, Climb, Options, Task};
+    use super::{single, task, Call, Climb, Options, Task};
     use std::ffi::OsString;
     use std::path::PathBuf;
     use std::time::Duration;
@@ -244,6 +271,11 @@ mod tests {
                     ["b", "--after"].map(PathBuf::from),
                 ]),
             ),
+            ("clubs", Task::Clubs(Duration::from_secs(1))),
+            ("clubs --limit 5", Task::Clubs(Duration::from_secs(5))),
+            ("single library", Task::Single(single::Call::Library)),
+            ("single reference", Task::Single(single::Call::Reference)),
+            ("single write 7", Task::Single(single::Call::Write(7))),
             ("peers", Task::Peers(options(1_000, None))),
             ("peers --limit 2", Task::Peers(options(2_000, None))),
             ("page --limit 0.25", Task::Page(options(250, None))),
@@ -289,6 +321,13 @@ mod tests {
             ("dead --before a", UNEQUAL),
             ("page --after a", UNEQUAL),
             ("dead --before a --after b --after c", UNEQUAL),
+            ("clubs 6", "unknown argument 6"),
+            ("clubs --plot a", "unknown argument --plot"),
+            ("single", "something is missing after single"),
+            ("single list", "unknown argument list"),
+            ("single library 7", "unknown argument 7"),
+            ("single write", "something is missing after write"),
+            ("single write -1", "-1 is no number"),
             ("peers --before a", "unknown argument --before"),
             ("peers --after a", "unknown argument --after"),
             ("page --plots a", "unknown argument --plots"),

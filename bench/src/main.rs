@@ -12,12 +12,14 @@
 //!
 //! With `writing` it times the writing of records beside verifying and listing,
 //! and the refusals of writing. With `dead` it times tables whose constraint dies
-//! early, and, if asked, an older build of the library beside a newer one.
+//! early, and, if asked, an older build of the library beside a newer one. With
+//! `clubs` it times clubs whose friends are the friends of their friends.
 //! With `peers` it times the library's list, the reference's, an enumeration of
 //! proofs and an answer set solver on the same wallets, and compares what they
 //! list. With `page` it does all this, and its tables are those of
 //! docs/PERFORMANCE.md. With `climb` it looks for tables on which one list of the
-//! library, or the writing of a record, takes long.
+//! library, or the writing of a record, takes long. With `single` it makes one
+//! call.
 
 #![deny(unsafe_code)]
 #![warn(missing_docs)]
@@ -25,14 +27,17 @@
 mod arguments;
 mod calls;
 mod climb;
+mod clubs;
 mod dead;
 mod families;
 mod listing;
 mod lists;
 mod machine;
 mod peers;
+mod pipe;
 mod plot;
 mod sheet;
+mod single;
 mod timing;
 mod words;
 mod writing;
@@ -42,6 +47,7 @@ use std::fs::{self, File};
 use std::io;
 use std::path::{Path, PathBuf};
 use std::process::ExitCode;
+use std::time::Duration;
 
 use reference::random::Random;
 
@@ -55,6 +61,8 @@ const SEED: u64 = 2015;
 const COMMAND: &str = "cargo run --release --offline -p bench --";
 /// The head of the page's section about constraints that die early.
 const DEAD: &str = "### Constraints that die early";
+/// The head of the page's section about clubs.
+const CLUBS: &str = "### Clubs";
 /// The code for wrong arguments.
 const WRONG_ARGUMENTS: u8 = 2;
 
@@ -78,9 +86,11 @@ fn done(task: Task) -> ExitCode {
         }
         Task::Writing => print_writing(),
         Task::Dead(builds) => return time_dead(&builds),
+        Task::Clubs(limit) => print_clubs(limit),
         Task::Peers(options) => return time_peers(&options, false),
         Task::Page(options) => return time_peers(&options, true),
         Task::Climb(climb) => climb::run(climb),
+        Task::Single(call) => return make(call),
     }
     ExitCode::SUCCESS
 }
@@ -95,8 +105,8 @@ fn time_calls(form: Form) {
 }
 
 /// Times the ways of listing, prints the tables and writes the plot. For the
-/// page there are tables of the machine, of the calls, of writing and of
-/// constraints that die early beside them. It fails if two ways list different
+/// page there are tables of the machine, of the calls, of writing, of constraints
+/// that die early and of clubs beside them. It fails if two ways list different
 /// sets, if the plot cannot be written, or if a build cannot be loaded.
 fn time_peers(options: &Options, page: bool) -> ExitCode {
     let plot = options.plot.as_deref();
@@ -120,6 +130,8 @@ fn time_peers(options: &Options, page: bool) -> ExitCode {
         print_writing();
         println!("\n{DEAD}");
         dead::time(Form::Markdown, &pairs);
+        println!("\n{CLUBS}");
+        clubs::time(options.limit);
     }
     match drawn {
         Some(Err(error)) => unwritten(&error),
@@ -140,6 +152,23 @@ fn time_dead(builds: &[[PathBuf; 2]]) -> ExitCode {
     machine::print();
     dead::time(Form::Markdown, &pairs);
     ExitCode::SUCCESS
+}
+
+/// Makes one call. It fails if it is not given the numbers of a query and a table.
+fn make(call: single::Call) -> ExitCode {
+    let made = single::run(call);
+    if let Err(error) = &made {
+        eprintln!("no call is made: {error}");
+    }
+    made.map_or(ExitCode::FAILURE, |()| ExitCode::SUCCESS)
+}
+
+/// Prints the section about clubs by itself.
+fn print_clubs(limit: Duration) {
+    println!("{CLUBS}\n\nThis section was printed by\n");
+    print_command();
+    machine::print();
+    clubs::time(limit);
 }
 
 /// Prints the page's section about writing.

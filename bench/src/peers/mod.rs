@@ -3,8 +3,8 @@
 //! - [`wallets`]: what they are timed on
 //! - [`proofs`], with [`store`], [`automata`], [`deadline`] and [`minimal`]: an
 //!   enumeration of all proofs, in the way of the 2015 paper (docs/SOURCES.md)
-//! - [`solver`], with [`facts`] and [`pipe`]: an answer set solver, in the way
-//!   of the 2012 paper
+//! - [`solver`], with [`facts`]: an answer set solver, in the way of the 2012
+//!   paper
 //! - [`tables`], [`curves`]: what comes of it
 
 mod automata;
@@ -14,7 +14,6 @@ mod deadline;
 mod exactness;
 mod facts;
 mod minimal;
-mod pipe;
 mod proofs;
 #[cfg(test)]
 mod samples;

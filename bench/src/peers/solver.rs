@@ -13,9 +13,9 @@ use std::time::{Duration, Instant};
 use reference::records::Records;
 
 use super::facts::facts;
-use super::pipe::{Ended, Pipe};
 use super::Unfinished;
 use crate::listing::Listing;
+use crate::pipe::{Ended, Pipe};
 
 /// The program, which has no facts.
 const PROGRAM: &str = include_str!("../../asp/minimal.lp");

@@ -11,7 +11,7 @@
 pub mod harder;
 pub mod parts;
 mod plain;
-mod record;
+pub mod record;
 mod refusals;
 pub mod wallets;
 

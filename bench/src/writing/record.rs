@@ -26,7 +26,7 @@ impl Written {
     }
 
     /// The record of a set of the list. Only what is right is worth timing.
-    fn new(listing: &Listing, set: u32, cells: &mut [u16]) -> Written {
+    pub fn new(listing: &Listing, set: u32, cells: &mut [u16]) -> Written {
         let length = listing.write(set, cells).expect("a record that fits");
         let record = cells[..length].to_vec();
         assert_eq!(

@@ -1,36 +1,51 @@
-//! Two programs joined by a pipe, which are ended when time is up.
+//! A program, or two joined by a pipe, which are ended when time is up.
 
 use std::io::{self, Read, Write};
-use std::process::{Child, ChildStdout, Command, Stdio};
+use std::process::{Child, ChildStdin, ChildStdout, Command, Stdio};
 use std::sync::mpsc::{self, Receiver};
 use std::thread;
 use std::time::Instant;
 
-/// Two programs while they run: what the first prints the second reads.
+/// A program while it runs, and maybe one before it, whose output it reads.
 pub struct Pipe {
-    first: Child,
-    second: Child,
+    first: Option<Child>,
+    last: Child,
+    input: Option<ChildStdin>,
 }
 
-/// How they ended.
+/// How it ended.
 #[derive(Debug, PartialEq, Eq)]
 pub enum Ended {
-    /// All that the second printed, and the code with which it ended, if it
-    /// has one.
+    /// All that the last program printed, and the code with which it ended, if
+    /// it has one.
     ByItself(String, Option<i32>),
-    /// They were stopped.
+    /// It was stopped.
     OutOfTime,
 }
 
 impl Pipe {
-    /// Starts both.
-    pub fn start(mut first: Command, mut second: Command) -> io::Result<Pipe> {
-        first.stdin(Stdio::piped()).stdout(Stdio::piped());
-        let mut first = first.stderr(Stdio::null()).spawn()?;
+    /// Starts a program.
+    pub fn alone(program: Command) -> io::Result<Pipe> {
+        let mut last = started(program, Stdio::piped())?;
+        let input = last.stdin.take();
+        Ok(Pipe {
+            first: None,
+            last,
+            input,
+        })
+    }
+
+    /// Starts two programs: what the first prints the second reads.
+    pub fn start(first: Command, second: Command) -> io::Result<Pipe> {
+        let mut first = started(first, Stdio::piped())?;
         let between = first.stdout.take().map_or(Stdio::null(), Stdio::from);
-        second.stdin(between).stdout(Stdio::piped());
-        match second.stderr(Stdio::null()).spawn() {
-            Ok(second) => Ok(Pipe { first, second }),
+        let input = first.stdin.take();
+        match started(second, between) {
+            Ok(last) => Ok(Pipe {
+                first: Some(first),
+                last,
+                input,
+            }),
             Err(error) => {
                 stop(&mut first)?;
                 Err(error)
@@ -38,25 +53,27 @@ impl Pipe {
         }
     }
 
-    /// Gives the first one its input, and waits for the second until time is
-    /// up, if it ever is. Neither runs on afterwards.
+    /// Gives the first one its input, and waits for the last until time is up,
+    /// if it ever is. None runs on afterwards.
     pub fn run(mut self, input: &str, end: Option<Instant>) -> io::Result<Ended> {
         let text = self.printed(input, end);
         if text.is_none() {
-            self.second.kill()?;
+            self.last.kill()?;
         }
-        let code = self.second.wait()?.code();
-        stop(&mut self.first)?;
+        let code = self.last.wait()?.code();
+        if let Some(first) = &mut self.first {
+            stop(first)?;
+        }
         match text {
             Some(text) => Ok(Ended::ByItself(text?, code)),
             None => Ok(Ended::OutOfTime),
         }
     }
 
-    /// All that the second one prints, if it comes to an end in time.
+    /// All that the last one prints, if it comes to an end in time.
     fn printed(&mut self, input: &str, end: Option<Instant>) -> Option<io::Result<String>> {
-        let printed = reader(self.second.stdout.take()?);
-        let given = self.first.stdin.take()?.write_all(input.as_bytes());
+        let printed = reader(self.last.stdout.take()?);
+        let given = self.input.take()?.write_all(input.as_bytes());
         if let Err(error) = given {
             return Some(Err(error));
         }
@@ -68,6 +85,13 @@ impl Pipe {
             None => printed.recv().ok(),
         }
     }
+}
+
+/// Starts a program that reads this. What it prints is to be read, and its
+/// complaints are not.
+fn started(mut program: Command, input: Stdio) -> io::Result<Child> {
+    program.stdin(input).stdout(Stdio::piped());
+    program.stderr(Stdio::null()).spawn()
 }
 
 /// Stops a program, unless it has ended.
@@ -111,6 +135,14 @@ mod tests {
     }
 
     #[test]
+    fn one_program_prints_what_it_is_given() {
+        let pipe = Pipe::alone(Command::new("cat"));
+        let ended = pipe.and_then(|pipe| pipe.run("some words\n", end(60_000)));
+        let expected = Ended::ByItself("some words\n".into(), Some(0));
+        assert_eq!(ended.expect("it runs"), expected);
+    }
+
+    #[test]
     fn the_code_is_the_second_one_s() {
         let mut second = Command::new("sh");
         second.args(["-c", "cat > /dev/null; exit 30"]);
@@ -128,13 +160,14 @@ mod tests {
             sleep.arg("60");
             sleep
         };
-        for (first, second) in [
-            (sleep(), Command::new("cat")),
-            (Command::new("cat"), sleep()),
+        let cat = || Command::new("cat");
+        for pipe in [
+            Pipe::start(sleep(), cat()),
+            Pipe::start(cat(), sleep()),
+            Pipe::alone(sleep()),
         ] {
-            let pipe = Pipe::start(first, second);
             let ended = pipe.and_then(|pipe| pipe.run("", end(50)));
-            assert_eq!(ended.expect("both run"), Ended::OutOfTime);
+            assert_eq!(ended.expect("they run"), Ended::OutOfTime);
         }
         assert!(start.elapsed() < Duration::from_secs(30));
     }
@@ -144,5 +177,6 @@ mod tests {
         let missing = || Command::new("/no/such/program");
         assert!(Pipe::start(missing(), Command::new("cat")).is_err());
         assert!(Pipe::start(Command::new("cat"), missing()).is_err());
+        assert!(Pipe::alone(missing()).is_err());
     }
 }
