@@ -1,5 +1,6 @@
-//! Tests that the answer set program lists exactly the minimal sets. They need
-//! gringo and clasp, and say that they are skipped where those are missing.
+//! Tests that the answer set program lists exactly the minimal sets, where no role
+//! can come again with another principal. They need gringo and clasp, and say that
+//! they are skipped where those are missing.
 
 use std::time::Duration;
 
@@ -8,6 +9,7 @@ use reference::records::{CredentialRecord, Records};
 use reference::shop::{Q, T, U};
 use reference::Query;
 
+use super::again::can_a_role_come;
 use super::samples;
 use super::solver::Solver;
 use super::Unfinished;
@@ -106,9 +108,9 @@ fn three_levels(through: CredentialRecord, name: u16, fourth: CredentialRecord) 
 }
 
 /// Under every kind, and for both premises of kind 3: if the lowest role is the
-/// goal's own, there is no derivation.
+/// goal's own, of which the same principal is asked, there is no derivation.
 #[test]
-fn no_role_comes_twice_on_a_branch() {
+fn no_pair_comes_twice_on_a_branch() {
     let Some(solver) = solver() else { return };
     let query = Query::from_numbers([9, 1, 1, 16]);
     let unused = [3, 3, 1, 9, 0, 0];
@@ -130,8 +132,10 @@ fn no_role_comes_twice_on_a_branch() {
 #[test]
 fn generated_listings() {
     let Some(solver) = solver() else { return };
-    for (index, listing) in samples::listings(200).iter().enumerate() {
-        let list = solver.minimal_sets(listing, LONG);
+    let listings = samples::listings(200).into_iter();
+    let listings = listings.filter(|listing| !can_a_role_come(listing));
+    for (index, listing) in listings.enumerate() {
+        let list = solver.minimal_sets(&listing, LONG);
         let library = listing.library_list().expect("an accepted listing");
         assert_eq!(list, Ok(library), "listing {index}");
     }

@@ -6,7 +6,12 @@
 //! - [`solver`], with [`facts`]: an answer set solver, in the way of the 2012
 //!   paper
 //! - [`tables`], [`curves`]: what comes of it
+//!
+//! The solver's program goes by the roles of a branch, and the others by its pairs
+//! of principal and role. On these wallets that makes no difference (`again`).
 
+#[cfg(test)]
+mod again;
 mod automata;
 pub mod curves;
 mod deadline;

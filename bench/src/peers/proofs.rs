@@ -29,9 +29,9 @@ const MOST_PROOFS: u32 = 20_000_000;
 /// Where a goal stands.
 #[derive(Clone, Copy)]
 struct Place<'a> {
-    /// The roles above it, the top goal's first.
-    path: &'a [Role],
-    /// Where these roles have brought the automata.
+    /// The goals above it, the top goal first.
+    path: &'a [Goal],
+    /// Where their roles have brought the automata.
     states: States,
     /// The automata of the credentials above.
     constraints: u8,
@@ -94,11 +94,11 @@ impl Construction<'_> {
         self.deadline.step()?;
         let mut proofs = Vec::new();
         let states = self.automata.after(&place.states, goal.role);
-        let ends = place.path.len() >= self.depth || place.path.contains(&goal.role);
+        let ends = place.path.len() >= self.depth || place.path.contains(&goal);
         if ends || place.constraints & self.automata.hopeless(&states) != 0 {
             return Some(proofs);
         }
-        let path = [place.path, &[goal.role]].concat();
+        let path = [place.path, &[goal]].concat();
         for number in self.nodes.get(&goal.role).cloned().unwrap_or_default() {
             let inside = Place {
                 path: &path,

@@ -25,7 +25,7 @@ const LISTED: [&str; 6] = [
 const LEFT: u16 = 2;
 const RIGHT: u16 = 3;
 const SHARED: u16 = 4;
-/// Who is in the shared role, and has the member in roles of its own.
+/// Who is in the shared role, and has the member in a role of its own.
 const MIDDLE: u16 = 2;
 
 /// All tables.
@@ -51,7 +51,7 @@ pub fn own() -> Vec<Named> {
         (words(3), by_words(3)),
         (words(5), by_words(5)),
         (branch(1), by_branch(1)),
-        (branch(6), by_branch(6)),
+        (branch(5), by_branch(5)),
         (depth(2), by_depth(2)),
         (depth(6), by_depth(6)),
     ]
@@ -117,21 +117,25 @@ fn by_words(choices: u16) -> Wallet {
     wallet
 }
 
-/// Two definers of a role are needed because no role comes twice on a branch. The
-/// shared role is needed below the left role and below the right one. Each of
-/// its definers is a chain of a tree of 1 to 6 levels, and then of one of the two
-/// roles: so it fails below that role, when the tree is done.
+/// Two definers of a role are needed because no pair of principal and role comes
+/// twice on a branch. The shared role is needed below the left role for the middle,
+/// and below the right one for the member. Each of its definers is a chain of a
+/// tree of 1 to 5 levels, and then of one of the two roles: so it fails below that
+/// role, when the tree is done.
 fn by_branch(levels: u16) -> Wallet {
     const TREE: u16 = 10;
+    const LINKED: u16 = 40;
     let mut credentials = vec![
         [OWNER, GOAL, 4, 1, 0, 0],
         [OWNER, SHARED, 4, 3, 0, 0],
         [OWNER, SHARED, 4, 5, 0, 0],
+        [OWNER, LEFT, 2, OWNER, SHARED, 0],
+        [OWNER, RIGHT, 2, OWNER, SHARED, 0],
+        [OWNER, LEFT, 1, MEMBER, 0, 0],
+        [OWNER, RIGHT, 1, MIDDLE, 0, 0],
     ];
-    credentials.extend(linked(LEFT, LEFT));
-    credentials.extend(linked(RIGHT, RIGHT));
-    credentials.extend([LEFT, RIGHT].map(|name| [OWNER, name, 1, MIDDLE, 0, 0]));
-    let mut cells = chain(1, &[LEFT, RIGHT]);
+    credentials.extend(linked(LINKED, LEFT));
+    let mut cells = chain(1, &[LINKED, RIGHT]);
     cells.extend(chain(3, &[TREE, LEFT]));
     cells.extend(chain(5, &[TREE, RIGHT]));
     let mut wallet = wallet(credentials, cells);
@@ -140,14 +144,14 @@ fn by_branch(levels: u16) -> Wallet {
         roles: 2,
         times: 1,
     };
-    add_tree(&mut wallet.records, TREE, tree, MIDDLE);
+    add_tree(&mut wallet.records, TREE, tree, &[MIDDLE, MEMBER]);
     wallet
 }
 
 /// Two definers of a role are needed because of the depth limit. The shared role
-/// is needed right below the left role, and 2 to 6 levels below the right one.
-/// Its first definer leads down as many levels, which are too many where the role
-/// is deep already; its second is the left role, and fails below that one.
+/// is needed right below the goal for the member, and 2 to 6 levels further down
+/// for the middle. Its first definer leads down as many levels to both of them,
+/// which are too many where the role is deep already; its second has the middle.
 fn by_depth(levels: u16) -> Wallet {
     const DOWN: u16 = 10;
     const DEEP: u16 = 30;
@@ -155,26 +159,26 @@ fn by_depth(levels: u16) -> Wallet {
     let mut credentials = vec![
         [OWNER, GOAL, 4, 1, 0, 0],
         contains(SHARED, DEEP),
-        contains(SHARED, LEFT),
-        [OWNER, LEFT, 1, MIDDLE, 0, 0],
+        [OWNER, SHARED, 1, MIDDLE, 0, 0],
         contains(RIGHT, DOWN),
+        [OWNER, LEFT, 3, DEEP, LEFT, 0],
     ];
     credentials.extend((2..levels).map(|level| contains(DOWN + level - 2, DOWN + level - 1)));
-    credentials.extend(linked(LEFT, LEFT));
-    credentials.extend(linked(DOWN + levels - 2, RIGHT));
+    credentials.extend(linked(DOWN + levels - 2, SHARED));
     credentials.extend((1..levels).map(|level| contains(DEEP + level - 1, DEEP + level)));
-    credentials.push([OWNER, DEEP + levels - 1, 1, MIDDLE, 0, 0]);
-    let mut wallet = wallet(credentials, chain(1, &[LEFT, RIGHT]));
+    let last = DEEP + levels - 1;
+    credentials.extend([MIDDLE, MEMBER].map(|principal| [OWNER, last, 1, principal, 0, 0]));
+    let mut wallet = wallet(credentials, chain(1, &[SHARED, RIGHT, LEFT]));
     wallet.query.depth = levels + 3;
     wallet
 }
 
-/// A role whose members the shared role links: the member, who is in the
-/// middle's role with this name.
-fn linked(role: u16, name: u16) -> [CredentialRecord; 2] {
+/// A role whose members another one links: the member, who is in the middle's left
+/// role.
+fn linked(role: u16, by: u16) -> [CredentialRecord; 2] {
     [
-        [OWNER, role, 3, SHARED, name, 0],
-        [MIDDLE, name, 1, MEMBER, 0, 0],
+        [OWNER, role, 3, by, LEFT, 0],
+        [MIDDLE, LEFT, 1, MEMBER, 0, 0],
     ]
 }
 

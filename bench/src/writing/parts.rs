@@ -17,9 +17,9 @@ pub struct Tree {
 }
 
 /// Adds a tree below the owner's role with this name: all roles but those of the
-/// last level are chains of the next level's roles, and this principal is in
+/// last level are chains of the next level's roles, and these principals are in
 /// those of the last. The chains of one level share their cells.
-pub fn add_tree(records: &mut Records, top: u16, tree: Tree, principal: u16) {
+pub fn add_tree(records: &mut Records, top: u16, tree: Tree, principals: &[u16]) {
     let mut roles = vec![top];
     for level in 1..tree.levels {
         let first = records.cells.len() as u16 + 1;
@@ -31,8 +31,10 @@ pub fn add_tree(records: &mut Records, top: u16, tree: Tree, principal: u16) {
         let named: Vec<u16> = named.collect();
         records.cells.extend(chain(first, &named));
     }
-    let members = roles.iter().map(|&role| [OWNER, role, 1, principal, 0, 0]);
-    records.credentials.extend(members);
+    for &principal in principals {
+        let members = roles.iter().map(|&role| [OWNER, role, 1, principal, 0, 0]);
+        records.credentials.extend(members);
+    }
 }
 
 /// The cells of a chain of the owner's roles with these names, one after the

@@ -69,7 +69,7 @@ fn twice(levels: u16) -> Named {
 /// The table of one tree, with the goal on top.
 fn only(tree: Tree) -> Wallet {
     let mut wallet = wallet(Vec::new(), Vec::new());
-    add_tree(&mut wallet.records, GOAL, tree, MEMBER);
+    add_tree(&mut wallet.records, GOAL, tree, &[MEMBER]);
     wallet
 }
 
