@@ -1,5 +1,7 @@
 //! Times in words.
 
+use std::time::Duration;
+
 /// A time in nanoseconds, in the unit that suits it, with two digits or three.
 pub fn time(nanoseconds: f64) -> String {
     let units = [(1.0, "ns"), (1e3, "µs"), (1e6, "ms")];
@@ -11,6 +13,16 @@ pub fn time(nanoseconds: f64) -> String {
     } else {
         format!("{value:.0} {unit}")
     }
+}
+
+/// A duration, in the same way.
+pub fn duration(duration: Duration) -> String {
+    time(duration.as_nanos() as f64)
+}
+
+/// That something takes longer than this.
+pub fn more_than(limit: Duration) -> String {
+    format!("more than {}", duration(limit))
 }
 
 /// How many times as much, with two digits at least.
@@ -25,7 +37,8 @@ pub fn times(ratio: f64) -> String {
 
 #[cfg(test)]
 mod tests {
-    use super::{time, times};
+    use super::{duration, more_than, time, times};
+    use std::time::Duration;
 
     #[test]
     fn times_have_the_unit_that_suits_them() {
@@ -43,6 +56,13 @@ mod tests {
         for (nanoseconds, expected) in words {
             assert_eq!(time(nanoseconds), expected);
         }
+    }
+
+    #[test]
+    fn durations_are_times() {
+        let half = Duration::from_millis(500);
+        assert_eq!(duration(half), "500 ms");
+        assert_eq!(more_than(half), "more than 500 ms");
     }
 
     #[test]

@@ -5,6 +5,7 @@ use std::sync::Arc;
 use bwlchareg::Refusal;
 
 use super::watch::Watch;
+use crate::clubs;
 use crate::families::{growing, Named};
 use crate::listing::Listing;
 use crate::writing::harder;
@@ -44,9 +45,10 @@ impl Record {
 impl Call {
     /// The tables of known shapes that are climbed from.
     pub fn shapes(self) -> Vec<Named> {
+        let shapes = [growing(), clubs::tables::of_ten()].concat();
         match self {
-            Call::List => growing(),
-            Call::Write => [growing(), harder::own()].concat(),
+            Call::List => shapes,
+            Call::Write => [shapes, harder::own()].concat(),
         }
     }
 

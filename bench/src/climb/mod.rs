@@ -130,7 +130,7 @@ impl Climb {
     /// A time in words.
     fn words(self, time: f64) -> String {
         match time.is_infinite() {
-            true => format!("more than {}", words::time(self.limit.as_nanos() as f64)),
+            true => words::more_than(self.limit),
             false => words::time(time),
         }
     }

@@ -6,7 +6,7 @@
 //! How long a call takes is not known beforehand. So each is made in a process of
 //! its own first, and timed only if it ends in time.
 
-mod tables;
+pub mod tables;
 
 use std::time::Duration;
 
@@ -43,7 +43,7 @@ fn begin(constraint: Constraint, limit: Duration) -> Lines {
     let title = format!(
         "clubs, {}, time of one call, which is given up after {}",
         constraint.words(),
-        words::time(limit.as_nanos() as f64)
+        words::duration(limit)
     );
     let heads = [
         "clubs",
@@ -108,7 +108,7 @@ fn one<Value>(mut call: impl FnMut() -> Value) -> f64 {
 /// verifying it.
 fn record(limit: Duration, listing: &Listing, set: u32) -> [String; 3] {
     match Call::Write(set).within(limit, listing).as_deref() {
-        None => ["", &told(limit, None), ""].map(String::from),
+        None => ["", &words::more_than(limit), ""].map(String::from),
         Some([]) => ["too many", "", ""].map(String::from),
         Some(_) => {
             let written = Written::new(listing, set, &mut vec![0; CELLS]);
@@ -122,7 +122,7 @@ fn record(limit: Duration, listing: &Listing, set: u32) -> [String; 3] {
 fn told(limit: Duration, time: Option<f64>) -> String {
     match time {
         Some(time) => FORM.time(time, 0),
-        None => format!("more than {}", words::time(limit.as_nanos() as f64)),
+        None => words::more_than(limit),
     }
 }
 

@@ -8,6 +8,7 @@ use reference::query::{Query, DEEPEST};
 use reference::random::Random;
 use reference::records::{CredentialRecord, EdgeRecord, Head};
 
+use crate::families::Named;
 use crate::SEED;
 
 /// Whose role is asked about.
@@ -27,6 +28,8 @@ const FOURTH: u16 = 4;
 
 /// How many people there are.
 const SIZES: &[u16] = &[6, 10, 14, 17];
+/// How many there are where there must be room for rules of their own.
+const OWN_SIZES: &[u16] = &[6, 8, 10];
 /// Somebody who is further down the line than this is not reached: the line's
 /// first stands one level deeper than the line is long.
 const REACHED: u16 = DEEPEST - 1;
@@ -131,12 +134,13 @@ pub fn clubs() -> Vec<Club> {
             ..shape("ring, asked half way", SIZES, ring)
         },
         shape("dense", SIZES, dense),
-        shape("chain, rules of their own", &[6, 10], |people| {
+        shape("chain, rules of their own", OWN_SIZES, |people| {
             own(chain(people), people)
         }),
-        shape("ring, rules of their own", &[6, 10], |people| {
+        shape("ring, rules of their own", OWN_SIZES, |people| {
             own(ring(people), people)
         }),
+        shape("dense, rules of their own", OWN_SIZES, dense_with_rules),
         shape("chain, the club's friends are theirs", &[6, 10], shared),
         shape("three roles in a ring", &[6, 10, 14], three_roles),
         shape("two clubs", &[6, 10], two_clubs),
@@ -144,6 +148,13 @@ pub fn clubs() -> Vec<Club> {
         shape("clique of kind 2", SIZES, clique),
     ];
     shapes.iter().flat_map(Shape::clubs).collect()
+}
+
+/// The clubs of ten people, without constraints.
+pub fn of_ten() -> Vec<Named> {
+    let ten = clubs().into_iter().filter(|club| club.people == 10);
+    let named = ten.map(|club| (format!("club: {}", club.shape), club.wallet));
+    named.collect()
 }
 
 impl Shape {
@@ -240,6 +251,14 @@ fn at_random(all: Credentials, people: u16, made: fn(u16, u16) -> CredentialReco
 /// The people too have the friends of their friends as friends.
 fn own(all: Credentials, people: u16) -> Credentials {
     filled(all, (1..=people).map(|number| recursive(person(number))))
+}
+
+/// The same in a dense club, where half of the friends that were drawn make room.
+fn dense_with_rules(people: u16) -> Credentials {
+    let mut all = dense(people);
+    let drawn = all.len() - chain(people).len();
+    all.truncate(all.len() - drawn / 2);
+    own(all, people)
 }
 
 /// A chain in which everybody has the club's friends as friends.
