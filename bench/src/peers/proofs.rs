@@ -207,6 +207,7 @@ fn next(chosen: &mut [usize], parts: &[Vec<Id>], subproofs: &mut [Id]) -> bool {
 #[cfg(test)]
 mod tests {
     use super::{minimal_sets, proofs};
+    use crate::clubs::tables::{clubs, Constraint};
     use crate::families;
     use crate::listing::Listing;
     use crate::peers::samples;
@@ -264,6 +265,17 @@ mod tests {
             let (table, asked) = listing.read();
             let list = minimal_sets(&table, asked, LONG);
             assert_eq!(list, listing.library_list().ok());
+        }
+    }
+
+    #[test]
+    fn the_minimal_sets_of_clubs_are_the_library_s() {
+        let clubs = clubs().into_iter().filter(|club| club.people <= 10);
+        for club in clubs {
+            let listing = Listing::of(&club.with(Constraint::AtMostFive));
+            let (table, asked) = listing.read();
+            let list = minimal_sets(&table, asked, LONG);
+            assert_eq!(list, listing.library_list().ok(), "{}", club.shape);
         }
     }
 

@@ -4,12 +4,15 @@ use bwlchareg::layout;
 use reference::generate::listings::made_up;
 use reference::random::Random;
 
+use super::again::can_a_role_come;
 use crate::listing::Listing;
 
-/// No more credentials and part cells than these: with many more, some tables
-/// have too many derivations to go through.
+/// No more credentials and part cells than these, and no greater depth limit where
+/// a role can come again: with much more, some tables have too many derivations to
+/// go through.
 const CREDENTIALS: usize = 10;
 const CELLS: usize = 8;
+const DEPTH: u16 = 8;
 
 /// So many made-up listings that both sides accept, the same in every run:
 /// grown wallets, tables with cycles, and queries of which nothing is known.
@@ -21,8 +24,10 @@ pub fn listings(count: usize) -> Vec<Listing> {
         let (table, query) = (made_up.table, made_up.query);
         let is_valid = reference::check_query(&table, query).is_ok();
         let [credentials, cells, ..] = layout::counts(&table);
-        if is_valid && credentials <= CREDENTIALS && cells <= CELLS {
-            listings.push(Listing { table, query });
+        let listing = Listing { table, query };
+        let is_small = credentials <= CREDENTIALS && cells <= CELLS;
+        if is_valid && is_small && (query.depth <= DEPTH || !can_a_role_come(&listing)) {
+            listings.push(listing);
         }
     }
     listings
