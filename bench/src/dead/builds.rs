@@ -14,6 +14,7 @@ use super::{first_set, same, tables, Build, ROUND};
 use crate::calls;
 use crate::families::{self, Named};
 use crate::listing::{Listing, CELLS};
+use crate::peers::again::can_a_role_come;
 use crate::peers::wallets::{of_size, sizes};
 use crate::sheet::{Form, Lines};
 use crate::writing::{harder, spread, wallets};
@@ -126,16 +127,25 @@ fn writing(pairs: &[Pair], what: &str, listing: &Listing) -> [f64; 2] {
 /// Times the verdicts on small records.
 fn time_verdicts(form: Form, pairs: &[Pair]) {
     let lines = begin(form, "time of one verdict", "records");
-    let grown = calls::grown(&mut Random::new(SEED));
     let by_hand = calls::by_hand();
-    let by_hand = by_hand.map(|(what, claim)| (what, vec![claim]));
-    let all = by_hand
-        .into_iter()
-        .chain([("1,000 grown records, accepted", grown)]);
-    for (what, claims) in all {
-        let times = verdicts(pairs, what, claims);
-        print(form, &lines, what, times);
+    let by_hand = by_hand.map(|(what, claim)| (what.to_string(), vec![claim]));
+    let grown = grown();
+    let grown = (format!("{} grown records, accepted", grown.len()), grown);
+    for (what, claims) in by_hand.into_iter().chain([grown]) {
+        let times = verdicts(pairs, &what, claims);
+        print(form, &lines, &what, times);
     }
+}
+
+/// Of the grown records those of tables in which no role can come again with
+/// another principal: a build that goes by roles accepts them too.
+fn grown() -> Vec<Claim> {
+    let mut claims = calls::grown(&mut Random::new(SEED));
+    claims.retain(|claim| {
+        let (table, query) = (claim.table.clone(), claim.query);
+        !can_a_role_come(&Listing { table, query })
+    });
+    claims
 }
 
 /// Times the verdicts on records of very many nodes, of which each node moves

@@ -230,6 +230,8 @@ fn by_owners(choices: u16) -> Early {
 mod tests {
     use super::{lists, writings, Early};
     use crate::listing::{library_query, Listing};
+    use crate::peers::again::can_a_role_come;
+    use crate::writing::harder;
     use reference::generate::wallets::Wallet;
     use std::collections::BTreeSet;
 
@@ -249,6 +251,15 @@ mod tests {
             .map(|table| (&table.what, &table.dies))
             .collect();
         assert_eq!(told.len(), tables.len());
+    }
+
+    #[test]
+    fn an_older_build_answers_the_same() {
+        let early = [lists(), writings()].concat().into_iter();
+        let early = early.map(|table| table.wallet);
+        let harder = harder::tables().into_iter().map(|(_, wallet)| wallet);
+        let mut all = early.chain(harder).map(|wallet| Listing::of(&wallet));
+        assert!(!all.any(|listing| can_a_role_come(&listing)));
     }
 
     #[test]

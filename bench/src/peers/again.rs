@@ -1,6 +1,7 @@
 //! Whether a role can come again on a branch, with another principal. Where none
 //! can, a branch repeats a role exactly if it repeats a pair of principal and role:
-//! so whoever goes by roles lists the same as whoever goes by pairs.
+//! so whoever goes by roles answers the same as whoever goes by pairs. The answer
+//! set program goes by roles, and so do older builds of the library.
 
 use std::collections::BTreeSet;
 

@@ -8,10 +8,9 @@
 //! - [`tables`], [`curves`]: what comes of it
 //!
 //! The solver's program goes by the roles of a branch, and the others by its pairs
-//! of principal and role. On these wallets that makes no difference (`again`).
+//! of principal and role. On these wallets that makes no difference ([`again`]).
 
-#[cfg(test)]
-mod again;
+pub mod again;
 mod automata;
 pub mod curves;
 mod deadline;
