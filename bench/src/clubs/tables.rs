@@ -28,8 +28,9 @@ const FOURTH: u16 = 4;
 
 /// How many people there are.
 const SIZES: &[u16] = &[6, 10, 14, 17];
-/// How many there are where there must be room for rules of their own.
-const OWN_SIZES: &[u16] = &[6, 8, 10];
+/// How many there are where there must be room for rules of their own: which size is
+/// hard is not easily foreseen.
+const OWN_SIZES: &[u16] = &[6, 7, 8, 9, 10];
 /// Somebody who is further down the line than this is not reached: the line's
 /// first stands one level deeper than the line is long.
 const REACHED: u16 = DEEPEST - 1;
