@@ -42,11 +42,11 @@ impl Branch {
         requires { ⌜ self .len < mostDepth ⌝ }
         ensures { λ r. ⌜ Room mostDepth (r .len) (r .goals) × ((r .len ≡ self .len + 1) × (above r ≡ goal ∷ above self)) ⌝ }
     {
-        let len = self.len;
+        let at = self.len;
         let mut goals = self.goals;
-        goals[len] = goal;
+        goals[at] = goal;
         Branch {
-            len: len + 1,
+            len: at + 1,
             goals: goals,
         }
     }

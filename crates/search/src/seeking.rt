@@ -276,7 +276,7 @@ fn seek_linked(
     while j < n {
         let second = members::link_cell(index, i, j);
         if goals::is_middle(table, index, rows, row, person, j, first, second) {
-            let answer = seek_link(
+            let link = seek_link(
                 table,
                 index,
                 rows,
@@ -290,10 +290,10 @@ fn seek_linked(
                 above,
                 memory,
             );
-            if answer.proved {
+            if link.proved {
                 return proved();
             }
-            met = failures::joined(met, answer.met);
+            met = failures::joined(met, link.met);
         }
         j += 1;
     }
