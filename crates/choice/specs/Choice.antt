@@ -38,8 +38,8 @@ asked none = []
 asked (some goals) = goals
 
 -- the goals by the places of principal and role, each of them proved
-pub record Children (t : List ℕ) (S A levels : ℕ) (above : Above) (s : StateSets) (goals : List Goal) (len : ℕ) (persons places : List ℕ)
-    : Type 0 where
+pub record Children (t : List ℕ) (S A levels : ℕ) (above : Above) (s : StateSets) (goals : List Goal) (len : ℕ)
+    (persons places : List ℕ) : Type 0 where
   pub few : len ≤ mostParts
   pub people : length persons ≡ mostParts
   pub roles : length places ≡ mostParts

@@ -85,9 +85,11 @@ module _ {t index : List ℕ} (indexed : Indexed t index) {person place : ℕ} (
   module _ (i : ℕ) (l : i < credentials t) {may : Bool} (told : may ≡ usable index S place i) where
     pub tried-unused : may ≡ false → {above met : Above} → Failed (noneOf i) above met → Failed (noneOf (i + 1)) above met
     tried-unused off =
-        failed-so (λ b none. next-unused indexed stands there S i l (proves t S A levels b s) (part A (acceptingSet t s)) told none off)
+        failed-so (λ b none.
+        next-unused indexed stands there S i l (proves t S A levels b s) (part A (acceptingSet t s)) told none off)
 
-    module _ (on : may ≡ true) {above : Above} {answer : Answer} (judged : Judged (ownTest t S A levels s person i) above answer) where
+    module _ (on : may ≡ true) {above : Above} {answer : Answer}
+        (judged : Judged (ownTest t S A levels s person i) above answer) where
       pub tried-failed : answer .proved ≡ false → (met both : Above) → Joined met (answer .met) both → Failed (noneOf i) above met
           → Failed (noneOf (i + 1)) above both
       tried-failed off met both joined so-far =
@@ -133,7 +135,8 @@ opened {t} {rows = rows} {levels = levels} {last} {person} {place} searched stan
     }
 
 -- the state sets that the code holds are those behind the goal's role
-pub judged-moved : (t : List ℕ) (S A levels person place : ℕ) (s : StateSets) {r : Role} {x : Moved} {above : Above} {answer : Answer}
+pub judged-moved : (t : List ℕ) (S A levels person place : ℕ) (s : StateSets) {r : Role} {x : Moved} {above : Above}
+    {answer : Answer}
     → r ≡ credential t (suc place) .role → x ≡ steppedOn t A r s
     → Judged (anyTest t S A levels (x .states) person place) above answer
     → Judged (anyTest t S A levels (stepped t A (credential t (suc place) .role) s) person place) above answer

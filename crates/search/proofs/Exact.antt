@@ -142,8 +142,8 @@ module _ (t : List ℕ) (wf : WellFormed t) (S : ℕ) where
       (proves-by-mono (within t S k) (proves t S 0 k (withGoal t above g) below) each true (part 0 (acceptingSet t below))
       (λ e. free-word below) t g (suc c) proved)))
 
-  -- below a branch of goals that are no members within so many levels, each that is one is proved: as it is one level less, or, where
-  -- this is its least level, through members within one level less
+  -- below a branch of goals that are no members within so many levels, each that is one is proved: as it is one level less, or,
+  -- where this is its least level, through members within one level less
   member-proved : (k : ℕ) (above : Above) → length (above .persons) ≡ mostCredentials → Later k above → (s : StateSets) (g : Goal)
       → within t S k g ≡ true → proves t S 0 k above s g ≡ true
   member-proved zero above room later s g h = within-none t S g h

@@ -199,12 +199,14 @@ module _ (t : List ℕ) (wf : WellFormed t) (S A : ℕ) where
       unfolding provedPremises nodeWords pick names
       premises-shown m none applies h = absurd (false-true h)
       premises-shown m (some []) applies h =
-          shown-node levels branch w g c m [] [] applies (new (has-place wf g c m [] applies (done {levels = levels} {branch = g ∷ branch}))) own end done (λ x named. absurd (false-true named)) (ended h)
+          let there = has-place wf g c m [] applies (done {levels = levels} {branch = g ∷ branch}) in
+          shown-node levels branch w g c m [] [] applies (new there) own end done (λ x named. absurd (false-true named)) (ended h)
           (shown-none (suc levels) branch w)
       premises-shown m (some (asked ∷ goals)) applies h =
           let nonzero = ne-eqb (suc (length goals)) 0 (λ e. omega arith) in
           let below = every-shown levels (g ∷ branch) (w ++ (g .role ∷ [])) one each (asked ∷ goals) (rw nonzero at h) in
-          shown-node levels branch w g c m (asked ∷ goals) [] applies (new (has-place wf g c m (asked ∷ goals) applies (below .derives))) own
+          let there = has-place wf g c m (asked ∷ goals) applies (below .derives) in
+          shown-node levels branch w g c m (asked ∷ goals) [] applies (new there) own
           (below .forest) (below .derives) (below .usesOnly) (rw nonzero (below .accepted)) (shown-none (suc levels) branch w)
 
       through-shown : provesBy t one word g c ≡ true → Shown t S A (suc levels) branch w (g ∷ [])
@@ -234,7 +236,8 @@ module _ (t : List ℕ) (wf : WellFormed t) (S A : ℕ) where
       let below = stepped t A (g .role) s in
       let after = led-on t A s w (g .role) led in
       let deeper = withGoal t above g in
-      through-shown levels branch w g (suc (by .0)) (λ there. on .same g there ∙ and-first _ _ h) (and-first _ _ (and-first _ _ (by .2)))
+      through-shown levels branch w g (suc (by .0)) (λ there. on .same g there ∙ and-first _ _ h)
+      (and-first _ _ (and-first _ _ (by .2)))
       (proves t S A levels deeper below)
       (proves-shown levels (g ∷ branch) deeper (on-next t (wf .sized .counted .fewCredentials) branch above g on) word below after)
       (part A (acceptingSet t below)) (one-word t wf A below word after)
@@ -286,7 +289,8 @@ module _ (t : List ℕ) (wf : WellFormed t) (S A : ℕ) where
       let deeper = withGoal t above g in
       proves-through levels above s g c m goals applies (sym (on .same g (has-place wf g c m goals applies d)) ∙ new) own
       (middle-tried wf g c m goals applies d)
-      (node-accepted goals _ below word f after all (each deeper (on-next t (wf .sized .counted .fewCredentials) branch above g on) word below after))
+      (node-accepted goals _ below word f after all
+      (each deeper (on-next t (wf .sized .counted .fewCredentials) branch above g on) word below after))
 
   -- what is derived is found
   pub derived-proves : {levels : ℕ} {branch goals : List Goal} {f : Forest} → Derives t levels branch goals f → UsesOnly f S
@@ -309,7 +313,8 @@ module _ (t : List ℕ) (wf : WellFormed t) (q : Query) where
         let found = proves-shown t wf S A (q .depth) [] nothingAbove (on-none t) [] (startingSets t) starts (goalOf q) h in
         record { forest = found .forest; derives = found .derives; usesOnly = found .usesOnly; accepted = found .accepted }),
     (λ h.
-        let all = derived-proves t wf S A (h .derives) (h .usesOnly) nothingAbove (on-none t) [] (startingSets t) starts (h .accepted) in
+        let all =
+        derived-proves t wf S A (h .derives) (h .usesOnly) nothingAbove (on-none t) [] (startingSets t) starts (h .accepted) in
         and-first _ _ all),
   )
     where

@@ -51,7 +51,8 @@ module _ (t : List ℕ) (S A levels : ℕ) (above : Above) (s : StateSets) (pers
   unfolding provesAt _and_ proves isAbove withGoal
   place-step =
       rw (lt-ltb place (credentials t) there)
-      (rw (stands .first there, is-person t person (stands .named) .1) at (step-down t S A levels above s (goalAt t person place) left))
+      (rw (stands .first there, is-person t person (stands .named) .1) at
+      (step-down t S A levels above s (goalAt t person place) left))
 
   pub place-again : pairAbove above person place ≡ true → false ≡ provesAt t S A levels above s person place
   place-again again = sym (and-is-off _ (ap not again)) ∙ place-step
@@ -264,7 +265,8 @@ pub record Middle (t index rows : List ℕ) (S levels last person i row j first 
 
 -- no middle is left
 pub linked-none : {t index rows : List ℕ} {S levels last : ℕ} → Searched t index rows S levels last → {person i : ℕ}
-    → Tried t person i → credential t (suc i) .kind ≡ 3 → (A : ℕ) (above : Above) (s : StateSets) (word : Bool) (j : ℕ) → j ≡ credentials t
+    → Tried t person i → credential t (suc i) .kind ≡ 3 → (A : ℕ) (above : Above) (s : StateSets) (word : Bool) (j : ℕ)
+    → j ≡ credentials t
     → anyBelow (middleTried t index (provesAt t S A levels above s) person i) j ≡ false
     → false ≡ provesOwn t S A levels above s word person i
 linked-none searched tried kind A above s word j e none =

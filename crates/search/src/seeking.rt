@@ -96,7 +96,8 @@ fn seek_below(
     requires { ⌜ Stands (now table) person place × (place < credentials (now table)) ⌝ }
     requires { ⌜ Remembered (now table) (terms .allowed) (terms .constraints) (now memory) ⌝ }
     ensures { λ r. ⌜ Judged (anyTest (now (table .entry)) (terms .allowed) (terms .constraints) levels
-        (stepped (now (table .entry)) (terms .constraints) (credential (now (table .entry)) (suc place) .role) states) person place) above r
+        (stepped (now (table .entry)) (terms .constraints) (credential (now (table .entry)) (suc place) .role) states)
+        person place) above r
         × Remembered (now (table .entry)) (terms .allowed) (terms .constraints) (now (memory .exit)) ⌝ }
 {
     let role = goals::role_of(table, place);
@@ -300,14 +301,14 @@ fn seek_linked(
     failed(met)
 }
 
-// The middle at j is in the role at `first`, and the principal at `person` in the one at `second`.
+// The principal at `middle` is in the role at `first`, and the one at `person` in the role at `second`.
 fn seek_link(
     table: &[Number],
     index: &[u8],
     rows: &[CredentialSet],
     terms: Terms,
     person: usize,
-    j: usize,
+    middle: usize,
     first: usize,
     second: usize,
     levels: usize,
@@ -316,9 +317,10 @@ fn seek_link(
     memory: &mut [u32],
 ) -> Answer
     requires { ⌜ Searched (now table) (now index) (now rows) (terms .allowed) levels (terms .last) ⌝ }
-    requires { ⌜ Stands (now table) j first × Stands (now table) person second ⌝ }
+    requires { ⌜ Stands (now table) middle first × Stands (now table) person second ⌝ }
     requires { ⌜ Remembered (now table) (terms .allowed) (terms .constraints) (now memory) ⌝ }
-    ensures { λ r. ⌜ Judged (linkTest (now (table .entry)) (terms .allowed) (terms .constraints) levels states j first person second) above r
+    ensures { λ r. ⌜ Judged (linkTest (now (table .entry)) (terms .allowed) (terms .constraints) levels states
+        middle first person second) above r
         × Remembered (now (table .entry)) (terms .allowed) (terms .constraints) (now (memory .exit)) ⌝ }
 {
     let answer = seek_goal(
@@ -326,7 +328,7 @@ fn seek_link(
         index,
         rows,
         terms,
-        j,
+        middle,
         first,
         levels,
         states,

@@ -18,8 +18,8 @@ use Rattle.verifier.specs.Verdict.{judged, verdict}
 
 -- what a verdict computes with
 unfoldable pub opened : Unit {0}
-unfolding table.opened inSet meets accepts acceptsFrom leads matches moved movedBy run starting asks fresh premises sameGoal countFrom
-    usedFrom usedSet acceptsAll met usesAutomaton words admitted entered entry followed joined readAll reader judged verdict
+unfolding table.opened inSet meets accepts acceptsFrom leads matches moved movedBy run starting asks fresh premises sameGoal
+    countFrom usedFrom usedSet acceptsAll met usesAutomaton words admitted entered entry followed joined readAll reader judged verdict
 opened = tt
 
 pub record Row : Type 0 where

@@ -34,8 +34,8 @@ pub fn from_goal(
     requires { ⌜ Members (now table) (terms .allowed) (query .depth) (terms .last) (now rows) ⌝ }
     requires { ⌜ provable (now table) query (terms .allowed) (terms .constraints) ≡ true ⌝ }
     requires { ⌜ most < 2 ^ 63 ⌝ }
-    ensures { λ r. ⌜ Walked 0 most (written (firstForest (now (table .entry)) (terms .allowed) (terms .constraints) (query .depth) nothingAbove
-        (startingSets (now (table .entry))) (goalOf query ∷ []))) (now (rec .entry)) (now (rec .exit)) r ⌝ }
+    ensures { λ r. ⌜ Walked 0 most (written (firstForest (now (table .entry)) (terms .allowed) (terms .constraints) (query .depth)
+        nothingAbove (startingSets (now (table .entry))) (goalOf query ∷ []))) (now (rec .entry)) (now (rec .exit)) r ⌝ }
 {
     walk(
         table,

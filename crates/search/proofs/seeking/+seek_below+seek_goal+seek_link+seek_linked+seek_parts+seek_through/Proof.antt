@@ -20,9 +20,11 @@ use Rattle.search.specs.Failing.{Failed, Remembered}
 use Rattle.search.proofs.Placing.{below-most, cell-named, kind-other, kind-read, partMissed, row-fits, searched-fewer}
 use Rattle.search.proofs.Leaving.{dead-tried}
 use Rattle.search.proofs.Failing.{judged-told, recalled-failed, remembered-more}
-use Rattle.search.proofs.Below.{goal-again, goal-failed, goal-proved, goal-unlisted, judged-failed, judged-found, judged-moved}
+use Rattle.search.proofs.Below.{goal-again, goal-failed, goal-proved}
+use Rattle.search.proofs.Below.{goal-unlisted, judged-failed, judged-found, judged-moved}
 use Rattle.search.proofs.Below.{link-failed, link-first, link-found, link-second, link-skipped, links-all, links-none}
-use Rattle.search.proofs.Below.{judged-never, judged-proved, middle-read, noneLinked, noneTried, opened, part-failed, parts-missed}
+use Rattle.search.proofs.Below.{judged-never, judged-proved, middle-read, noneLinked}
+use Rattle.search.proofs.Below.{noneTried, opened, part-failed, parts-missed}
 use Rattle.search.proofs.Below.{tried-all, tried-failed, tried-none, tried-proved, tried-unused}
 use Rattle.search.proofs.Trying.{all-proved, part-proved, part-repeated, stands-first, stands-part, stands-second}
 use Rattle.search.proofs.seeking.seek_below.Reads as seek-below
@@ -291,10 +293,15 @@ seek-below-failed-requires t c κs = search needs
 
 seek-below-returns : seek-below-needs seek-below-lts.Need-returns
 seek-below-returns t c =
-    let (searched, (stands, remembered)) = c .before .before .before .before .before .before .before .before .before .before .pre .1 in (
-      judged-moved _ _ _ _ _ _ _ (c .before .before .before .before .before .role-of .ensures) (c .before .before .before .before .stepped .ensures)
+    let at-any-dead = c .before .before .before in
+    let at-stepped = at-any-dead .before in
+    let at-role-of = at-stepped .before in
+    let start = at-role-of .before .before .before .before .before in
+    let (searched, (stands, remembered)) = start .pre .1 in (
+      judged-moved _ _ _ _ _ _ _ (at-role-of .role-of .ensures) (at-stepped .stepped .ensures)
           (judged-never (c .failed .ensures) (c .before .nothing .ensures) (λ b.
-          dead-tried _ _ _ _ _ (c .before .before .before .before .stepped .ensures) (sym (c .before .before .before .any-dead .ensures) ∙ c .before .before .if1 .taken) _ b _)),
+          dead-tried _ _ _ _ _ (at-stepped .stepped .ensures) (sym (at-any-dead .any-dead .ensures)
+          ∙ c .before .before .if1 .taken) _ b _)),
       remembered,
     )
 
@@ -306,7 +313,8 @@ seek-below-nothing-requires-2 t c κs = search needs
 
 seek-below-loop-holds : seek-below-needs seek-below-lts.Need-loop-holds
 seek-below-loop-holds t c =
-    let (searched, ((stands, there), remembered)) = c .before .before .before .before .before .before .before .before .before .before .pre .1 in
+    let start = c .before .before .before .before .before .before .before .before .before .before in
+    let (searched, ((stands, there), remembered)) = start .pre .1 in
     (omega arith, (rw (c .nothing2 .ensures) (tried-none (searched .indexed) stands there _ _ _ _ _), remembered))
 
 seek-below-may-use-requires : seek-below-needs seek-below-lts.Need-may-use-requires
@@ -314,17 +322,21 @@ seek-below-may-use-requires t c κs = search needs
 
 seek-below-seek-through-requires : seek-below-needs seek-below-lts.Need-seek-through-requires
 seek-below-seek-through-requires t c κs =
-    let (searched, ((stands, there), remembered)) = c .before .before .before .before .before .before .before .before .before .before .before .before .before .before .before .pre .1 in (
-      omega (arith, c .before .before .before .before .before .before .before .before .before .before .before .before .before .before .before .pre .0),
+    let at-loop-test = c .before .before .before in
+    let at-loop = at-loop-test .before in
+    let at-credentials = at-loop .before .before in
+    let start = at-credentials .before .before .before .before .before .before .before .before .before in
+    let (searched, ((stands, there), remembered)) = start .pre .1 in (
+      omega (arith, start .pre .0),
       (
         searched,
         (
           record {
-            there = omega (arith, c .before .before .before .loop-test .taken, c .before .before .before .before .before .before .credentials .ensures .same);
+            there = omega (arith, at-loop-test .loop-test .taken, at-credentials .credentials .ensures .same);
             who = stands .there;
             named = stands .named;
           },
-          c .before .before .before .before .loop .inv .1 .1,
+          at-loop .loop .inv .1 .1,
         ),
       ),
     )
@@ -333,15 +345,29 @@ seek-below-proved-requires : seek-below-needs seek-below-lts.Need-proved-require
 seek-below-proved-requires t c κs = search needs
 
 seek-below-same-length : seek-below-needs seek-below-lts.Need-same-length
-seek-below-same-length t c = c .before .before .before .before .seek-through .ensures .1 .room ∙ sym (c .before .before .before .before .before .before .before .before .before .before .before .before .before .before .before .before .before .before .before .before .pre .1 .1 .1 .room)
+seek-below-same-length t c =
+    let at-seek-through = c .before .before .before .before in
+    let mid20 = at-seek-through .before .before .before .before .before .before .before .before .before .before in
+    let start = mid20 .before .before .before .before .before .before in
+    at-seek-through .seek-through .ensures .1 .room ∙ sym (start .pre .1 .1 .1 .room)
 
 seek-below-returns-2 : seek-below-needs seek-below-lts.Need-returns-2
 seek-below-returns-2 t c =
-    let (searched, ((stands, there), remembered)) = c .before .before .before .before .before .before .before .before .before .before .before .before .before .before .before .before .before .before .before .before .pre .1 in
-    let (judged, now-remembered) = c .before .before .before .before .seek-through .ensures in (
-      judged-moved _ _ _ _ _ _ _ (c .before .before .before .before .before .before .before .before .before .before .before .before .before .before .before .role-of .ensures) (c .before .before .before .before .before .before .before .before .before .before .before .before .before .before .stepped .ensures)
+    let at-seek-through = c .before .before .before .before in
+    let at-if2 = at-seek-through .before .before in
+    let at-may-use = at-if2 .before in
+    let at-loop-test = at-may-use .before in
+    let at-credentials = at-loop-test .before .before .before in
+    let at-stepped = at-credentials .before .before .before in
+    let at-role-of = at-stepped .before in
+    let start = at-role-of .before .before .before .before .before in
+    let (searched, ((stands, there), remembered)) = start .pre .1 in
+    let (judged, now-remembered) = at-seek-through .seek-through .ensures in (
+      judged-moved _ _ _ _ _ _ _ (at-role-of .role-of .ensures) (at-stepped .stepped .ensures)
           (judged-proved (c .proved .ensures)
-          (tried-proved (searched .indexed) stands there _ _ _ _ _ (omega (arith, c .before .before .before .before .before .before .before .before .loop-test .taken, c .before .before .before .before .before .before .before .before .before .before .before .credentials .ensures .same)) (c .before .before .before .before .before .before .before .may-use .ensures) (c .before .before .before .before .before .before .if2 .taken) judged (c .before .if3 .taken))),
+          (tried-proved (searched .indexed) stands there _ _ _ _ _ (omega
+          (arith, at-loop-test .loop-test .taken, at-credentials .credentials .ensures .same)) (at-may-use .may-use .ensures)
+          (at-if2 .if2 .taken) judged (c .before .if3 .taken))),
       now-remembered,
     )
 
@@ -356,11 +382,14 @@ seek-below-loop-less t c = search needs
 
 seek-below-loop-again : seek-below-needs seek-below-lts.Need-loop-again
 seek-below-loop-again t c =
-    let (searched, ((stands, there), remembered)) = c .before .before .before .before .before .before .before .before .before .before .before .before .before .before .pre .1 in
-    let (so-far, before) = c .before .before .before .loop .inv .1 in
+    let at-loop = c .before .before .before in
+    let at-credentials = at-loop .before .before in
+    let start = at-credentials .before .before .before .before .before .before .before .before .before in
+    let (searched, ((stands, there), remembered)) = start .pre .1 in
+    let (so-far, before) = at-loop .loop .inv .1 in
     let next = c .before .before .loop-test .taken in
     let may-use = c .before .may-use .ensures in
-    let all = c .before .before .before .before .before .credentials .ensures .same in (
+    let all = at-credentials .credentials .ensures .same in (
       omega (arith, next),
       ⊎-elim
           (λ way. (
@@ -371,7 +400,8 @@ seek-below-loop-again t c =
           ))
           (λ way. (
             rw (way .2)
-                (tried-unused (searched .indexed) stands there _ _ _ _ _ (omega (arith, next, all)) may-use (way .0 .left) so-far),
+                (tried-unused (searched .indexed) stands there _ _ _ _ _ (omega (arith, next, all)) may-use
+                (way .0 .left) so-far),
             rw (way .1) before,
           ))
           (c .if2 .came),
@@ -381,14 +411,22 @@ seek-below-failed-requires-2 : seek-below-needs seek-below-lts.Need-failed-requi
 seek-below-failed-requires-2 t c κs = search needs
 
 seek-below-same-length-2 : seek-below-needs seek-below-lts.Need-same-length-2
-seek-below-same-length-2 t c = c .before .before .loop .inv .1 .1 .room ∙ sym (c .before .before .before .before .before .before .before .before .before .before .before .before .before .pre .1 .1 .1 .room)
+seek-below-same-length-2 t c =
+    let start = c .before .before .before .before .before .before .before .before .before .before .before .before .before in
+    c .before .before .loop .inv .1 .1 .room ∙ sym (start .pre .1 .1 .1 .room)
 
 seek-below-returns-3 : seek-below-needs seek-below-lts.Need-returns-3
 seek-below-returns-3 t c =
-    let (searched, ((stands, there), remembered)) = c .before .before .before .before .before .before .before .before .before .before .before .before .before .pre .1 in
+    let at-credentials = c .before .before .before .before in
+    let at-stepped = at-credentials .before .before .before in
+    let at-role-of = at-stepped .before in
+    let start = at-role-of .before .before .before .before .before in
+    let (searched, ((stands, there), remembered)) = start .pre .1 in
     let (failed-so-far, now-remembered) = c .before .before .loop .inv .1 in (
-      judged-moved _ _ _ _ _ _ _ (c .before .before .before .before .before .before .before .before .role-of .ensures) (c .before .before .before .before .before .before .before .stepped .ensures)
-          (judged-failed (c .failed2 .ensures) (tried-all (searched .indexed) stands there _ _ _ _ _ (omega (arith, c .before .loop-test .left, c .before .before .loop .inv .0, c .before .before .before .before .credentials .ensures .same)) failed-so-far)),
+      judged-moved _ _ _ _ _ _ _ (at-role-of .role-of .ensures) (at-stepped .stepped .ensures)
+          (judged-failed (c .failed2 .ensures) (tried-all (searched .indexed) stands there _ _ _ _ _ (omega
+          (arith, c .before .loop-test .left, c .before .before .loop .inv .0, at-credentials .credentials .ensures .same))
+          failed-so-far)),
       now-remembered,
     )
 
@@ -423,13 +461,19 @@ seek-goal-failed-requires t c κs = search needs
 
 seek-goal-returns : seek-goal-needs seek-goal-lts.Need-returns
 seek-goal-returns t c =
-    let (searched, (stands, remembered)) = c .before .before .before .before .before .before .before .before .pre .1 in
-    let missing = failed (c .before .before .before .may-be-proved .ensures) (c .before .before .if1 .taken) in
-    (judged-never (c .failed .ensures) (c .before .nothing .ensures) (goal-unlisted _ _ _ _ _ _ _ stands searched missing), remembered)
+    let at-may-be-proved = c .before .before .before in
+    let start = at-may-be-proved .before .before .before .before .before in
+    let (searched, (stands, remembered)) = start .pre .1 in
+    let missing = failed (at-may-be-proved .may-be-proved .ensures) (c .before .before .if1 .taken) in (
+      judged-never (c .failed .ensures) (c .before .nothing .ensures)
+          (goal-unlisted _ _ _ _ _ _ _ stands searched missing),
+      remembered,
+    )
 
 seek-goal-has-requires : seek-goal-needs seek-goal-lts.Need-has-requires
 seek-goal-has-requires t c κs =
-    let (searched, (stands, remembered)) = c .before .before .before .before .before .before .pre .1 in
+    let start = c .before .before .before .before .before .before in
+    let (searched, (stands, remembered)) = start .pre .1 in
     let at-goal = opened searched stands (c .before .may-be-proved .ensures) (c .if1 .left) in
     (at-goal .few-persons, at-goal .few-places)
 
@@ -438,8 +482,11 @@ seek-goal-nothing-requires-2 t c κs = search needs
 
 seek-goal-with-requires : seek-goal-needs seek-goal-lts.Need-with-requires
 seek-goal-with-requires t c κs =
-    let (searched, (stands, remembered)) = c .before .before .before .before .before .before .before .before .before .pre .1 in
-    let at-goal = opened searched stands (c .before .before .before .before .may-be-proved .ensures) (c .before .before .before .if1 .left) in
+    let at-if1 = c .before .before .before in
+    let at-may-be-proved = at-if1 .before in
+    let start = at-may-be-proved .before .before .before .before .before in
+    let (searched, (stands, remembered)) = start .pre .1 in
+    let at-goal = opened searched stands (at-may-be-proved .may-be-proved .ensures) (at-if1 .if1 .left) in
     (at-goal .few-persons, at-goal .few-places)
 
 seek-goal-failed-requires-2 : seek-goal-needs seek-goal-lts.Need-failed-requires-2
@@ -447,15 +494,23 @@ seek-goal-failed-requires-2 t c κs = search needs
 
 seek-goal-returns-2 : seek-goal-needs seek-goal-lts.Need-returns-2
 seek-goal-returns-2 t c =
-    let (searched, (stands, remembered)) = c .before .before .before .before .before .before .before .before .before .before .before .pre .1 in
-    let at-goal = opened searched stands (c .before .before .before .before .before .before .may-be-proved .ensures) (c .before .before .before .before .before .if1 .left) in
-    let again = goal-again _ _ _ _ _ _ _ stands (at-goal .there) (at-goal .left) (at-goal .few-places) _ (sym (c .before .before .before .before .has .ensures) ∙ c .before .before .before .if2 .taken) in
+    let at-if2 = c .before .before .before in
+    let at-has = at-if2 .before in
+    let at-if1 = at-has .before in
+    let at-may-be-proved = at-if1 .before in
+    let start = at-may-be-proved .before .before .before .before .before in
+    let (searched, (stands, remembered)) = start .pre .1 in
+    let at-goal = opened searched stands (at-may-be-proved .may-be-proved .ensures) (at-if1 .if1 .left) in
+    let again = goal-again _ _ _ _ _ _ _ stands (at-goal .there) (at-goal .left) (at-goal .few-places) _ (sym
+    (at-has .has .ensures) ∙ at-if2 .if2 .taken) in
     (judged-failed (c .failed2 .ensures) (rw (c .before .with .ensures, c .before .before .nothing2 .ensures) again), remembered)
 
 seek-goal-slot-requires : seek-goal-needs seek-goal-lts.Need-slot-requires
 seek-goal-slot-requires t c κs =
-    let (searched, (stands, remembered)) = c .before .before .before .before .before .before .before .before .pre .1 in
-    let at-goal = opened searched stands (c .before .before .before .may-be-proved .ensures) (c .before .before .if1 .left) in
+    let at-may-be-proved = c .before .before .before in
+    let start = at-may-be-proved .before .before .before .before .before in
+    let (searched, (stands, remembered)) = start .pre .1 in
+    let at-goal = opened searched stands (at-may-be-proved .may-be-proved .ensures) (c .before .before .if1 .left) in
     (at-goal .few-persons, at-goal .few-places)
 
 seek-goal-recalls-requires : seek-goal-needs seek-goal-lts.Need-recalls-requires
@@ -472,30 +527,44 @@ seek-goal-same-length t c = search needs
 
 seek-goal-returns-3 : seek-goal-needs seek-goal-lts.Need-returns-3
 seek-goal-returns-3 t c =
-    let (searched, (stands, remembered)) = c .before .before .before .before .before .before .before .before .before .before .before .before .before .before .before .pre .1 in
-    let eight = seek-goal-eight t (c .before .before .before .before .before .before .before .before .before .before .before .before .before .before .before) in (
+    let at-if3 = c .before .before .before in
+    let at-recalls = at-if3 .before in
+    let at-slot = at-recalls .before .before in
+    let start = at-slot .before .before .before .before .before .before .before .before .before in
+    let (searched, (stands, remembered)) = start .pre .1 in
+    let eight = seek-goal-eight t start in (
       judged-failed (c .failed3 .ensures)
-          (recalled-failed _ _ _ remembered (c .before .before .before .before .before .before .slot .ensures) eight (c .before .before .before .before .recalls .ensures (c .before .before .before .if3 .taken)) (c .before .met-at .ensures)),
+          (recalled-failed _ _ _ remembered (at-slot .slot .ensures) eight (at-recalls .recalls .ensures
+          (at-if3 .if3 .taken)) (c .before .met-at .ensures)),
       remembered,
     )
 
 seek-goal-sub-seek-below : seek-goal-needs seek-goal-lts.Need-sub-seek-below
 seek-goal-sub-seek-below t c =
-    let (searched, (stands, remembered)) = c .before .before .before .before .before .before .before .before .before .before .before .before .pre .1 in
-    let at-goal = opened searched stands (c .before .before .before .before .before .before .before .may-be-proved .ensures) (c .before .before .before .before .before .before .if1 .left) in
+    let at-if1 = c .before .before .before .before .before .before in
+    let at-may-be-proved = at-if1 .before in
+    let start = at-may-be-proved .before .before .before .before .before in
+    let (searched, (stands, remembered)) = start .pre .1 in
+    let at-goal = opened searched stands (at-may-be-proved .may-be-proved .ensures) (at-if1 .if1 .left) in
     omega (arith, at-goal .left)
 
 seek-goal-with-requires-2 : seek-goal-needs seek-goal-lts.Need-with-requires-2
 seek-goal-with-requires-2 t c κs =
-    let (searched, (stands, remembered)) = c .before .before .before .before .before .before .before .before .before .before .before .before .pre .1 in
-    let at-goal = opened searched stands (c .before .before .before .before .before .before .before .may-be-proved .ensures) (c .before .before .before .before .before .before .if1 .left) in
+    let at-if1 = c .before .before .before .before .before .before in
+    let at-may-be-proved = at-if1 .before in
+    let start = at-may-be-proved .before .before .before .before .before in
+    let (searched, (stands, remembered)) = start .pre .1 in
+    let at-goal = opened searched stands (at-may-be-proved .may-be-proved .ensures) (at-if1 .if1 .left) in
     (at-goal .few-persons, at-goal .few-places)
 
 seek-goal-seek-below-requires : seek-goal-needs seek-goal-lts.Need-seek-below-requires
 seek-goal-seek-below-requires t c κs =
-    let (searched, (stands, remembered)) = c .before .before .before .before .before .before .before .before .before .before .before .before .before .before .pre .1 in
-    let at-goal = opened searched stands (c .before .before .before .before .before .before .before .before .before .may-be-proved .ensures) (c .before .before .before .before .before .before .before .before .if1 .left) in (
-      omega (arith, c .before .before .before .before .before .before .before .before .before .before .before .before .before .before .pre .0, at-goal .left),
+    let at-if1 = c .before .before .before .before .before .before .before .before in
+    let at-may-be-proved = at-if1 .before in
+    let start = at-may-be-proved .before .before .before .before .before in
+    let (searched, (stands, remembered)) = start .pre .1 in
+    let at-goal = opened searched stands (at-may-be-proved .may-be-proved .ensures) (at-if1 .if1 .left) in (
+      omega (arith, start .pre .0, at-goal .left),
       (searched-fewer _ (omega arith) searched, ((stands, at-goal .there), remembered)),
     )
 
@@ -507,27 +576,43 @@ seek-goal-same-length-2 t c = search needs
 
 seek-goal-returns-4 : seek-goal-needs seek-goal-lts.Need-returns-4
 seek-goal-returns-4 t c =
-    let (searched, (stands, remembered)) = c .before .before .before .before .before .before .before .before .before .before .before .before .before .before .before .before .before .before .before .pre .1 in
-    let at-goal = opened searched stands (c .before .before .before .before .before .before .before .before .before .before .before .before .before .before .may-be-proved .ensures) (c .before .before .before .before .before .before .before .before .before .before .before .before .before .if1 .left) in
-    let (judged, now-remembered) = c .before .before .before .before .seek-below .ensures in
-    let new = sym (c .before .before .before .before .before .before .before .before .before .before .before .before .has .ensures) ∙ c .before .before .before .before .before .before .before .before .before .before .before .if2 .left in (
+    let at-seek-below = c .before .before .before .before in
+    let at-with2 = at-seek-below .before .before in
+    let at-if2 = at-with2 .before .before .before .before .before in
+    let at-has = at-if2 .before in
+    let at-if1 = at-has .before in
+    let at-may-be-proved = at-if1 .before in
+    let start = at-may-be-proved .before .before .before .before .before in
+    let (searched, (stands, remembered)) = start .pre .1 in
+    let at-goal = opened searched stands (at-may-be-proved .may-be-proved .ensures) (at-if1 .if1 .left) in
+    let (judged, now-remembered) = at-seek-below .seek-below .ensures in
+    let new = sym (at-has .has .ensures) ∙ at-if2 .if2 .left in (
       judged-proved (c .proved .ensures)
-          (goal-proved _ _ _ _ _ _ _ stands (at-goal .there) (at-goal .left) _ new (rw (c .before .before .before .before .before .before .with2 .ensures) at (judged .passes (c .before .if4 .taken)))),
+          (goal-proved _ _ _ _ _ _ _ stands (at-goal .there) (at-goal .left) _ new (rw (at-with2 .with2 .ensures) at
+          (judged .passes (c .before .if4 .taken)))),
       now-remembered,
     )
 
 seek-goal-without-requires : seek-goal-needs seek-goal-lts.Need-without-requires
 seek-goal-without-requires t c κs =
-    let (searched, (stands, remembered)) = c .before .before .before .before .before .before .before .before .before .before .before .before .before .before .before .before .before .before .pre .1 in
-    let at-goal = opened searched stands (c .before .before .before .before .before .before .before .before .before .before .before .before .before .may-be-proved .ensures) (c .before .before .before .before .before .before .before .before .before .before .before .before .if1 .left) in
+    let at-if1 = c .before .before .before .before .before .before .before .before .before .before .before .before in
+    let at-may-be-proved = at-if1 .before in
+    let start = at-may-be-proved .before .before .before .before .before in
+    let (searched, (stands, remembered)) = start .pre .1 in
+    let at-goal = opened searched stands (at-may-be-proved .may-be-proved .ensures) (at-if1 .if1 .left) in
     (at-goal .few-persons, at-goal .few-places)
 
 seek-goal-keep-requires : seek-goal-needs seek-goal-lts.Need-keep-requires
 seek-goal-keep-requires t c κs =
-    let (searched, (stands, remembered)) = c .before .before .before .before .before .before .before .before .before .before .before .before .before .before .before .before .before .before .before .before .pre .1 in
-    let at-goal = opened searched stands (c .before .before .before .before .before .before .before .before .before .before .before .before .before .before .before .may-be-proved .ensures) (c .before .before .before .before .before .before .before .before .before .before .before .before .before .before .if1 .left) in
-    let (judged, now-remembered) = c .before .before .before .before .before .seek-below .ensures in
-    ((now-remembered .room, c .before .before .before .before .before .before .before .before .before .before .before .slot .ensures), (at-goal .few-persons, (at-goal .few-places, searched .shallow)))
+    let at-seek-below = c .before .before .before .before .before in
+    let at-slot = at-seek-below .before .before .before .before .before .before in
+    let at-if1 = at-slot .before .before .before in
+    let at-may-be-proved = at-if1 .before in
+    let start = at-may-be-proved .before .before .before .before .before in
+    let (searched, (stands, remembered)) = start .pre .1 in
+    let at-goal = opened searched stands (at-may-be-proved .may-be-proved .ensures) (at-if1 .if1 .left) in
+    let (judged, now-remembered) = at-seek-below .seek-below .ensures in
+    ((now-remembered .room, at-slot .slot .ensures), (at-goal .few-persons, (at-goal .few-places, searched .shallow)))
 
 seek-goal-failed-requires-4 : seek-goal-needs seek-goal-lts.Need-failed-requires-4
 seek-goal-failed-requires-4 t c κs = search needs
@@ -537,16 +622,25 @@ seek-goal-same-length-3 t c = search needs
 
 seek-goal-returns-5 : seek-goal-needs seek-goal-lts.Need-returns-5
 seek-goal-returns-5 t c =
-    let (searched, (stands, remembered)) = c .before .before .before .before .before .before .before .before .before .before .before .before .before .before .before .before .before .before .before .before .before .before .before .before .pre .1 in
-    let at-goal = opened searched stands (c .before .before .before .before .before .before .before .before .before .before .before .before .before .before .before .before .before .before .before .may-be-proved .ensures) (c .before .before .before .before .before .before .before .before .before .before .before .before .before .before .before .before .before .before .if1 .left) in
-    let (judged, now-remembered) = c .before .before .before .before .before .before .before .before .before .seek-below .ensures in
-    let eight = seek-goal-eight t (c .before .before .before .before .before .before .before .before .before .before .before .before .before .before .before .before .before .before .before .before .before .before .before .before) in
-    let wide = seek-goal-wide t (c .before .before .before .before .before .before .before .before .before .before .before .before .before .before .before .before .before .before .before .before .before .before .before .before) in
-    let below = rw (c .before .before .before .before .before .before .before .before .before .before .before .with2 .ensures) at (judged .failed (c .before .before .before .before .before .before .if4 .left)) in
+    let at-keep = c .before .before .before in
+    let at-without = at-keep .before .before in
+    let at-if4 = at-without .before in
+    let at-seek-below = at-if4 .before .before .before in
+    let at-with2 = at-seek-below .before .before in
+    let at-slot = at-with2 .before .before .before .before in
+    let at-if1 = at-slot .before .before .before in
+    let at-may-be-proved = at-if1 .before in
+    let start = at-may-be-proved .before .before .before .before .before in
+    let (searched, (stands, remembered)) = start .pre .1 in
+    let at-goal = opened searched stands (at-may-be-proved .may-be-proved .ensures) (at-if1 .if1 .left) in
+    let (judged, now-remembered) = at-seek-below .seek-below .ensures in
+    let eight = seek-goal-eight t start in
+    let wide = seek-goal-wide t start in
+    let below = rw (at-with2 .with2 .ensures) at (judged .failed (at-if4 .if4 .left)) in
     let failure =
-    goal-failed _ _ _ _ _ _ _ stands (at-goal .there) (at-goal .left) _ _ _ wide (c .before .before .before .before .before .without .ensures) below in (
+    goal-failed _ _ _ _ _ _ _ stands (at-goal .there) (at-goal .left) _ _ _ wide (at-without .without .ensures) below in (
       judged-failed (c .failed4 .ensures) failure,
-      remembered-more _ _ _ now-remembered (c .before .before .before .before .before .before .before .before .before .before .before .before .before .before .before .slot .ensures) (c .before .before .before .keep .ensures) eight (failure .fails),
+      remembered-more _ _ _ now-remembered (at-slot .slot .ensures) (at-keep .keep .ensures) eight (failure .fails),
     )
 
 -- a place of `seek_link`, or a need, where its measure is t; and what it needs, whatever its measure is
@@ -572,8 +666,12 @@ seek-link-same-length t c = search needs
 
 seek-link-returns : seek-link-needs seek-link-lts.Need-returns
 seek-link-returns t c =
-    let (judged, remembered) = c .before .before .before .before .before .seek-goal .ensures in
-    (judged-failed (c .failed .ensures) (link-first _ _ _ _ _ _ _ _ _ (judged .failed (not-true _ (c .before .if1 .taken)))), remembered)
+    let at-seek-goal = c .before .before .before .before .before in
+    let (judged, remembered) = at-seek-goal .seek-goal .ensures in (
+      judged-failed (c .failed .ensures) (link-first _ _ _ _ _ _ _ _ _ (judged .failed (not-true _
+          (c .before .if1 .taken)))),
+      remembered,
+    )
 
 seek-link-seek-goal-requires-2 : seek-link-needs seek-link-lts.Need-seek-goal-requires-2
 seek-link-seek-goal-requires-2 t c κs = search needs
@@ -583,9 +681,11 @@ seek-link-same-length-2 t c = search needs
 
 seek-link-returns-2 : seek-link-needs seek-link-lts.Need-returns-2
 seek-link-returns-2 t c =
-    let (first, before) = c .before .before .before .before .before .before .before .before .seek-goal .ensures in
+    let at-if1 = c .before .before .before .before in
+    let at-seek-goal = at-if1 .before .before .before .before in
+    let (first, before) = at-seek-goal .seek-goal .ensures in
     let (second, remembered) = c .before .before .seek-goal2 .ensures in
-    (link-second _ _ _ _ _ _ _ _ _ (first .passes (not-false _ (c .before .before .before .before .if1 .left))) second, remembered)
+    (link-second _ _ _ _ _ _ _ _ _ (first .passes (not-false _ (at-if1 .if1 .left))) second, remembered)
 
 abbrev seek-linked-Inv-loop : seek-linked-lts.InvT-loop
 seek-linked-Inv-loop table index rows terms person i levels states above memory₀ n row first met₀ j₀ memory met j =
@@ -602,7 +702,8 @@ seek-linked-Place =
     → seek-linked-lts.InvT-loop → seek-linked-lts.MeasureT-loop → Type 0
 
 abbrev seek-linked-place : seek-linked-Place → ℕ → Type 0
-seek-linked-place place t = place (seek-linked-claims t) (seek-linked-at t) seek-linked.Post seek-linked-Inv-loop seek-linked-μ-loop
+seek-linked-place place t =
+    place (seek-linked-claims t) (seek-linked-at t) seek-linked.Post seek-linked-Inv-loop seek-linked-μ-loop
 
 abbrev seek-linked-needs : seek-linked-Place → Type 0
 seek-linked-needs need = (t : ℕ) → seek-linked-place need t
@@ -621,7 +722,8 @@ seek-linked-nothing-requires t c κs = search needs
 
 seek-linked-loop-holds : seek-linked-needs seek-linked-lts.Need-loop-holds
 seek-linked-loop-holds t c =
-    let (searched, (tried, (kind, remembered))) = c .before .before .before .before .before .before .before .before .pre .1 in
+    let start = c .before .before .before .before .before .before .before .before in
+    let (searched, (tried, (kind, remembered))) = start .pre .1 in
     (omega arith, (rw (c .nothing .ensures) (links-none searched tried kind _ _ _), remembered))
 
 seek-linked-link-cell-requires : seek-linked-needs seek-linked-lts.Need-link-cell-requires
@@ -629,15 +731,19 @@ seek-linked-link-cell-requires t c κs = search needs
 
 seek-linked-is-middle-requires : seek-linked-needs seek-linked-lts.Need-is-middle-requires
 seek-linked-is-middle-requires t c κs =
-    let (searched, (tried, (kind, remembered))) = c .before .before .before .before .before .before .before .before .before .before .before .pre .1 in (
+    let at-asked-cell = c .before .before .before .before in
+    let at-row-of = at-asked-cell .before in
+    let at-credentials = at-row-of .before in
+    let start = at-credentials .before .before .before .before .before in
+    let (searched, (tried, (kind, remembered))) = start .pre .1 in (
       searched .wellFormed,
       (
         searched .indexed,
         (
-          (searched .members .room, row-fits (searched .members) (c .before .before .before .before .before .row-of .ensures)),
+          (searched .members .room, row-fits (searched .members) (at-row-of .row-of .ensures)),
           (
-            (tried .who, omega (arith, c .before .loop-test .taken, c .before .before .before .before .before .before .credentials .ensures .same)),
-            (c .before .before .before .before .asked-cell .ensures .1, c .link-cell .ensures .1),
+            (tried .who, omega (arith, c .before .loop-test .taken, at-credentials .credentials .ensures .same)),
+            (at-asked-cell .asked-cell .ensures .1, c .link-cell .ensures .1),
           ),
         ),
       ),
@@ -645,28 +751,63 @@ seek-linked-is-middle-requires t c κs =
 
 seek-linked-seek-link-requires : seek-linked-needs seek-linked-lts.Need-seek-link-requires
 seek-linked-seek-link-requires t c κs =
-    let (searched, (tried, (kind, remembered))) = c .before .before .before .before .before .before .before .before .before .before .before .before .before .before .pre .1 in
+    let at-link-cell = c .before .before .before in
+    let at-loop-test = at-link-cell .before in
+    let at-loop = at-loop-test .before in
+    let at-asked-cell = at-loop .before .before in
+    let at-row-of = at-asked-cell .before in
+    let at-credentials = at-row-of .before in
+    let start = at-credentials .before .before .before .before .before in
+    let (searched, (tried, (kind, remembered))) = start .pre .1 in
     let middle =
-    middle-read searched tried kind (omega (arith, c .before .before .before .before .loop-test .taken, c .before .before .before .before .before .before .before .before .before .credentials .ensures .same)) (c .before .before .before .before .before .before .before .before .row-of .ensures)
-    (c .before .before .before .before .before .before .before .asked-cell .ensures .0) (c .before .before .before .link-cell .ensures .0) (c .before .before .is-middle .ensures) in (
-      omega (arith, c .before .before .before .before .before .before .before .before .before .before .before .before .before .before .pre .0),
-      (searched, ((stands-first middle (c .before .if1 .taken), stands-second middle (c .before .if1 .taken)), c .before .before .before .before .before .loop .inv .1 .1)),
+    middle-read searched tried kind (omega
+    (arith, at-loop-test .loop-test .taken, at-credentials .credentials .ensures .same)) (at-row-of .row-of .ensures)
+    (at-asked-cell .asked-cell .ensures .0) (at-link-cell .link-cell .ensures .0) (c .before .before .is-middle .ensures) in (
+      omega (arith, start .pre .0),
+      (
+        searched,
+        (
+          (
+            stands-first middle (c .before .if1 .taken),
+            stands-second middle
+                (c .before .if1 .taken),
+          ),
+          at-loop .loop .inv .1 .1,
+        ),
+      ),
     )
 
 seek-linked-proved-requires : seek-linked-needs seek-linked-lts.Need-proved-requires
 seek-linked-proved-requires t c κs = search needs
 
 seek-linked-same-length : seek-linked-needs seek-linked-lts.Need-same-length
-seek-linked-same-length t c = c .before .before .before .before .seek-link .ensures .1 .room ∙ sym (c .before .before .before .before .before .before .before .before .before .before .before .before .before .before .before .before .before .before .before .pre .1 .1 .1 .1 .room)
+seek-linked-same-length t c =
+    let at-seek-link = c .before .before .before .before in
+    let mid19 = at-seek-link .before .before .before .before .before .before .before .before .before .before in
+    let start = mid19 .before .before .before .before .before in
+    at-seek-link .seek-link .ensures .1 .room ∙ sym (start .pre .1 .1 .1 .1 .room)
 
 seek-linked-returns : seek-linked-needs seek-linked-lts.Need-returns
 seek-linked-returns t c =
-    let (searched, (tried, (kind, remembered))) = c .before .before .before .before .before .before .before .before .before .before .before .before .before .before .before .before .before .before .before .pre .1 in
+    let at-seek-link = c .before .before .before .before in
+    let at-if1 = at-seek-link .before .before in
+    let at-is-middle = at-if1 .before in
+    let at-link-cell = at-is-middle .before in
+    let at-loop-test = at-link-cell .before in
+    let at-asked-cell = at-loop-test .before .before .before in
+    let at-row-of = at-asked-cell .before in
+    let at-credentials = at-row-of .before in
+    let start = at-credentials .before .before .before .before .before in
+    let (searched, (tried, (kind, remembered))) = start .pre .1 in
     let middle =
-    middle-read searched tried kind (omega (arith, c .before .before .before .before .before .before .before .before .before .loop-test .taken, c .before .before .before .before .before .before .before .before .before .before .before .before .before .before .credentials .ensures .same)) (c .before .before .before .before .before .before .before .before .before .before .before .before .before .row-of .ensures)
-    (c .before .before .before .before .before .before .before .before .before .before .before .before .asked-cell .ensures .0) (c .before .before .before .before .before .before .before .before .link-cell .ensures .0) (c .before .before .before .before .before .before .before .is-middle .ensures) in
-    let (judged, now-remembered) = c .before .before .before .before .seek-link .ensures in
-    (judged-proved (c .proved .ensures) (link-found middle _ _ judged (c .before .before .before .before .before .before .if1 .taken) (c .before .if2 .taken)), now-remembered)
+    middle-read searched tried kind (omega
+    (arith, at-loop-test .loop-test .taken, at-credentials .credentials .ensures .same)) (at-row-of .row-of .ensures)
+    (at-asked-cell .asked-cell .ensures .0) (at-link-cell .link-cell .ensures .0) (at-is-middle .is-middle .ensures) in
+    let (judged, now-remembered) = at-seek-link .seek-link .ensures in (
+      judged-proved (c .proved .ensures) (link-found middle _ _ judged (at-if1 .if1 .taken)
+          (c .before .if2 .taken)),
+      now-remembered,
+    )
 
 seek-linked-joined-requires : seek-linked-needs seek-linked-lts.Need-joined-requires
 seek-linked-joined-requires t c κs = search needs
@@ -679,12 +820,19 @@ seek-linked-loop-less t c = search needs
 
 seek-linked-loop-again : seek-linked-needs seek-linked-lts.Need-loop-again
 seek-linked-loop-again t c =
-    let (searched, (tried, (kind, remembered))) = c .before .before .before .before .before .before .before .before .before .before .before .before .before .pre .1 in
+    let at-loop-test = c .before .before .before in
+    let at-loop = at-loop-test .before in
+    let at-asked-cell = at-loop .before .before in
+    let at-row-of = at-asked-cell .before in
+    let at-credentials = at-row-of .before in
+    let start = at-credentials .before .before .before .before .before in
+    let (searched, (tried, (kind, remembered))) = start .pre .1 in
     let middle =
-    middle-read searched tried kind (omega (arith, c .before .before .before .loop-test .taken, c .before .before .before .before .before .before .before .before .credentials .ensures .same)) (c .before .before .before .before .before .before .before .row-of .ensures)
-    (c .before .before .before .before .before .before .asked-cell .ensures .0) (c .before .before .link-cell .ensures .0) (c .before .is-middle .ensures) in
-    let (so-far, before) = c .before .before .before .before .loop .inv .1 in (
-      omega (arith, c .before .before .before .loop-test .taken),
+    middle-read searched tried kind (omega
+    (arith, at-loop-test .loop-test .taken, at-credentials .credentials .ensures .same)) (at-row-of .row-of .ensures)
+    (at-asked-cell .asked-cell .ensures .0) (c .before .before .link-cell .ensures .0) (c .before .is-middle .ensures) in
+    let (so-far, before) = at-loop .loop .inv .1 in (
+      omega (arith, at-loop-test .loop-test .taken),
       ⊎-elim
           (λ way. (
             rw (way .8) (link-failed middle _ _ (way .2 .ensures .0) (way .5 .left) _ _ (way .6 .ensures) so-far),
@@ -698,13 +846,21 @@ seek-linked-failed-requires : seek-linked-needs seek-linked-lts.Need-failed-requ
 seek-linked-failed-requires t c κs = search needs
 
 seek-linked-same-length-2 : seek-linked-needs seek-linked-lts.Need-same-length-2
-seek-linked-same-length-2 t c = c .before .before .loop .inv .1 .1 .room ∙ sym (c .before .before .before .before .before .before .before .before .before .before .before .pre .1 .1 .1 .1 .room)
+seek-linked-same-length-2 t c =
+    let start = c .before .before .before .before .before .before .before .before .before .before .before in
+    c .before .before .loop .inv .1 .1 .room ∙ sym (start .pre .1 .1 .1 .1 .room)
 
 seek-linked-returns-2 : seek-linked-needs seek-linked-lts.Need-returns-2
 seek-linked-returns-2 t c =
-    let (searched, (tried, (kind, remembered))) = c .before .before .before .before .before .before .before .before .before .before .before .pre .1 in
-    let (failed-so-far, now-remembered) = c .before .before .loop .inv .1 in
-    (judged-failed (c .failed .ensures) (links-all searched tried kind _ _ _ (omega (arith, c .before .loop-test .left, c .before .before .loop .inv .0, c .before .before .before .before .before .before .credentials .ensures .same)) failed-so-far), now-remembered)
+    let at-credentials = c .before .before .before .before .before .before in
+    let start = at-credentials .before .before .before .before .before in
+    let (searched, (tried, (kind, remembered))) = start .pre .1 in
+    let (failed-so-far, now-remembered) = c .before .before .loop .inv .1 in (
+      judged-failed (c .failed .ensures) (links-all searched tried kind _ _ _ (omega
+          (arith, c .before .loop-test .left, c .before .before .loop .inv .0, at-credentials .credentials .ensures .same))
+          failed-so-far),
+      now-remembered,
+    )
 
 abbrev seek-parts-Inv-loop : seek-parts-lts.InvT-loop
 seek-parts-Inv-loop table index rows terms person i levels states above memory₀ k₀ memory k =
@@ -741,14 +897,17 @@ seek-parts-failed-requires t c κs = search needs
 
 seek-parts-returns : seek-parts-needs seek-parts-lts.Need-returns
 seek-parts-returns t c =
-    let (searched, (tried, (kind, remembered))) = c .before .before .before .before .before .before .before .before .pre .1 in
-    let missed = parts-missed searched tried kind _ _ (c .before .before .before .are-listed .ensures) (c .before .before .if1 .taken) in
+    let at-are-listed = c .before .before .before in
+    let start = at-are-listed .before .before .before .before .before in
+    let (searched, (tried, (kind, remembered))) = start .pre .1 in
+    let missed = parts-missed searched tried kind _ _ (at-are-listed .are-listed .ensures) (c .before .before .if1 .taken) in
     (judged-never (c .failed .ensures) (c .before .nothing .ensures) missed, remembered)
 
 seek-parts-loop-holds : seek-parts-needs seek-parts-lts.Need-loop-holds
 unfolding anyBelow
 seek-parts-loop-holds t c =
-    let (searched, (tried, (kind, remembered))) = c .before .before .before .before .before .before .pre .1 in
+    let start = c .before .before .before .before .before .before in
+    let (searched, (tried, (kind, remembered))) = start .pre .1 in
     (omega arith, (refl, remembered))
 
 seek-parts-is-asked-before-requires : seek-parts-needs seek-parts-lts.Need-is-asked-before-requires
@@ -759,23 +918,35 @@ seek-parts-asked-cell-requires t c κs = search needs
 
 seek-parts-seek-goal-requires : seek-parts-needs seek-parts-lts.Need-seek-goal-requires
 seek-parts-seek-goal-requires t c κs =
-    let (searched, (tried, (kind, remembered))) = c .before .before .before .before .before .before .before .before .before .before .before .before .pre .1 in
-    let stands = stands-part searched tried kind _ (c .before .before .before .before .loop-test .taken) _ (c .before .asked-cell .ensures .0) in
-    (omega (arith, c .before .before .before .before .before .before .before .before .before .before .before .before .pre .0), (searched, (stands, c .before .before .before .before .before .loop .inv .1 .1)))
+    let at-loop-test = c .before .before .before .before in
+    let at-loop = at-loop-test .before in
+    let start = at-loop .before .before .before .before .before .before .before in
+    let (searched, (tried, (kind, remembered))) = start .pre .1 in
+    let stands = stands-part searched tried kind _ (at-loop-test .loop-test .taken) _ (c .before .asked-cell .ensures .0) in
+    (omega (arith, start .pre .0), (searched, (stands, at-loop .loop .inv .1 .1)))
 
 seek-parts-failed-requires-2 : seek-parts-needs seek-parts-lts.Need-failed-requires-2
 seek-parts-failed-requires-2 t c κs = search needs
 
 seek-parts-same-length : seek-parts-needs seek-parts-lts.Need-same-length
-seek-parts-same-length t c = c .before .before .before .before .before .seek-goal .ensures .1 .room ∙ sym (c .before .before .before .before .before .before .before .before .before .before .before .before .before .before .before .before .before .before .pre .1 .1 .1 .1 .room)
+seek-parts-same-length t c =
+    let at-seek-goal = c .before .before .before .before .before in
+    let mid18 = at-seek-goal .before .before .before .before .before .before .before .before .before .before in
+    let start = mid18 .before .before .before in
+    at-seek-goal .seek-goal .ensures .1 .room ∙ sym (start .pre .1 .1 .1 .1 .room)
 
 seek-parts-returns-2 : seek-parts-needs seek-parts-lts.Need-returns-2
 seek-parts-returns-2 t c =
-    let (searched, (tried, (kind, remembered))) = c .before .before .before .before .before .before .before .before .before .before .before .before .before .before .before .before .before .before .pre .1 in
-    let (judged, now-remembered) = c .before .before .before .before .before .seek-goal .ensures in
+    let at-seek-goal = c .before .before .before .before .before in
+    let at-asked-cell = at-seek-goal .before .before in
+    let at-loop-test = at-asked-cell .before .before .before in
+    let start = at-loop-test .before .before .before .before .before .before .before .before in
+    let (searched, (tried, (kind, remembered))) = start .pre .1 in
+    let (judged, now-remembered) = at-seek-goal .seek-goal .ensures in
     let missed = judged .failed (not-true _ (c .before .if3 .taken)) in (
       judged-failed (c .failed2 .ensures)
-          (part-failed searched tried kind _ _ _ _ (c .before .before .before .before .before .before .before .before .before .before .loop-test .taken) (c .before .before .before .before .before .before .before .asked-cell .ensures .0) missed),
+          (part-failed searched tried kind _ _ _ _ (at-loop-test .loop-test .taken)
+          (at-asked-cell .asked-cell .ensures .0) missed),
       now-remembered,
     )
 
@@ -787,13 +958,16 @@ seek-parts-loop-less t c = search needs
 
 seek-parts-loop-again : seek-parts-needs seek-parts-lts.Need-loop-again
 seek-parts-loop-again t c =
-    let (searched, (tried, (kind, remembered))) = c .before .before .before .before .before .before .before .before .before .before .pre .1 in
-    let (so-far, before) = c .before .before .before .loop .inv .1 in
-    let wide = seek-parts-wide t (c .before .before .before .before .before .before .before .before .before .before) in (
+    let at-loop = c .before .before .before in
+    let start = at-loop .before .before .before .before .before .before .before in
+    let (searched, (tried, (kind, remembered))) = start .pre .1 in
+    let (so-far, before) = at-loop .loop .inv .1 in
+    let wide = seek-parts-wide t start in (
       omega (arith, c .before .before .loop-test .taken),
       ⊎-elim
           (λ way. (
-            part-proved searched tried kind _ _ _ _ _ (way .1 .ensures .0) (judged-told wide (way .3 .ensures .0)) so-far (way .7 .left),
+            part-proved searched tried kind _ _ _ _ _ (way .1 .ensures .0) (judged-told wide (way .3 .ensures .0)) so-far
+                (way .7 .left),
             rw (way .8) (way .3 .ensures .1),
           ))
           (λ way. (
@@ -807,13 +981,19 @@ seek-parts-proved-requires : seek-parts-needs seek-parts-lts.Need-proved-require
 seek-parts-proved-requires t c κs = search needs
 
 seek-parts-same-length-2 : seek-parts-needs seek-parts-lts.Need-same-length-2
-seek-parts-same-length-2 t c = c .before .before .loop .inv .1 .1 .room ∙ sym (c .before .before .before .before .before .before .before .before .before .pre .1 .1 .1 .1 .room)
+seek-parts-same-length-2 t c =
+    let start = c .before .before .before .before .before .before .before .before .before in
+    c .before .before .loop .inv .1 .1 .room ∙ sym (start .pre .1 .1 .1 .1 .room)
 
 seek-parts-returns-3 : seek-parts-needs seek-parts-lts.Need-returns-3
 seek-parts-returns-3 t c =
-    let (searched, (tried, (kind, remembered))) = c .before .before .before .before .before .before .before .before .before .pre .1 in
-    let (none-missed, now-remembered) = c .before .before .loop .inv .1 in
-    (judged-proved (c .proved .ensures) (sym (all-proved searched tried kind _ _ _ _ _ (omega (arith, c .before .loop-test .left, c .before .before .loop .inv .0)) none-missed)), now-remembered)
+    let start = c .before .before .before .before .before .before .before .before .before in
+    let (searched, (tried, (kind, remembered))) = start .pre .1 in
+    let (none-missed, now-remembered) = c .before .before .loop .inv .1 in (
+      judged-proved (c .proved .ensures) (sym (all-proved searched tried kind _ _ _ _ _ (omega
+          (arith, c .before .loop-test .left, c .before .before .loop .inv .0)) none-missed)),
+      now-remembered,
+    )
 
 -- a place of `seek_through`, or a need, where its measure is t; and what it needs, whatever its measure is
 abbrev seek-through-Place : Type 1
@@ -835,7 +1015,8 @@ seek-through-credential-requires t c κs = search needs
 
 seek-through-ends-word-requires : seek-through-needs seek-through-lts.Need-ends-word-requires
 seek-through-ends-word-requires t c κs =
-    let (searched, (tried, remembered)) = c .before .before .before .before .before .before .pre .1 in
+    let start = c .before .before .before .before .before .before in
+    let (searched, (tried, remembered)) = start .pre .1 in
     (searched .wellFormed, (searched .indexed .placed, below-most (searched .wellFormed) _ (tried .there)))
 
 seek-through-found-requires : seek-through-needs seek-through-lts.Need-found-requires
@@ -843,21 +1024,24 @@ seek-through-found-requires t c κs = search needs
 
 seek-through-seek-parts-requires : seek-through-needs seek-through-lts.Need-seek-parts-requires
 seek-through-seek-parts-requires t c κs =
-    let (searched, (tried, remembered)) = c .before .before .before .before .before .before .before .pre .1 in
+    let start = c .before .before .before .before .before .before .before in
+    let (searched, (tried, remembered)) = start .pre .1 in
     let kind = kind-read _ _ _ (c .before .before .credential .ensures) 2 (c .before .match .keys2) in
-    (omega (arith, c .before .before .before .before .before .before .before .pre .0), (searched, (tried, (inl kind, remembered))))
+    (omega (arith, start .pre .0), (searched, (tried, (inl kind, remembered))))
 
 seek-through-seek-linked-requires : seek-through-needs seek-through-lts.Need-seek-linked-requires
 seek-through-seek-linked-requires t c κs =
-    let (searched, (tried, remembered)) = c .before .before .before .before .before .before .before .pre .1 in
+    let start = c .before .before .before .before .before .before .before in
+    let (searched, (tried, remembered)) = start .pre .1 in
     let kind = kind-read _ _ _ (c .before .before .credential .ensures) 3 (c .before .match .keys3) in
-    (omega (arith, c .before .before .before .before .before .before .before .pre .0), (searched, (tried, (kind, remembered))))
+    (omega (arith, start .pre .0), (searched, (tried, (kind, remembered))))
 
 seek-through-seek-parts-requires-2 : seek-through-needs seek-through-lts.Need-seek-parts-requires-2
 seek-through-seek-parts-requires-2 t c κs =
-    let (searched, (tried, remembered)) = c .before .before .before .before .before .before .before .pre .1 in
+    let start = c .before .before .before .before .before .before .before in
+    let (searched, (tried, remembered)) = start .pre .1 in
     let kind = kind-read _ _ _ (c .before .before .credential .ensures) 4 (c .before .match .keys4) in
-    (omega (arith, c .before .before .before .before .before .before .before .pre .0), (searched, (tried, (inr kind, remembered))))
+    (omega (arith, start .pre .0), (searched, (tried, (inr kind, remembered))))
 
 seek-through-nothing-requires : seek-through-needs seek-through-lts.Need-nothing-requires
 seek-through-nothing-requires t c κs = search needs
@@ -867,9 +1051,14 @@ seek-through-failed-requires t c κs = search needs
 
 seek-through-returns : seek-through-needs seek-through-lts.Need-returns
 seek-through-returns t c =
-    let (searched, (tried, remembered)) = c .before .before .before .before .before .before .before .before .pre .1 in
-    let kind = kind-read _ _ _ (c .before .before .before .credential .ensures) 1 (c .before .before .match .keys1) in
-    (judged-found _ (c .found .ensures) (λ x. c .before .ends-word .ensures ∙ sym (cell-named searched tried _ _ _ _ kind)), remembered)
+    let at-credential = c .before .before .before in
+    let start = at-credential .before .before .before .before .before in
+    let (searched, (tried, remembered)) = start .pre .1 in
+    let kind = kind-read _ _ _ (at-credential .credential .ensures) 1 (c .before .before .match .keys1) in (
+      judged-found _ (c .found .ensures) (λ x. c .before .ends-word .ensures ∙ sym
+          (cell-named searched tried _ _ _ _ kind)),
+      remembered,
+    )
 
 seek-through-same-length : seek-through-needs seek-through-lts.Need-same-length
 seek-through-same-length t c = search needs
@@ -891,10 +1080,12 @@ seek-through-returns-4 t c = search needs
 
 seek-through-returns-5 : seek-through-needs seek-through-lts.Need-returns-5
 seek-through-returns-5 t c =
-    let (searched, (tried, remembered)) = c .before .before .before .before .before .before .before .before .pre .1 in
+    let at-credential = c .before .before .before in
+    let start = at-credential .before .before .before .before .before in
+    let (searched, (tried, remembered)) = start .pre .1 in
     let no = c .before .before .match .rest in (
       judged-never (c .failed .ensures) (c .before .nothing .ensures) (λ b.
-          sym (kind-other _ _ _ (c .before .before .before .credential .ensures) _ _ _ (no .0 .0 .0 .1) (no .0 .0 .1) (no .0 .1) (no .1))),
+          sym (kind-other _ _ _ (at-credential .credential .ensures) _ _ _ (no .0 .0 .0 .1) (no .0 .0 .1) (no .0 .1) (no .1))),
       remembered,
     )
 
