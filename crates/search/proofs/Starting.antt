@@ -1,25 +1,38 @@
 -- The search begins at the query's goal, by the places of its principal and role.
 use mathlib.Core.Path.{_≡_, refl, sym, ap, _∙_}
 use mathlib.Core.List.{List}
-use mathlib.Core.Bool.{Bool, false}
+use mathlib.Core.Bool.{Bool, true, false, not}
 use Prim.Native.Nat.{ℕ, _<_, _≤_}
 use native.Mathlib.Omega.{arith}
 use lib.ListN.{getD}
 use borrow.Author.Tests.{lt-ltb}
-use Rattle.sets.specs.Sets.{inSet}
-use Rattle.sets.proofs.Tests.{and-is, same-test}
+use Rattle.sets.proofs.Tests.{and-both, and-second, failed, passed}
 use Rattle.table.specs.Layout.{credentials, principal}
 use Rattle.table.specs.declared.Query.{Query}
 use Rattle.automata.specs.Together.{startingSets}
 use Rattle.automata.specs.declared.StateSets.{StateSets}
 use Rattle.derivation.specs.Rules.{goal, goalOf}
+use Rattle.derivation.proofs.Above.{depth-fits}
 use Rattle.members.specs.Places.{personAt, roleAt}
 use Rattle.members.specs.Above.{nothingAbove}
-use Rattle.members.specs.Members.{Members, goalPerson, goalRole, lesser, listed, rowCell}
+use Rattle.members.specs.Members.{Members, goalPerson, goalRole, listed}
 use Rattle.members.proofs.Places.{person-is, person-stands}
-use Rattle.search.specs.Search.{Prepared, Stands, proves, provable, provesAt}
+use Rattle.search.specs.Search.{Prepared, Searched, Stands, proves, provable, provesAt}
+use Rattle.search.specs.Failing.{mayBeProved}
+use Rattle.search.proofs.Below.{goal-unlisted}
 use Rattle.search.proofs.Exact.{members-exact}
 use Rattle.search.proofs.Placing.{proves-at, stands-at, unnamed-unproved}
+
+-- the search may be asked with the members within the query's depth
+pub goal-searched : {t : List ℕ} {q : Query} {index : List ℕ} → Prepared t q index → {S depth last : ℕ} {rows : List ℕ}
+    → depth ≡ q .depth → Members t S (q .depth) last rows → Searched t index rows S depth last
+goal-searched {q = q} prepared levels members =
+    record {
+      wellFormed = prepared .wellFormed;
+      indexed = prepared .indexed;
+      members = rw levels members;
+      shallow = omega (arith, depth-fits q (prepared .valid), levels);
+    }
 
 module _ {t : List ℕ} {q : Query} {index : List ℕ} (prepared : Prepared t q index) {person : ℕ}
     (who : person ≡ getD index goalPerson 0) where
@@ -54,14 +67,19 @@ module _ {t : List ℕ} {q : Query} {index : List ℕ} (prepared : Prepared t q 
         ∙ proves-at t S A (q .depth) nothingAbove (startingSets t) (personAt t (q .principal .0)) (goalOf q .role)
         ∙ ap (λ p. proves t S A (q .depth) nothingAbove (startingSets t) (goal p (goalOf q .role))) named
 
-    -- no automaton is imposed: the row of the depth tells it
-    pub goal-listed : (S A depth : ℕ) {last row : ℕ} {rows : List ℕ} {told : Bool} → depth ≡ q .depth
-        → Members t S (q .depth) last rows → A ≡ 0 → row ≡ lesser depth last
-        → told ≡ inSet (getD rows (rowCell row place) 0) person → told ≡ provable t q S A
-    unfolding provable listed
-    goal-listed S A depth levels members free the-row e =
-        let g = goalOf q in
-        let exact = same-test _ _ (members .only (q .depth) (omega arith) g) (members .every (q .depth) (omega arith) g) in
-        rw (the-row, levels, at-person, at-place) at e ∙ sym (and-is (lt-ltb _ _ inside) refl) ∙ exact
-        ∙ members-exact t (prepared .wellFormed) S (q .depth) (startingSets t) g
-        ∙ ap (λ x. proves t S x (q .depth) nothingAbove (startingSets t) g) (sym free)
+    -- the row of the depth tells who is none, and where no automaton is imposed, who is one
+    module _ (S A depth : ℕ) {last : ℕ} {rows : List ℕ} (levels : depth ≡ q .depth) (members : Members t S (q .depth) last rows)
+        {told : Bool} (e : told ≡ mayBeProved t rows last person place depth) where
+      pub goal-missing : {index′ : List ℕ} → Searched t index′ rows S depth last → not told ≡ true → false ≡ provable t q S A
+      goal-missing searched off =
+          goal-found S A depth (startingSets t) levels refl
+          (sym (goal-unlisted t S A depth (startingSets t) person place goal-stands searched (failed e off) nothingAbove))
+
+      pub goal-listed : A ≡ 0 → not told ≡ false → true ≡ provable t q S A
+      unfolding provable listed mayBeProved
+      goal-listed free on =
+          let g = goalOf q in
+          let row = rw (levels, at-person, at-place) at (and-second _ _ (and-second _ _ (passed e on))) in
+          sym (members .only (q .depth) (omega arith) g (and-both (lt-ltb _ _ inside) row))
+          ∙ members-exact t (prepared .wellFormed) S (q .depth) (startingSets t) g
+          ∙ ap (λ x. proves t S x (q .depth) nothingAbove (startingSets t) g) (sym free)

@@ -10,6 +10,7 @@ use sets::AutomatonSet;
 use sets::CredentialSet;
 use table::Number;
 use table::Role;
+use table::SIMPLE_MEMBERSHIP;
 use table::layout;
 ghost use mathlib.Core.Path.{_≡_};
 ghost use Prim.Native.Nat.{suc, _<_, _≤_};
@@ -61,7 +62,8 @@ pub fn goal_search(
     answer.proved
 }
 
-// Credential i + 1 proves the goal, with some middle; so many levels are left for what it asks.
+// Credential i + 1 proves the goal, with some middle; so many levels are left for what it asks. One that asks nothing needs no
+// memory.
 pub fn credential_search(
     table: &[Number],
     index: &[u8],
@@ -79,6 +81,10 @@ pub fn credential_search(
         (proves (now (table .entry)) (terms .allowed) (terms .constraints) levels above states)
         (part (terms .constraints) (acceptingSet (now (table .entry)) states)) (goalAt (now (table .entry)) person i) (suc i) ⌝ }
 {
+    let credential = layout::credential(table, i + 1);
+    if credential.kind == SIMPLE_MEMBERSHIP {
+        return ends_word(table, index, terms.constraints, person, i, states);
+    }
     let mut memory = [0; failures::CELLS];
     let answer = seeking::seek_through(
         table,

@@ -54,8 +54,11 @@ fn provable(
     }
     let place = members::goal_role(index);
     let levels = layout::wide(query.depth);
+    if !goals::may_be_proved(table, rows, terms.last, person, place, levels) {
+        return false;
+    }
     if terms.constraints == 0 {
-        return goals::is_listed(rows, goals::row_of(levels, terms.last), person, place);
+        return true;
     }
     goals::goal_search(
         table,

@@ -5,9 +5,8 @@ use native.Mathlib.Omega.{arith}
 use Prim.Native.Nat.{_<_}
 use denote.Ref.{now}
 use Rattle.table.specs.Layout.{credentials}
-use Rattle.derivation.proofs.Above.{depth-fits}
-use Rattle.search.proofs.Placing.{below-most, row-fits}
-use Rattle.search.proofs.Starting.{goal-found, goal-listed, goal-stands, goal-unnamed}
+use Rattle.search.proofs.Placing.{below-most}
+use Rattle.search.proofs.Starting.{goal-found, goal-listed, goal-missing, goal-searched, goal-stands, goal-unnamed}
 use borrow.Author.Needs.{needs}
 use Rattle.search.proofs.provable.Statement.{statement}
 use Rattle.search.proofs.provable.Tie as tie
@@ -37,25 +36,27 @@ from at = at .before .before .before .before .before .before .before .before
 there : (at : tie.After-wide) → at .before .before .before .before .goal-person .result < credentials (now (from at .args .table))
 there at = omega (arith, at .before .before .if1 .left, at .before .before .before .credentials .ensures .same)
 
-row-of-requires : tie.Need-row-of-requires
-row-of-requires c κs = search needs
-
-is-listed-requires : tie.Need-is-listed-requires
-is-listed-requires c κs =
-    let at = c .before .before .before in
-    let pre = from at .pre in
-    let row = rw (at .wide .ensures .0) at (c .row-of .ensures) in (
-      (pre .1 .room, row-fits (pre .1) row),
-      (below-most (pre .0 .wellFormed) _ (there at), at .before .goal-role .ensures .1),
+may-be-proved-requires : tie.Need-may-be-proved-requires
+may-be-proved-requires c κs =
+    let at = c in
+    let pre = from at .pre in (
+      pre .0 .wellFormed,
+      ((pre .1 .room, pre .1 .few), (below-most (pre .0 .wellFormed) _ (there at), at .before .goal-role .ensures .1)),
     )
 
 returns-2 : tie.Need-returns-2
 returns-2 c =
+    let at = c .before .before in
+    goal-missing (from at .pre .0) (at .before .before .before .before .goal-person .ensures .0) (there at)
+    (at .before .goal-role .ensures .0) _ _ _ (at .wide .ensures .0) (from at .pre .1) (c .before .may-be-proved .ensures) (goal-searched (from at .pre .0) (at .wide .ensures .0) (from at .pre .1))
+    (c .if2 .taken)
+
+returns-3 : tie.Need-returns-3
+returns-3 c =
     let at = c .before .before .before .before in
-    let pre = from at .pre in
-    goal-listed (pre .0) (at .before .before .before .before .goal-person .ensures .0) (there at) (at .before .goal-role .ensures .0)
-    _ _ _ (at .wide .ensures .0) (pre .1) (c .before .before .if2 .taken) (c .before .row-of .ensures)
-    (c .is-listed .ensures)
+    goal-listed (from at .pre .0) (at .before .before .before .before .goal-person .ensures .0) (there at)
+    (at .before .goal-role .ensures .0) _ _ _ (at .wide .ensures .0) (from at .pre .1) (c .before .before .before .may-be-proved .ensures) (c .if3 .taken)
+    (c .before .before .if2 .left)
 
 start-requires : tie.Need-start-requires
 start-requires c κs = search needs
@@ -65,21 +66,15 @@ nothing-requires c κs = search needs
 
 goal-search-requires : tie.Need-goal-search-requires
 goal-search-requires c κs =
-    let at = c .before .before .before .before in
-    let pre = from at .pre in (
-      record {
-        wellFormed = pre .0 .wellFormed;
-        indexed = pre .0 .indexed;
-        members = rw (at .wide .ensures .0) (pre .1);
-        shallow = omega (arith, depth-fits _ (pre .0 .valid), at .wide .ensures .0);
-      },
-      goal-stands (pre .0) (at .before .before .before .before .goal-person .ensures .0) (there at)
-          (at .before .goal-role .ensures .0),
+    let at = c .before .before .before .before .before .before in
+    let who = at .before .before .before .before .goal-person .ensures .0 in (
+      goal-searched (from at .pre .0) (at .wide .ensures .0) (from at .pre .1),
+      goal-stands (from at .pre .0) who (there at) (at .before .goal-role .ensures .0),
     )
 
-returns-3 : tie.Need-returns-3
-returns-3 c =
-    let at = c .before .before .before .before .before in
+returns-4 : tie.Need-returns-4
+returns-4 c =
+    let at = c .before .before .before .before .before .before .before in
     goal-found (from at .pre .0) (at .before .before .before .before .goal-person .ensures .0) (there at)
     (at .before .goal-role .ensures .0) _ _ _ _ (at .wide .ensures .0) (c .before .before .start .ensures)
     (rw (c .before .nothing .ensures) at (c .goal-search .ensures))
@@ -93,10 +88,10 @@ provable-spec =
     returns
     goal-role-requires
     wide-requires
-    row-of-requires
-    is-listed-requires
+    may-be-proved-requires
     returns-2
+    returns-3
     start-requires
     nothing-requires
     goal-search-requires
-    returns-3)
+    returns-4)

@@ -1,6 +1,6 @@
 -- `writing::walk::from_goal` meets its contract. Assumes nothing.
 use native.Mathlib.Omega.{arith}
-use Rattle.derivation.proofs.Above.{depth-fits}
+use Rattle.search.proofs.Starting.{goal-searched}
 use Rattle.writing.proofs.Beginning.{begins-proved, begins-stands, begins-walked}
 use borrow.Author.Needs.{needs}
 use Rattle.writing.proofs.walk.from_goal.Statement.{statement}
@@ -35,12 +35,7 @@ walk-requires c κs =
     let who = at .before .before .before .goal-person .ensures .0 in
     let place = at .before .before .goal-role .ensures .0 in
     let levels = at .before .wide .ensures .0 in (
-      record {
-        wellFormed = pre .0 .wellFormed;
-        indexed = pre .0 .indexed;
-        members = rw levels (pre .1 .0);
-        shallow = omega (arith, depth-fits _ (pre .0 .valid), levels);
-      },
+      goal-searched (pre .0) levels (pre .1 .0),
       (
         begins-stands (pre .0) (pre .1 .0) _ (pre .1 .1 .0) who place,
         (
