@@ -18,7 +18,7 @@ use Rattle.members.specs.Above.{pairAbove}
 use Rattle.members.specs.declared.above.Above.{Above}
 
 abbrev pub slots : ℕ
-slots = 64
+slots = 128
 
 abbrev pub slotCells : ℕ
 slotCells = 32

@@ -13,7 +13,7 @@ ghost use Rattle.failures.specs.Failures.{Joined, Kept, MetAt, Recalled,
 ghost use Rattle.failures.specs.Cells.{CoveredAt, StatesAt, Written};
 
 // Slots of thirty-two cells each.
-const SLOTS: usize = 64;
+const SLOTS: usize = 128;
 
 const SLOT_CELLS: usize = 32;
 

@@ -9,11 +9,11 @@ use Rattle.failures.proofs.slot.Statement.{statement}
 use Rattle.failures.proofs.slot.Tie as tie
 
 -- what the loop adds to is small, and so is a state set
-sum-fits : (sum set : ℕ) → sum < 262144 → Fits w16 set → Fits w64 (sum * 37 + set)
+sum-fits : (sum set : ℕ) → sum < 2097152 → Fits w16 set → Fits w64 (sum * 37 + set)
 sum-fits sum set small few = record { fits = omega (arith, few .fits) }
 
 abbrev Inv-loop : tie.InvT-loop
-Inv-loop person place states sum₀ j₀ sum j = (j ≤ mostAutomata) × (sum < 262144)
+Inv-loop person place states sum₀ j₀ sum j = (j ≤ mostAutomata) × (sum < 2097152)
 
 abbrev μ-loop : tie.MeasureT-loop
 μ-loop person place states sum₀ j₀ sum j = mostAutomata - j
