@@ -1,46 +1,46 @@
 -- The node that is chosen: the least credential proves the goal, so with the least middle it applies, and each goal that it
 -- then asks is proved.
-use mathlib.Core.Path.{_≡_, refl, sym, ap, ap₂, _∙_}
+use mathlib.Core.Path.{_≡_, refl, sym, ap, _∙_}
 use mathlib.Core.List.{List, [], _∷_, map}
-use mathlib.Core.Bool.{Bool, true, false}
-use mathlib.Core.Option.{Option, none, some}
+use mathlib.Core.Bool.{Bool, true}
+use mathlib.Core.Option.{none, some}
 use mathlib.Core.Logic.{_⊎_, inl, inr, ⊎-elim}
 use Prim.Native.Nat.{ℕ, zero, suc, _+_, _<_, _≤_}
 use native.Mathlib.Omega.{arith}
 use native.Mathlib.Decide.{decLt}
 use lib.ListN.{getD, length, length-map}
 use borrow.Author.Tests.{ltb-true, ne-eqb}
-use Rattle.sets.specs.Logic.{_and_, anyBelow, pick}
+use Rattle.sets.specs.Logic.{_and_, pick}
 use Rattle.sets.specs.Sets.{part}
-use Rattle.sets.proofs.Tests.{and-both, and-first, and-is, and-second, false-true}
+use Rattle.sets.proofs.Tests.{and-first, and-is, and-second, false-true}
 use Rattle.table.specs.Limits.{mostParts, mostPrincipals}
-use Rattle.table.specs.Layout.{credential, credentials, parts, principal, role}
+use Rattle.table.specs.Layout.{credential, credentials, principal, role}
 use Rattle.table.specs.declared.Role.{Role}
 use Rattle.table.specs.declared.Credential.{Credential}
 use Rattle.table.specs.declared.Goal.{Goal}
 use Rattle.table.proofs.Fields.{principal-range}
 use Rattle.automata.specs.Together.{acceptingSet}
 use Rattle.automata.specs.declared.StateSets.{StateSets}
-use Rattle.derivation.specs.Rules.{asks, goal, premises, when}
+use Rattle.derivation.specs.Rules.{goal, premises}
 use Rattle.derivation.specs.Held.{noGoal}
 use Rattle.derivation.proofs.Asking.{asks-3, own-role, when-on}
 use Rattle.derivation.proofs.Applying.{same-role}
 use Rattle.derivation.proofs.Ruling.{Rule, by-kind, rule-applied}
 use Rattle.derivation.proofs.Ruling.Rule.{membership, containment, linking, intersection}
 use Rattle.members.specs.Places.{isPerson, least, personAt, roleAt}
-use Rattle.members.specs.Members.{askedCell, linkCell, padded, rolesAsked}
+use Rattle.members.specs.Members.{askedCell, linkCell, rolesAsked}
 use Rattle.members.specs.Trying.{everyGoal, mayUse, provedPremises, provesBy}
 use Rattle.members.proofs.Places.{is-person, least-passes, least-reached, person-is, person-stands, role-stands}
 use Rattle.members.proofs.Reading.{as-read, numbered}
 use Rattle.members.proofs.Indexing.{padded-inside}
-use Rattle.members.proofs.ByKind.{by-none, byMiddle, each-part, middleAt, middleRole, names-principal, parts-few, roles-2}
+use Rattle.members.proofs.ByKind.{by-none, each-part, middleAt, middleRole, names-principal, parts-few, roles-2}
 use Rattle.members.proofs.ByKind.{roles-4, with-middle}
 use Rattle.members.specs.declared.above.Above.{Above}
 use Rattle.search.specs.Search.{Searched, Stands, Tried, goalAt, proves, provesAt, provesWith}
 use Rattle.search.proofs.Placing.{cell-middle, first-cell, linkedRole, linking-role, own, part-cell, partRole, proved-some}
 use Rattle.search.proofs.Placing.{proves-at, second-cell, stands-at, unnamed-unproved}
 use Rattle.choice.specs.declared.Node.{Node}
-use Rattle.choice.specs.Choice.{Children, Chosen, LeastMiddle, Linked, Unlinked, asked, leads, leastCredential, leastMiddle}
+use Rattle.choice.specs.Choice.{Chosen, LeastMiddle, Linked, Unlinked, asked, leads, leastCredential, leastMiddle}
 use Rattle.choice.proofs.Candidates.{tried-at}
 use Rattle.choice.proofs.Nodes.{asks-none}
 use Rattle.choice.proofs.Linking.{first-stands, second-stands}

@@ -1,16 +1,14 @@
 -- No pair of principal and role comes twice on a branch: goals are the same where their principals, owners and names are.
 use mathlib.Core.Path.{_≡_, refl, sym, ap, ap₂, _∙_}
 use mathlib.Core.List.{List, [], _∷_}
-use mathlib.Core.Bool.{Bool, true, false, not}
+use mathlib.Core.Bool.{true, not}
 use Prim.Native.Nat.{ℕ, zero, suc, _<_}
 use native.Mathlib.Omega.{arith}
 use lib.ListN.{getD, length}
-use lib.Dec.{eqb}
 use borrow.Author.Tests.{eq-eqb, eqb-true, not-true}
 use Rattle.sets.specs.Logic.{_and_}
 use Rattle.sets.proofs.Tests.{and-both, and-first, and-second, false-true, refuted}
 use Rattle.table.specs.Layout.{principal, sameRole}
-use Rattle.table.specs.declared.Role.{Role}
 use Rattle.table.specs.declared.Goal.{Goal}
 use Rattle.derivation.specs.Rules.{fresh, goal, sameGoal}
 use Rattle.derivation.specs.Held.{noGoal}

@@ -2,10 +2,10 @@
 use mathlib.Core.Path.{_≡_, refl, sym, ap, _∙_}
 use mathlib.Core.List.{List, [], _∷_}
 use mathlib.Core.Bool.{Bool, true, false, not}
-use Prim.Native.Nat.{ℕ, zero, suc, _^_, _<_, _≤_}
+use Prim.Native.Nat.{ℕ, suc, _^_, _<_, _≤_}
 use native.Mathlib.Omega.{arith}
 use native.Mathlib.Decide.{ℕ-discrete}
-use lib.ListN.{getD, length, length-replicate, length-set, replicate, set}
+use lib.ListN.{getD, length, length-replicate, length-set, set}
 use lib.Seq.{getD-set-other, getD-set-same}
 use lib.Bits.{bitOr}
 use lib.Dec.{eqb}

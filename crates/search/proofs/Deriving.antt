@@ -1,7 +1,7 @@
 -- A derivation within so many levels, by credentials of a set, proves only what the table of members has at that level: the law of
 -- members by levels, over derivations. The search cites it over what it finds itself (Placing.antt).
 use mathlib.Core.Path.{_≡_, refl}
-use mathlib.Core.List.{List, [], _∷_}
+use mathlib.Core.List.{List, _∷_}
 use mathlib.Core.Bool.{Bool, true}
 use mathlib.Core.Option.{some}
 use Prim.Native.Nat.{ℕ, suc, _-_, _≤_}

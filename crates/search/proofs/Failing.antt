@@ -4,18 +4,16 @@ use mathlib.Core.Path.{_≡_, refl, sym, ap, _∙_}
 use mathlib.Core.List.{List}
 use mathlib.Core.Bool.{Bool, true, false, not}
 use mathlib.Core.Logic.{_⊎_, inl, inr}
-use Prim.Native.Nat.{ℕ, zero, suc, _+_, _<_, _≤_}
+use Prim.Native.Nat.{ℕ, _+_, _<_, _≤_}
 use native.Mathlib.Omega.{arith}
 use native.Mathlib.Decide.{ℕ-discrete, decLt}
 use lib.ListN.{getD, length}
 use lib.Seq.{ext-getD}
-use lib.Bits.{bitOr}
-use lib.Dec.{eqb, ltb}
+use lib.Dec.{eqb}
 use borrow.Author.Tests.{eq-eqb, eqb-true}
 use Rattle.sets.specs.Logic.{_and_, _or_}
-use Rattle.sets.specs.Sets.{inSet, part}
-use Rattle.sets.proofs.Tests.{and-both, and-first, and-none, and-second, false-true, or-either, or-first, or-second, refuted}
-use Rattle.sets.proofs.Members.{inSet-or, inSet-zero, part-member}
+use Rattle.sets.proofs.Tests.{and-both, and-first, and-second, false-true, or-either, or-first, or-second, refuted}
+use Rattle.sets.proofs.Members.{inSet-or, part-member}
 use Rattle.table.specs.Limits.{mostAutomata, mostCredentials}
 use Rattle.automata.specs.declared.StateSets.{StateSets}
 use Rattle.members.specs.Above.{nothingAbove, pairAbove, withPair}
@@ -24,14 +22,11 @@ use Rattle.members.proofs.Branching.{nothing-pair, nothing-room, pair-room, wit
 use Rattle.failures.specs.Failures.{Holds, Joined, Kept, MetAt, Recalled, Spared, memoryCells, slotCell}
 use Rattle.failures.specs.Failures.{slotCells, slots}
 use Rattle.members.specs.Members.{Blank}
-use Rattle.search.specs.Search.{goalAt, proves, provesAt}
+use Rattle.search.specs.Search.{goalAt, provesAt}
 use Rattle.search.specs.Failing.{Covers, Failed, Fails, Judged, Remembered, Wide}
 use Rattle.search.specs.declared.seeking.Answer.{Answer}
 use Rattle.search.proofs.Exact.{proves-later}
 use Rattle.search.proofs.Placing.{level-none}
-
-covers-self : (above : Above) → Covers above above
-covers-self above p r l on = on
 
 covers-none : (above : Above) → Covers nothingAbove above
 covers-none above p r l on = absurd (false-true (sym (nothing-pair p r) ∙ on))

@@ -6,27 +6,26 @@ use mathlib.Core.List.{List, [], _∷_, _++_}
 use mathlib.Core.Bool.{Bool, true, false, not}
 use mathlib.Core.Option.{Option, none, some}
 use mathlib.Core.Logic.{_↔_}
-use Prim.Native.Nat.{ℕ, zero, suc, _-_, _^_, _≤_, _<_}
+use Prim.Native.Nat.{ℕ, zero, suc, _-_, _≤_, _<_}
 use native.Mathlib.Omega.{arith}
 use native.Mathlib.Numerals.{sub-one}
 use native.Mathlib.Decide.{decLt}
 use lib.ListN.{length}
-use lib.Bits.{bitOr}
 use lib.Dec.{eqb}
-use borrow.Author.Tests.{eq-eqb, eqb-true, ne-eqb, lt-leb, le-leb, le-ltb}
+use borrow.Author.Tests.{ne-eqb, lt-leb, le-leb, le-ltb}
 use Rattle.sets.specs.Logic.{_and_, _or_, anyBelow, pick}
-use Rattle.table.specs.Layout.{automata, credential, credentials, sameRole}
+use Rattle.table.specs.Layout.{automata, credential, credentials}
 use Rattle.table.specs.Holding.{WellFormed}
 use Rattle.table.specs.Checks.{within}
 use Rattle.table.specs.declared.Role.{Role}
 use Rattle.table.specs.declared.Goal.{Goal}
 use Rattle.table.specs.declared.Query.{Query}
-use Rattle.sets.proofs.Tests.{and-both, and-first, and-second, and-true, any-reached, any-shows, false-true, same-test}
+use Rattle.sets.proofs.Tests.{and-both, and-first, and-second, and-true, any-reached, any-shows, false-true}
 use Rattle.sets.specs.Sets.{inSet, meets, part}
 use Rattle.automata.specs.Automata.{accepts, acceptsFrom, starting}
 use Rattle.automata.specs.Together.{acceptingSet, startingSets}
 use Rattle.automata.specs.declared.StateSets.{StateSets}
-use Rattle.sets.proofs.Members.{inSet-or, inSet-pow, inSet-zero, part-member, part-shown, setOf-members}
+use Rattle.sets.proofs.Members.{inSet-zero, part-member, part-shown, setOf-members}
 use Rattle.automata.proofs.Moves.{run-empty}
 use Rattle.derivation.specs.Rules.{fresh, goalOf, premises}
 use Rattle.derivation.specs.Forest.{Derives, Forest, names}

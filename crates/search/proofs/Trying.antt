@@ -3,11 +3,11 @@ use mathlib.Core.Path.{_≡_, refl, sym, ap, ap₂, _∙_}
 use mathlib.Core.List.{List}
 use mathlib.Core.Bool.{Bool, true, false, not}
 use mathlib.Core.Logic.{_⊎_}
-use Prim.Native.Nat.{ℕ, zero, suc, _+_, _-_, _^_, _<_}
+use Prim.Native.Nat.{ℕ, zero, suc, _+_, _-_, _<_}
 use native.Mathlib.Omega.{arith}
 use native.Mathlib.Numerals.{sub-one}
 use lib.ListN.{getD}
-use lib.Bits.{bitAnd, bitOr}
+use lib.Bits.{bitAnd}
 use lib.Dec.{eqb}
 use borrow.Author.Tests.{eq-eqb, eqb-true, lt-ltb, ne-eqb}
 use Rattle.sets.specs.Logic.{_and_, anyBelow}
@@ -16,7 +16,6 @@ use Rattle.sets.proofs.Tests.{and-both, and-is, and-is-off, and-none, and-secon
 use Rattle.sets.proofs.Tests.{any-shows, failed, passed, same-test}
 use Rattle.sets.proofs.Members.{inSet-and}
 use Rattle.table.specs.Layout.{credential, credentials, principal, role, sameRole}
-use Rattle.table.specs.declared.Role.{Role}
 use Rattle.table.specs.declared.Goal.{Goal}
 use Rattle.automata.specs.Together.{acceptingSet}
 use Rattle.automata.specs.declared.StateSets.{StateSets}
@@ -105,59 +104,6 @@ module _ {t index : List ℕ} (indexed : Indexed t index) {person place : ℕ} (
 
       pub next-unproved : anyBelow tried i ≡ false → by ≡ false → anyBelow tried (i + 1) ≡ false
       next-unproved before off = any-next tried i before (and-none _ (sym by-is ∙ off))
-
--- a goal is entered: a level is left, its pair of principal and role is not on the branch above, and branch and state sets are one
--- goal on
-pub record Entered (t index rows : List ℕ) (S levels last A : ℕ) (above deeper : Above) (s below : StateSets) (r : Role)
-    (person place n : ℕ) : Type 0 where
-  pub searched : Searched t index rows S levels last
-  pub stands : Stands t person place
-  pub there : place < credentials t
-  pub left : levels ≡ 0 → ⊥
-  pub new : pairAbove above person place ≡ false
-  pub read : r ≡ credential t (suc place) .role
-  pub moved : below ≡ stepped t A r s
-  pub deeper-is : deeper ≡ withPair above person place
-  pub all : n ≡ credentials t
-
-module _ {t index rows : List ℕ} {S levels last A : ℕ} {above deeper : Above} {s below : StateSets} {r : Role}
-    {person place n : ℕ} (entered : Entered t index rows S levels last A above deeper s below r person place n) where
-  -- credential c + 1 may be used for it and proves it
-  abbrev tries : ℕ → Bool
-  tries =
-      provesWith t S (proves t S A (levels - 1) deeper below) (part A (acceptingSet t below)) (goalAt t person place)
-
-  decided : {b : Bool} → anyBelow tries n ≡ b → b ≡ provesAt t S A levels above s person place
-  decided e =
-      sym (and-is (ap not (entered .new)) (rw (entered .moved, entered .read, entered .deeper-is, entered .all) at e))
-      ∙ place-step t S A levels above s person place (entered .stands) (entered .there) (entered .left)
-
-  -- each credential has been tried
-  pub none-proves : (i : ℕ) → i ≡ n → anyBelow tries i ≡ false → false ≡ provesAt t S A levels above s person place
-  none-proves i e none = decided (any-all _ i n e none)
-
-  -- credential i + 1 is looked at
-  module _ (i : ℕ) (l : i < n) {may : Bool} (told : may ≡ usable index S place i) where
-    inside : i < credentials t
-    inside = omega (arith, entered .all)
-
-    pub unused-next : anyBelow tries i ≡ false → may ≡ false → anyBelow tries (i + 1) ≡ false
-    unused-next =
-        next-unused (entered .searched .indexed) (entered .stands) (entered .there) S i inside
-        (proves t S A (levels - 1) deeper below) (part A (acceptingSet t below)) told
-
-    module _ (on : may ≡ true) {by : Bool}
-        (e : by
-        ≡ provesBy t (proves t S A (levels - 1) deeper below) (part A (acceptingSet t below)) (goalAt t person i) (suc i)) where
-      pub proves-here : by ≡ true → true ≡ provesAt t S A levels above s person place
-      proves-here proved =
-          decided (any-reached tries n i l
-          (passes-here (entered .searched .indexed) (entered .stands) (entered .there) S i inside _ _ told on e proved))
-
-      pub unproved-next : anyBelow tries i ≡ false → by ≡ false → anyBelow tries (i + 1) ≡ false
-      unproved-next =
-          next-unproved (entered .searched .indexed) (entered .stands) (entered .there) S i inside
-          (proves t S A (levels - 1) deeper below) (part A (acceptingSet t below)) told on e
 
 -- the search among the roles before role k
 pub asked-here : (index : List ℕ) (i k j : ℕ) → j < k → getD index (askedCell i j) 0 ≡ getD index (askedCell i k) 0
@@ -310,14 +256,3 @@ module _ {t index rows : List ℕ} {S levels last person i row j first second : 
           let none = rw (middle .row-is, middle .first-is, middle .second-is) at (sym (middle .told-is) ∙ off) in
           any-next tries-middle j before
           (middle-unlisted (middle .searched) (middle .tried) A above s (middle .kind) j (middle .there) none)
-
-      pub linked-first : {one : Bool} → one ≡ found j first → one ≡ false → anyBelow tries-middle (j + 1) ≡ false
-      linked-first e off =
-          let missing = sym (at-cell t S A levels above s j first _ (middle .first-is) e) ∙ off in
-          any-next tries-middle j before (and-none (isPerson t j) (and-is-off _ missing))
-
-      pub linked-second : {two : Bool} → two ≡ found person second → two ≡ false → anyBelow tries-middle (j + 1) ≡ false
-      linked-second e off =
-          let missing = sym (at-cell t S A levels above s person second _ (middle .second-is) e) ∙ off in
-          any-next tries-middle j before
-          (and-none (isPerson t j) (and-none (found j (getD index (askedCell i 0) 0)) missing))

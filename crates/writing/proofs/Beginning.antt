@@ -1,7 +1,7 @@
 -- The walk begins at the query's goal, which is proved: principal and role stand at the places that the index has for them.
-use mathlib.Core.Path.{_≡_, refl, sym, ap, ap₂, _∙_}
+use mathlib.Core.Path.{_≡_, refl, ap, ap₂, _∙_}
 use mathlib.Core.List.{List, [], _∷_}
-use mathlib.Core.Bool.{true, false}
+use mathlib.Core.Bool.{true}
 use Prim.Native.Nat.{ℕ, _<_}
 use native.Mathlib.Omega.{arith}
 use native.Mathlib.Decide.{decLt}
@@ -13,7 +13,6 @@ use Rattle.automata.specs.Together.{startingSets}
 use Rattle.automata.specs.declared.StateSets.{StateSets}
 use Rattle.derivation.specs.Rules.{goal, goalOf}
 use Rattle.derivation.specs.Forest.{written}
-use Rattle.members.specs.Places.{personAt, roleAt}
 use Rattle.members.specs.Above.{nothingAbove}
 use Rattle.members.specs.Members.{Members, goalPerson, goalRole}
 use Rattle.members.proofs.Places.{person-stands, role-stands}

@@ -2,8 +2,8 @@
 -- are followed by the records of what it asks, one after the other.
 use mathlib.Core.Path.{_≡_, refl, sym, ap, _∙_}
 use mathlib.Core.List.{List, [], _∷_, _++_, append-nil}
-use mathlib.Core.Bool.{true, false}
-use Prim.Native.Nat.{ℕ, zero, suc, _+_, _-_, _^_, _<_, _≤_}
+use mathlib.Core.Bool.{true}
+use Prim.Native.Nat.{ℕ, zero, suc, _+_, _-_, _<_, _≤_}
 use native.Mathlib.Omega.{arith}
 use native.Mathlib.Decide.{decLt, ℕ-discrete}
 use native.Mathlib.Numerals.{add-one}
@@ -28,7 +28,7 @@ use Rattle.search.proofs.Placing.{level-none, place-none, proves-at}
 use Rattle.choice.specs.declared.Node.{Node}
 use Rattle.choice.specs.Choice.{Chosen, asked, leastCredential, leastMiddle}
 use Rattle.writing.specs.First.{firstForest}
-use Rattle.writing.specs.Walked.{Over, Walked}
+use Rattle.writing.specs.Walked.{Walked}
 use Rattle.writing.proofs.FirstNode.{first-end, first-found, first-node, firstAsked, firstBelow}
 use Rattle.writing.proofs.FirstNode.{firstCredential, firstMiddle}
 use Rattle.writing.proofs.Walking.{first-append, over-append, walked-append, walked-beyond}

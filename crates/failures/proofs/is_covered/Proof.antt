@@ -1,5 +1,5 @@
 -- `failures::is_covered` meets its contract: what the first r cells have is on the branch. Assumes nothing.
-use Prim.Native.Nat.{_-_, _≤_, _<_}
+use Prim.Native.Nat.{_-_, _≤_}
 use native.Mathlib.Omega.{arith}
 use Rattle.table.specs.Limits.{mostCredentials}
 use Rattle.sets.proofs.Tests.{false-true}

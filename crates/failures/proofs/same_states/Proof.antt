@@ -1,5 +1,5 @@
 -- `failures::same_states` meets its contract: the first j state sets are alike. Assumes nothing.
-use Prim.Native.Nat.{_-_, _≤_, _<_}
+use Prim.Native.Nat.{_-_, _≤_}
 use native.Mathlib.Omega.{arith}
 use Rattle.table.specs.Limits.{mostAutomata}
 use Rattle.sets.proofs.Tests.{false-true}
