@@ -25,7 +25,7 @@ pub const CELLS: usize = SLOT_CELLS * SLOTS;
 
 const ROLES: usize = layout::MOST_CREDENTIALS as usize;
 
-// The sum by which a goal finds its slot takes in one state set after another, times this, and stays below 2^24.
+// The sum by which a goal finds its slot takes in one state set after another, times this, and stays below 2^21.
 const FACTOR: usize = 37;
 
 const SUMS: usize = SLOTS * SLOTS * SLOTS;

@@ -1,7 +1,7 @@
 // The search: whether the credentials of a set prove a membership when every word must be accepted by each of some automata,
 // and whether some accepted record uses only credentials of a set (docs/DEFINITION.md, "The list"). It knows of derivations what
 // `derivation` promises: which goals a credential asks, and what may not repeat on a branch.
-// specs/Search.antt and specs/Admits.antt say what the answers mean.
+// specs/Search.antt and specs/Admits.antt say what the answers mean, specs/Failing.antt what is remembered on the way.
 mod admission; // admission.rt: whether some accepted record uses only credentials of a set
 mod goals; // goals.rt: whether a goal or a credential is proved, and the search's tests
 mod seeking; // seeking.rt: a goal through a credential, and a credential through the goals of its premises
