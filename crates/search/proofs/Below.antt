@@ -22,7 +22,7 @@ use Rattle.automata.specs.declared.StateSets.{StateSets}
 use Rattle.members.specs.Above.{nothingAbove, pairAbove, withPair}
 use Rattle.members.specs.declared.above.Above.{Above}
 use Rattle.members.specs.Levels.{askedMembers}
-use Rattle.members.specs.Members.{Indexed, askedCell, lesser, linkCell, rowCell}
+use Rattle.members.specs.Members.{Indexed, askedCell, lesser}
 use Rattle.members.specs.Places.{isPerson}
 use Rattle.failures.specs.Failures.{Joined, Spared}
 use Rattle.search.specs.Search.{Searched, Stands, Tried, goalAt, proves, provesAt, provesWith, stepped, steppedOn}
@@ -229,24 +229,6 @@ module _ {t index rows : List ℕ} {S levels last person i row j first second : 
     link-found on is =
         let both = judged .passes is in
         sym (linked-found middle A above s _ on (sym (and-first _ _ both)) refl (sym (and-second _ _ both)) refl)
-
--- a middle as the code has read it
-pub middle-read : {t index rows : List ℕ} {S levels last person i row j first second : ℕ} {told : Bool}
-    → Searched t index rows S levels last → Tried t person i → credential t (suc i) .kind ≡ 3 → j < credentials t
-    → row ≡ lesser levels last → first ≡ getD index (askedCell i 0) 0 → second ≡ getD index (linkCell i j) 0
-    → told ≡ (inSet (getD rows (rowCell row first) 0) j and inSet (getD rows (rowCell row second) 0) person and isPerson t j)
-    → Middle t index rows S levels last person i row j first second told
-middle-read searched tried kind there row first second told =
-    record {
-      searched = searched;
-      tried = tried;
-      kind = kind;
-      there = there;
-      row-is = row;
-      first-is = first;
-      second-is = second;
-      told-is = told;
-    }
 
 -- one role, then the other
 module _ (t : List ℕ) (S A levels : ℕ) (s : StateSets) (j first person second : ℕ) where

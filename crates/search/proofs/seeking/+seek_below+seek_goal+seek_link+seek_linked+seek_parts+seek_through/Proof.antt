@@ -9,6 +9,7 @@ use mathlib.Core.Path.{_≡_, _∙_, refl, sym}
 use native.Mathlib.Omega.{arith}
 use lib.ListN.{length}
 use borrow.Author.Tests.{not-false, not-true}
+use denote.Ref.{now}
 use borrow.Author.Needs.{needs}
 use borrow.Fn.Kinds.{In, Out, PK}
 use borrow.Fn.PlainCycle.{Measures, is, falls, and}
@@ -23,10 +24,10 @@ use Rattle.search.proofs.Failing.{judged-told, recalled-failed, remembe
 use Rattle.search.proofs.Below.{goal-again, goal-failed, goal-proved}
 use Rattle.search.proofs.Below.{goal-unlisted, judged-failed, judged-found, judged-moved}
 use Rattle.search.proofs.Below.{link-failed, link-first, link-found, link-second, link-skipped, links-all, links-none}
-use Rattle.search.proofs.Below.{judged-never, judged-proved, middle-read, noneLinked}
-use Rattle.search.proofs.Below.{noneTried, opened, part-failed, parts-missed}
+use Rattle.search.proofs.Below.{judged-never, judged-proved, noneLinked}
+use Rattle.search.proofs.Below.{Open, noneTried, opened, part-failed, parts-missed}
 use Rattle.search.proofs.Below.{tried-all, tried-failed, tried-none, tried-proved, tried-unused}
-use Rattle.search.proofs.Trying.{all-proved, part-proved, part-repeated, stands-first, stands-part, stands-second}
+use Rattle.search.proofs.Trying.{Middle, all-proved, part-proved, part-repeated, stands-first, stands-part, stands-second}
 use Rattle.search.proofs.seeking.seek_below.Reads as seek-below
 use Rattle.search.proofs.seeking.seek_below.Kinds as seek-below-kinds
 use Rattle.search.proofs.seeking.+seek_below+seek_goal+seek_link+seek_linked+seek_parts+seek_through.Lts-seek_below as seek-below-lts
@@ -442,6 +443,19 @@ seek-goal-place place t = place (seek-goal-claims t) (seek-goal-at t) seek-goal.
 abbrev seek-goal-needs : seek-goal-Place → Type 0
 seek-goal-needs need = (t : ℕ) → seek-goal-place need t
 
+-- the goal may be sought
+module _ (t : ℕ) (at : seek-goal-place seek-goal-lts.Else1 t) where
+  abbrev seek-goal-start : seek-goal-place seek-goal-lts.Start t
+  seek-goal-start = at .before .before .before .before .before .before
+
+  seek-goal-open : let from = seek-goal-start .args in Open (now (from .table)) (from .levels) (from .person) (from .place)
+  seek-goal-open =
+      let (searched, (stands, remembered)) = seek-goal-start .pre .1 in
+      opened searched stands (at .before .may-be-proved .ensures) (at .if1 .left)
+
+  seek-goal-few : let from = seek-goal-start .args in (from .person < mostCredentials) × (from .place < mostCredentials)
+  seek-goal-few = (seek-goal-open .few-persons, seek-goal-open .few-places)
+
 -- how long the arrays are that it is given
 module _ (t : ℕ) (at : seek-goal-place seek-goal-lts.Start t) where
   seek-goal-eight : length (at .args .states .sets) ≡ mostAutomata
@@ -471,23 +485,13 @@ seek-goal-returns t c =
     )
 
 seek-goal-has-requires : seek-goal-needs seek-goal-lts.Need-has-requires
-seek-goal-has-requires t c κs =
-    let start = c .before .before .before .before .before .before in
-    let (searched, (stands, remembered)) = start .pre .1 in
-    let at-goal = opened searched stands (c .before .may-be-proved .ensures) (c .if1 .left) in
-    (at-goal .few-persons, at-goal .few-places)
+seek-goal-has-requires t c κs = seek-goal-few t c
 
 seek-goal-nothing-requires-2 : seek-goal-needs seek-goal-lts.Need-nothing-requires-2
 seek-goal-nothing-requires-2 t c κs = search needs
 
 seek-goal-with-requires : seek-goal-needs seek-goal-lts.Need-with-requires
-seek-goal-with-requires t c κs =
-    let at-if1 = c .before .before .before in
-    let at-may-be-proved = at-if1 .before in
-    let start = at-may-be-proved .before .before .before .before .before in
-    let (searched, (stands, remembered)) = start .pre .1 in
-    let at-goal = opened searched stands (at-may-be-proved .may-be-proved .ensures) (at-if1 .if1 .left) in
-    (at-goal .few-persons, at-goal .few-places)
+seek-goal-with-requires t c κs = seek-goal-few t (c .before .before .before)
 
 seek-goal-failed-requires-2 : seek-goal-needs seek-goal-lts.Need-failed-requires-2
 seek-goal-failed-requires-2 t c κs = search needs
@@ -496,22 +500,14 @@ seek-goal-returns-2 : seek-goal-needs seek-goal-lts.Need-returns-2
 seek-goal-returns-2 t c =
     let at-if2 = c .before .before .before in
     let at-has = at-if2 .before in
-    let at-if1 = at-has .before in
-    let at-may-be-proved = at-if1 .before in
-    let start = at-may-be-proved .before .before .before .before .before in
-    let (searched, (stands, remembered)) = start .pre .1 in
-    let at-goal = opened searched stands (at-may-be-proved .may-be-proved .ensures) (at-if1 .if1 .left) in
-    let again = goal-again _ _ _ _ _ _ _ stands (at-goal .there) (at-goal .left) (at-goal .few-places) _ (sym
-    (at-has .has .ensures) ∙ at-if2 .if2 .taken) in
+    let (searched, (stands, remembered)) = seek-goal-start t (at-has .before) .pre .1 in
+    let at-goal = seek-goal-open t (at-has .before) in
+    let on = sym (at-has .has .ensures) ∙ at-if2 .if2 .taken in
+    let again = goal-again _ _ _ _ _ _ _ stands (at-goal .there) (at-goal .left) (at-goal .few-places) _ on in
     (judged-failed (c .failed2 .ensures) (rw (c .before .with .ensures, c .before .before .nothing2 .ensures) again), remembered)
 
 seek-goal-slot-requires : seek-goal-needs seek-goal-lts.Need-slot-requires
-seek-goal-slot-requires t c κs =
-    let at-may-be-proved = c .before .before .before in
-    let start = at-may-be-proved .before .before .before .before .before in
-    let (searched, (stands, remembered)) = start .pre .1 in
-    let at-goal = opened searched stands (at-may-be-proved .may-be-proved .ensures) (c .before .before .if1 .left) in
-    (at-goal .few-persons, at-goal .few-places)
+seek-goal-slot-requires t c κs = seek-goal-few t (c .before .before)
 
 seek-goal-recalls-requires : seek-goal-needs seek-goal-lts.Need-recalls-requires
 seek-goal-recalls-requires t c κs = search needs
@@ -540,31 +536,17 @@ seek-goal-returns-3 t c =
     )
 
 seek-goal-sub-seek-below : seek-goal-needs seek-goal-lts.Need-sub-seek-below
-seek-goal-sub-seek-below t c =
-    let at-if1 = c .before .before .before .before .before .before in
-    let at-may-be-proved = at-if1 .before in
-    let start = at-may-be-proved .before .before .before .before .before in
-    let (searched, (stands, remembered)) = start .pre .1 in
-    let at-goal = opened searched stands (at-may-be-proved .may-be-proved .ensures) (at-if1 .if1 .left) in
-    omega (arith, at-goal .left)
+seek-goal-sub-seek-below t c = omega (arith, seek-goal-open t (c .before .before .before .before .before .before) .left)
 
 seek-goal-with-requires-2 : seek-goal-needs seek-goal-lts.Need-with-requires-2
-seek-goal-with-requires-2 t c κs =
-    let at-if1 = c .before .before .before .before .before .before in
-    let at-may-be-proved = at-if1 .before in
-    let start = at-may-be-proved .before .before .before .before .before in
-    let (searched, (stands, remembered)) = start .pre .1 in
-    let at-goal = opened searched stands (at-may-be-proved .may-be-proved .ensures) (at-if1 .if1 .left) in
-    (at-goal .few-persons, at-goal .few-places)
+seek-goal-with-requires-2 t c κs = seek-goal-few t (c .before .before .before .before .before .before)
 
 seek-goal-seek-below-requires : seek-goal-needs seek-goal-lts.Need-seek-below-requires
 seek-goal-seek-below-requires t c κs =
-    let at-if1 = c .before .before .before .before .before .before .before .before in
-    let at-may-be-proved = at-if1 .before in
-    let start = at-may-be-proved .before .before .before .before .before in
-    let (searched, (stands, remembered)) = start .pre .1 in
-    let at-goal = opened searched stands (at-may-be-proved .may-be-proved .ensures) (at-if1 .if1 .left) in (
-      omega (arith, start .pre .0, at-goal .left),
+    let entry = c .before .before .before .before .before .before .before .before in
+    let (measured, (searched, (stands, remembered))) = seek-goal-start t entry .pre in
+    let at-goal = seek-goal-open t entry in (
+      omega (arith, measured, at-goal .left),
       (searched-fewer _ (omega arith) searched, ((stands, at-goal .there), remembered)),
     )
 
@@ -580,39 +562,23 @@ seek-goal-returns-4 t c =
     let at-with2 = at-seek-below .before .before in
     let at-if2 = at-with2 .before .before .before .before .before in
     let at-has = at-if2 .before in
-    let at-if1 = at-has .before in
-    let at-may-be-proved = at-if1 .before in
-    let start = at-may-be-proved .before .before .before .before .before in
-    let (searched, (stands, remembered)) = start .pre .1 in
-    let at-goal = opened searched stands (at-may-be-proved .may-be-proved .ensures) (at-if1 .if1 .left) in
+    let (searched, (stands, remembered)) = seek-goal-start t (at-has .before) .pre .1 in
+    let at-goal = seek-goal-open t (at-has .before) in
     let (judged, now-remembered) = at-seek-below .seek-below .ensures in
-    let new = sym (at-has .has .ensures) ∙ at-if2 .if2 .left in (
-      judged-proved (c .proved .ensures)
-          (goal-proved _ _ _ _ _ _ _ stands (at-goal .there) (at-goal .left) _ new (rw (at-with2 .with2 .ensures) at
-          (judged .passes (c .before .if4 .taken)))),
-      now-remembered,
-    )
+    let new = sym (at-has .has .ensures) ∙ at-if2 .if2 .left in
+    let below = rw (at-with2 .with2 .ensures) at (judged .passes (c .before .if4 .taken)) in
+    (judged-proved (c .proved .ensures) (goal-proved _ _ _ _ _ _ _ stands (at-goal .there) (at-goal .left) _ new below), now-remembered)
 
 seek-goal-without-requires : seek-goal-needs seek-goal-lts.Need-without-requires
-seek-goal-without-requires t c κs =
-    let at-if1 = c .before .before .before .before .before .before .before .before .before .before .before .before in
-    let at-may-be-proved = at-if1 .before in
-    let start = at-may-be-proved .before .before .before .before .before in
-    let (searched, (stands, remembered)) = start .pre .1 in
-    let at-goal = opened searched stands (at-may-be-proved .may-be-proved .ensures) (at-if1 .if1 .left) in
-    (at-goal .few-persons, at-goal .few-places)
+seek-goal-without-requires t c κs = seek-goal-few t (c .before .before .before .before .before .before .before .before .before .before .before .before)
 
 seek-goal-keep-requires : seek-goal-needs seek-goal-lts.Need-keep-requires
 seek-goal-keep-requires t c κs =
     let at-seek-below = c .before .before .before .before .before in
     let at-slot = at-seek-below .before .before .before .before .before .before in
-    let at-if1 = at-slot .before .before .before in
-    let at-may-be-proved = at-if1 .before in
-    let start = at-may-be-proved .before .before .before .before .before in
-    let (searched, (stands, remembered)) = start .pre .1 in
-    let at-goal = opened searched stands (at-may-be-proved .may-be-proved .ensures) (at-if1 .if1 .left) in
-    let (judged, now-remembered) = at-seek-below .seek-below .ensures in
-    ((now-remembered .room, at-slot .slot .ensures), (at-goal .few-persons, (at-goal .few-places, searched .shallow)))
+    let entry = at-slot .before .before .before in
+    let (persons, places) = seek-goal-few t entry in
+    ((at-seek-below .seek-below .ensures .1 .room, at-slot .slot .ensures), (persons, (places, seek-goal-start t entry .pre .1 .0 .shallow)))
 
 seek-goal-failed-requires-4 : seek-goal-needs seek-goal-lts.Need-failed-requires-4
 seek-goal-failed-requires-4 t c κs = search needs
@@ -628,19 +594,17 @@ seek-goal-returns-5 t c =
     let at-seek-below = at-if4 .before .before .before in
     let at-with2 = at-seek-below .before .before in
     let at-slot = at-with2 .before .before .before .before in
-    let at-if1 = at-slot .before .before .before in
-    let at-may-be-proved = at-if1 .before in
-    let start = at-may-be-proved .before .before .before .before .before in
-    let (searched, (stands, remembered)) = start .pre .1 in
-    let at-goal = opened searched stands (at-may-be-proved .may-be-proved .ensures) (at-if1 .if1 .left) in
+    let entry = at-slot .before .before .before in
+    let start = seek-goal-start t entry in
+    let at-goal = seek-goal-open t entry in
     let (judged, now-remembered) = at-seek-below .seek-below .ensures in
-    let eight = seek-goal-eight t start in
-    let wide = seek-goal-wide t start in
     let below = rw (at-with2 .with2 .ensures) at (judged .failed (at-if4 .if4 .left)) in
     let failure =
-    goal-failed _ _ _ _ _ _ _ stands (at-goal .there) (at-goal .left) _ _ _ wide (at-without .without .ensures) below in (
+    goal-failed _ _ _ _ _ _ _ (start .pre .1 .1 .0) (at-goal .there) (at-goal .left) _ _ _ (seek-goal-wide t start)
+    (at-without .without .ensures) below in (
       judged-failed (c .failed4 .ensures) failure,
-      remembered-more _ _ _ now-remembered (at-slot .slot .ensures) (at-keep .keep .ensures) eight (failure .fails),
+      remembered-more _ _ _ now-remembered (at-slot .slot .ensures) (at-keep .keep .ensures) (seek-goal-eight t start)
+          (failure .fails),
     )
 
 -- a place of `seek_link`, or a need, where its measure is t; and what it needs, whatever its measure is
@@ -708,6 +672,31 @@ seek-linked-place place t =
 abbrev seek-linked-needs : seek-linked-Place → Type 0
 seek-linked-needs need = (t : ℕ) → seek-linked-place need t
 
+-- a middle is looked at
+module _ (t : ℕ) (at : seek-linked-place seek-linked-lts.After-is-middle t) where
+  abbrev seek-linked-asked : seek-linked-place seek-linked-lts.After-asked-cell t
+  seek-linked-asked = at .before .before .before .before .before
+
+  abbrev seek-linked-start : seek-linked-place seek-linked-lts.Start t
+  seek-linked-start = seek-linked-asked .before .before .before .before .before .before .before
+
+  seek-linked-middle : let from = seek-linked-start .args in
+      Middle (now (from .table)) (now (from .index)) (now (from .rows)) (from .terms .allowed) (from .levels) (from .terms .last)
+      (from .person) (from .i) (seek-linked-asked .before .row-of .result) (at .before .before .before .loop .j)
+      (seek-linked-asked .asked-cell .result) (at .before .link-cell .result) (at .is-middle .result)
+  seek-linked-middle =
+      let (searched, (tried, (kind, remembered))) = seek-linked-start .pre .1 in
+      record {
+        searched = searched;
+        tried = tried;
+        kind = kind;
+        there = omega (arith, at .before .before .loop-test .taken, seek-linked-asked .before .before .credentials .ensures .same);
+        row-is = seek-linked-asked .before .row-of .ensures;
+        first-is = seek-linked-asked .asked-cell .ensures .0;
+        second-is = at .before .link-cell .ensures .0;
+        told-is = at .is-middle .ensures;
+      }
+
 seek-linked-credentials-requires : seek-linked-needs seek-linked-lts.Need-credentials-requires
 seek-linked-credentials-requires t c κs = search needs
 
@@ -751,30 +740,12 @@ seek-linked-is-middle-requires t c κs =
 
 seek-linked-seek-link-requires : seek-linked-needs seek-linked-lts.Need-seek-link-requires
 seek-linked-seek-link-requires t c κs =
-    let at-link-cell = c .before .before .before in
-    let at-loop-test = at-link-cell .before in
-    let at-loop = at-loop-test .before in
-    let at-asked-cell = at-loop .before .before in
-    let at-row-of = at-asked-cell .before in
-    let at-credentials = at-row-of .before in
-    let start = at-credentials .before .before .before .before .before in
-    let (searched, (tried, (kind, remembered))) = start .pre .1 in
-    let middle =
-    middle-read searched tried kind (omega
-    (arith, at-loop-test .loop-test .taken, at-credentials .credentials .ensures .same)) (at-row-of .row-of .ensures)
-    (at-asked-cell .asked-cell .ensures .0) (at-link-cell .link-cell .ensures .0) (c .before .before .is-middle .ensures) in (
-      omega (arith, start .pre .0),
-      (
-        searched,
-        (
-          (
-            stands-first middle (c .before .if1 .taken),
-            stands-second middle
-                (c .before .if1 .taken),
-          ),
-          at-loop .loop .inv .1 .1,
-        ),
-      ),
+    let at = c .before .before in
+    let (measured, (searched, rest)) = seek-linked-start t at .pre in
+    let middle = seek-linked-middle t at in
+    let on = c .before .if1 .taken in (
+      omega (arith, measured),
+      (searched, ((stands-first middle on, stands-second middle on), at .before .before .before .loop .inv .1 .1)),
     )
 
 seek-linked-proved-requires : seek-linked-needs seek-linked-lts.Need-proved-requires
@@ -791,23 +762,9 @@ seek-linked-returns : seek-linked-needs seek-linked-lts.Need-returns
 seek-linked-returns t c =
     let at-seek-link = c .before .before .before .before in
     let at-if1 = at-seek-link .before .before in
-    let at-is-middle = at-if1 .before in
-    let at-link-cell = at-is-middle .before in
-    let at-loop-test = at-link-cell .before in
-    let at-asked-cell = at-loop-test .before .before .before in
-    let at-row-of = at-asked-cell .before in
-    let at-credentials = at-row-of .before in
-    let start = at-credentials .before .before .before .before .before in
-    let (searched, (tried, (kind, remembered))) = start .pre .1 in
-    let middle =
-    middle-read searched tried kind (omega
-    (arith, at-loop-test .loop-test .taken, at-credentials .credentials .ensures .same)) (at-row-of .row-of .ensures)
-    (at-asked-cell .asked-cell .ensures .0) (at-link-cell .link-cell .ensures .0) (at-is-middle .is-middle .ensures) in
-    let (judged, now-remembered) = at-seek-link .seek-link .ensures in (
-      judged-proved (c .proved .ensures) (link-found middle _ _ judged (at-if1 .if1 .taken)
-          (c .before .if2 .taken)),
-      now-remembered,
-    )
+    let (judged, now-remembered) = at-seek-link .seek-link .ensures in
+    let found = link-found (seek-linked-middle t (at-if1 .before)) _ _ judged (at-if1 .if1 .taken) (c .before .if2 .taken) in
+    (judged-proved (c .proved .ensures) found, now-remembered)
 
 seek-linked-joined-requires : seek-linked-needs seek-linked-lts.Need-joined-requires
 seek-linked-joined-requires t c κs = search needs
@@ -820,19 +777,10 @@ seek-linked-loop-less t c = search needs
 
 seek-linked-loop-again : seek-linked-needs seek-linked-lts.Need-loop-again
 seek-linked-loop-again t c =
-    let at-loop-test = c .before .before .before in
-    let at-loop = at-loop-test .before in
-    let at-asked-cell = at-loop .before .before in
-    let at-row-of = at-asked-cell .before in
-    let at-credentials = at-row-of .before in
-    let start = at-credentials .before .before .before .before .before in
-    let (searched, (tried, (kind, remembered))) = start .pre .1 in
-    let middle =
-    middle-read searched tried kind (omega
-    (arith, at-loop-test .loop-test .taken, at-credentials .credentials .ensures .same)) (at-row-of .row-of .ensures)
-    (at-asked-cell .asked-cell .ensures .0) (c .before .before .link-cell .ensures .0) (c .before .is-middle .ensures) in
-    let (so-far, before) = at-loop .loop .inv .1 in (
-      omega (arith, at-loop-test .loop-test .taken),
+    let at = c .before in
+    let middle = seek-linked-middle t at in
+    let (so-far, before) = at .before .before .before .loop .inv .1 in (
+      omega (arith, at .before .before .loop-test .taken),
       ⊎-elim
           (λ way. (
             rw (way .8) (link-failed middle _ _ (way .2 .ensures .0) (way .5 .left) _ _ (way .6 .ensures) so-far),
