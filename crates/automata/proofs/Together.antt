@@ -14,12 +14,13 @@ use lib.Dec.{eqb, ltb}
 use borrow.Author.Tests.{ne-eqb, lt-ltb, le-ltb, le-leb}
 use Rattle.sets.specs.Logic.{_and_, pick}
 use Rattle.table.specs.Limits.{lastState, mostAutomata}
-use Rattle.table.specs.Layout.{Numbered, automata, automaton, edge, edges}
+use Rattle.table.specs.Layout.{Numbered, automata, automaton, credential, edge, edges}
 use Rattle.table.specs.Holding.{WellFormed}
 use Rattle.table.specs.Checks.{within}
 use Rattle.sets.proofs.Tests.{pick-apart, pick-same}
 use Rattle.table.proofs.WellFormed.{wf-edge}
 use Rattle.table.specs.declared.Role.{Role}
+use Rattle.table.specs.declared.Credential.{Credential}
 use Rattle.table.specs.declared.Automaton.{Automaton}
 use Rattle.table.specs.declared.Edge.{Edge}
 use Rattle.sets.specs.Sets.{setOf}
@@ -170,6 +171,11 @@ moving-all t r from n next all m = ap (λ (x : List ℕ). record { sets = x }) (
   where
     at : (j : ℕ) → j < mostAutomata → getD (next .sets) j 0 ≡ movedBy t (suc j) r (getD (from .sets) (suc j - 1) 0) (edges t)
     at j h = rw (sub-one, ← all) (m .here j h)
+
+-- along the role of credential p + 1, which the code has read as c
+pub role-moves : (t : List ℕ) (p : ℕ) (s : StateSets) {c : Credential} → c ≡ credential t (p + 1)
+    → movedSets t (c .role) s ≡ movedSets t (credential t (suc p) .role) s
+role-moves t p s read = rw (read, add-one p)
 
 -- the moved sets with what is dead in them
 pub dead-told : (t : List ℕ) (r : Role) (s : StateSets) {next : StateSets} {dead : ℕ} → next ≡ movedSets t r s

@@ -1,3 +1,4 @@
+pub mod Arcs
 pub mod Automata
 pub mod Promised
 pub mod Together

@@ -11,11 +11,12 @@ use table::Role;
 use table::THIS_ROLE;
 use table::layout;
 ghost use mathlib.Core.Path.{_≡_};
-ghost use Prim.Native.Nat.{_≤_};
+ghost use Prim.Native.Nat.{suc, _<_, _≤_};
 ghost use Rattle.table.specs.Limits.{lastState, mostAutomata};
-ghost use Rattle.table.specs.Layout.{Numbered};
+ghost use Rattle.table.specs.Layout.{Numbered, credential, credentials};
 ghost use Rattle.table.specs.Holding.{WellFormed};
 ghost use Rattle.automata.specs.Automata;
+ghost use Rattle.automata.specs.Arcs.{Arcs};
 ghost use Rattle.automata.specs.Together.{acceptingSet, deadSet, movedOn, movedSets, setFor, startingSets};
 
 // As many as a table can have automata.
@@ -50,20 +51,33 @@ impl StateSets {
         StateSets { sets: sets }
     }
 
-    // Every automaton's set moved along the role, and which automata have no state left then.
-    pub fn moved(self, table: &[Number], role: Role) -> Moved
+    // Every automaton's set moved along the role that credential `place` + 1 defines, and which automata have no state left then.
+    pub fn moved(self, table: &[Number], arcs: &[StateSet], place: usize) -> Moved
         requires { ⌜ WellFormed (now table) ⌝ }
-        ensures { λ r. ⌜ r ≡ movedOn (now (table .entry)) role self ⌝ }
+        requires { ⌜ Arcs (now table) (now arcs) ⌝ }
+        requires { ⌜ place < credentials (now table) ⌝ }
+        ensures { λ r. ⌜ r ≡ movedOn (now (table .entry)) (credential (now (table .entry)) (suc place) .role) self ⌝ }
     {
-        let states = self.next(table, role);
+        let states = self.next(table, arcs, place);
         Moved {
             states: states,
             dead: states.dead(table),
         }
     }
 
-    // Every automaton's set moved along the role.
-    fn next(self, table: &[Number], role: Role) -> StateSets
+    // Every automaton's set moved along the role that credential `place` + 1 defines: along its arcs where its row has been made.
+    fn next(self, table: &[Number], arcs: &[StateSet], place: usize) -> StateSets
+        requires { ⌜ WellFormed (now table) ⌝ }
+        requires { ⌜ Arcs (now table) (now arcs) ⌝ }
+        requires { ⌜ place < credentials (now table) ⌝ }
+        ensures { λ r. ⌜ r ≡ movedSets (now (table .entry)) (credential (now (table .entry)) (suc place) .role) self ⌝ }
+    {
+        let credential = layout::credential(table, place + 1);
+        self.by_edges(table, credential.role)
+    }
+
+    // Every automaton's set moved along the role, edge by edge.
+    fn by_edges(self, table: &[Number], role: Role) -> StateSets
         requires { ⌜ WellFormed (now table) ⌝ }
         ensures { λ r. ⌜ r ≡ movedSets (now (table .entry)) role self ⌝ }
     {
@@ -84,7 +98,16 @@ impl StateSets {
     }
 
     // The automata that accept where their sets are now, as a set: automaton k counts 2^(k-1).
-    pub fn accepting(self, table: &[Number]) -> AutomatonSet
+    pub fn accepting(self, table: &[Number], arcs: &[StateSet]) -> AutomatonSet
+        requires { ⌜ WellFormed (now table) ⌝ }
+        requires { ⌜ Arcs (now table) (now arcs) ⌝ }
+        ensures { λ r. ⌜ r ≡ acceptingSet (now (table .entry)) self ⌝ }
+    {
+        self.accepting_by_table(table)
+    }
+
+    // The same, with each accepting set read from the table.
+    fn accepting_by_table(self, table: &[Number]) -> AutomatonSet
         requires { ⌜ WellFormed (now table) ⌝ }
         ensures { λ r. ⌜ r ≡ acceptingSet (now (table .entry)) self ⌝ }
     {

@@ -1,4 +1,4 @@
--- `automata::StateSets::accepting` meets its contract: the mask has those of the first k automata that accept, and there are
+-- `automata::StateSets::accepting_by_table` meets its contract: the mask has those of the first k automata that accept, and there are
 -- no more than eight. Assumes nothing.
 use mathlib.Core.Logic.{⊎-elim}
 use mathlib.Core.Path.{_∙_, _≡_, refl}
@@ -7,8 +7,8 @@ use native.Mathlib.Omega.{arith}
 use borrow.Author.Needs.{needs}
 use Rattle.automata.proofs.Together.{accepting-all, accepting-more, accepting-same, acceptsAt}
 use Rattle.sets.specs.Sets.{setOf}
-use Rattle.automata.proofs.StateSets.accepting.Statement.{statement}
-use Rattle.automata.proofs.StateSets.accepting.Tie as tie
+use Rattle.automata.proofs.StateSets.accepting_by_table.Statement.{statement}
+use Rattle.automata.proofs.StateSets.accepting_by_table.Tie as tie
 
 abbrev Inv-loop : tie.InvT-loop
 Inv-loop table self mask₀ a k₀ mask k = (k ≤ a) × (mask ≡ setOf (acceptsAt table self) k)
@@ -56,8 +56,8 @@ loop-again c =
 returns : tie.Need-returns Inv-loop μ-loop
 returns c = c .before .loop .inv .1 ∙ accepting-all _ _ _ (omega arith)
 
-pub accepting-spec : {M : Type 1} → statement M
-accepting-spec =
+pub accepting-by-table-spec : {M : Type 1} → statement M
+accepting-by-table-spec =
     tie.close
     (tie.spec
     Inv-loop
