@@ -2,7 +2,7 @@
 -- states of one number: it has the mask of that `to` state and, for each of the eight automata, the mask of the `from` states. The
 -- arcs of a role stand in the row of a credential that defines it, sixteen at most, and the first that leads nowhere ends them.
 -- Whether a row has been made is a matter of time alone: where it has not, the edges tell.
-use Prim.Native.Nat.{ℕ, zero, suc, _+_, _*_, _<_, _≤_}
+use Prim.Native.Nat.{ℕ, zero, suc, _+_, _-_, _*_, _<_, _≤_}
 use mathlib.Core.Path.{_≡_}
 use mathlib.Core.List.{List}
 use mathlib.Core.Logic.{_⊎_}
@@ -15,6 +15,8 @@ use Rattle.table.specs.Layout.{automata, automaton, credential, credentials}
 use Rattle.table.specs.Checks.{within}
 use Rattle.table.specs.declared.Role.{Role}
 use Rattle.automata.specs.Automata.{moved}
+use Rattle.automata.specs.Together.{setFor, together}
+use Rattle.automata.specs.declared.StateSets.{StateSets}
 
 -- as many arcs as an automaton has states
 abbrev pub mostArcs : ℕ
@@ -59,10 +61,15 @@ led arcs p k x zero = 0
 led arcs p k x (suc l) =
     bitOr (led arcs p k x l) (pick (meets x (getD arcs (fromCell p l k) 0)) (getD arcs (toCell p l) 0) 0)
 
--- the arcs of a row move every set as the edges do, and none follows one that leads nowhere
+-- no arc follows one that leads nowhere
+abbrev pub Ended : List ℕ → ℕ → Type 0
+Ended arcs p =
+    (l m : ℕ) → l ≤ m → m < mostArcs → getD arcs (toCell p l) 0 ≡ 0 → getD arcs (toCell p m) 0 ≡ 0
+
+-- the arcs of a row move every set as the edges do
 pub record Row (t : List ℕ) (r : Role) (arcs : List ℕ) (p : ℕ) : Type 0 where
   pub moves : (k x : ℕ) → k < mostAutomata → led arcs p k x mostArcs ≡ moved t (suc k) r x
-  pub ends : (l m : ℕ) → l ≤ m → m < mostArcs → getD arcs (toCell p l) 0 ≡ 0 → getD arcs (toCell p m) 0 ≡ 0
+  pub ended : Ended arcs p
 
 -- automaton k's accepting set, or no state where there is no such automaton
 unfoldable pub accepting : List ℕ → ℕ → ℕ
@@ -73,3 +80,13 @@ pub record Arcs (t arcs : List ℕ) : Type 0 where
   pub room : (length arcs ≡ 0) ⊎ (length arcs ≡ indexCells)
   pub accepts : (k : ℕ) → k < mostAutomata → length arcs ≡ indexCells → getD arcs (acceptingCell k) 0 ≡ accepting t (suc k)
   pub rows : (p : ℕ) → p < credentials t → getD arcs (madeCell p) 0 ≡ made → Row t (credential t (suc p) .role) arcs p
+
+-- what the first n arcs give, from the sets of all eight automata
+unfoldable pub ledSets : List ℕ → ℕ → StateSets → ℕ → StateSets
+ledSets arcs p from n = together (λ k. led arcs p (k - 1) (setFor from k) n)
+
+-- the sets `next` with what the arc gives that stands at a cell
+unfoldable pub withArc : List ℕ → ℕ → StateSets → StateSets → StateSets
+withArc arcs at from next =
+    let to = getD arcs (at + mostAutomata) 0 in
+    together (λ k. bitOr (setFor next k) (pick (meets (setFor from k) (getD arcs (at + (k - 1)) 0)) to 0))

@@ -11,16 +11,37 @@ use table::Role;
 use table::THIS_ROLE;
 use table::layout;
 ghost use mathlib.Core.Path.{_≡_};
-ghost use Prim.Native.Nat.{suc, _<_, _≤_};
-ghost use Rattle.table.specs.Limits.{lastState, mostAutomata};
+ghost use mathlib.Core.Logic.{_⊎_};
+ghost use Prim.Native.Nat.{suc, _+_, _<_, _≤_};
+ghost use lib.ListN.{getD, length};
+ghost use lib.Dec.{eqb};
+ghost use Rattle.sets.specs.Logic.{pick};
+ghost use Rattle.sets.specs.Sets.{meets};
+ghost use Rattle.table.specs.Limits.{lastState, mostAutomata, mostCredentials};
 ghost use Rattle.table.specs.Layout.{Numbered, credential, credentials};
 ghost use Rattle.table.specs.Holding.{WellFormed};
 ghost use Rattle.automata.specs.Automata;
-ghost use Rattle.automata.specs.Arcs.{Arcs};
+ghost use Rattle.automata.specs.Arcs.{Arcs, Ended, arcCells, indexCells, ledSets, made, madeCell, mostArcs, withArc};
 ghost use Rattle.automata.specs.Together.{acceptingSet, deadSet, movedOn, movedSets, setFor, startingSets};
 
 // As many as a table can have automata.
 pub const AUTOMATA: usize = 8;
+
+// An index of arcs (specs/Arcs.antt): the accepting sets, then for each credential whether its row has been made, then the rows.
+pub const MOST_ARCS: usize = 16;
+
+pub const ARC_CELLS: usize = AUTOMATA + 1;
+
+pub const ROW_CELLS: usize = ARC_CELLS * MOST_ARCS;
+
+pub const FIRST_MADE: usize = AUTOMATA;
+
+pub const FIRST_ROW: usize = FIRST_MADE + layout::MOST_CREDENTIALS as usize;
+
+pub const INDEX_CELLS: usize = FIRST_ROW + ROW_CELLS * layout::MOST_CREDENTIALS as usize;
+
+// The mark of a row that has been made.
+pub const MADE: StateSet = 3;
 
 // The state set of automaton k stands at k - 1; an automaton that is not there has the empty set.
 pub struct StateSets {
@@ -65,15 +86,56 @@ impl StateSets {
         }
     }
 
-    // Every automaton's set moved along the role that credential `place` + 1 defines: along its arcs where its row has been made.
+    // Every automaton's set moved along the role that credential `place` + 1 defines: by its arcs where its row has been made, else
+    // by the edges.
     fn next(self, table: &[Number], arcs: &[StateSet], place: usize) -> StateSets
         requires { ⌜ WellFormed (now table) ⌝ }
         requires { ⌜ Arcs (now table) (now arcs) ⌝ }
         requires { ⌜ place < credentials (now table) ⌝ }
         ensures { λ r. ⌜ r ≡ movedSets (now (table .entry)) (credential (now (table .entry)) (suc place) .role) self ⌝ }
     {
+        if is_made(arcs, place) {
+            return self.by_arcs(arcs, place);
+        }
         let credential = layout::credential(table, place + 1);
         self.by_edges(table, credential.role)
+    }
+
+    // What the arcs of a row give, until one leads nowhere.
+    fn by_arcs(self, arcs: &[StateSet], place: usize) -> StateSets
+        requires { ⌜ (length (now arcs) ≡ indexCells) × (place < mostCredentials) ⌝ }
+        requires { ⌜ Ended (now arcs) place ⌝ }
+        ensures { λ r. ⌜ r ≡ ledSets (now (arcs .entry)) place self mostArcs ⌝ }
+    {
+        let mut next = StateSets {
+            sets: [0; AUTOMATA],
+        };
+        let row = FIRST_ROW + ROW_CELLS * place;
+        let mut l = 0;
+        while l < MOST_ARCS {
+            let at = row + ARC_CELLS * l;
+            if arcs[at + AUTOMATA] == 0 {
+                return next;
+            }
+            next = self.by_arc(next, arcs, at);
+            l += 1;
+        }
+        next
+    }
+
+    // The sets `next` with what one arc gives, for all eight automata alike.
+    fn by_arc(self, next: StateSets, arcs: &[StateSet], at: usize) -> StateSets
+        requires { ⌜ at + arcCells ≤ length (now arcs) ⌝ }
+        ensures { λ r. ⌜ r ≡ withArc (now (arcs .entry)) at self next ⌝ }
+    {
+        let mut sets = next.sets;
+        let to = arcs[at + AUTOMATA];
+        let mut k = 0;
+        while k < AUTOMATA {
+            sets[k] = sets[k] | given(self.sets[k], arcs[at + k], to);
+            k += 1;
+        }
+        StateSets { sets: sets }
     }
 
     // Every automaton's set moved along the role, edge by edge.
@@ -103,7 +165,18 @@ impl StateSets {
         requires { ⌜ Arcs (now table) (now arcs) ⌝ }
         ensures { λ r. ⌜ r ≡ acceptingSet (now (table .entry)) self ⌝ }
     {
-        self.accepting_by_table(table)
+        if arcs.len() == 0 {
+            return self.accepting_by_table(table);
+        }
+        let mut mask = 0;
+        let mut k = 0;
+        while k < AUTOMATA {
+            if self.sets[k] & arcs[k] != 0 {
+                mask = sets::with_16(mask, k);
+            }
+            k += 1;
+        }
+        mask
     }
 
     // The same, with each accepting set read from the table.
@@ -152,8 +225,30 @@ impl StateSets {
     }
 }
 
+// Whether the row of credential `place` + 1 has been made.
+fn is_made(arcs: &[StateSet], place: usize) -> bool
+    requires { ⌜ (length (now arcs) ≡ 0) ⊎ (length (now arcs) ≡ indexCells) ⌝ }
+    requires { ⌜ place < mostCredentials ⌝ }
+    ensures { λ r. ⌜ r ≡ eqb (getD (now (arcs .entry)) (madeCell place) 0) made ⌝ }
+{
+    if arcs.len() == 0 {
+        return false;
+    }
+    arcs[FIRST_MADE + place] == MADE
+}
+
+// An arc leads on where one of its `from` states is in the set.
+fn given(set: StateSet, from: StateSet, to: StateSet) -> StateSet
+    ensures { λ r. ⌜ r ≡ pick (meets set from) to 0 ⌝ }
+{
+    if set & from != 0 {
+        return to;
+    }
+    0
+}
+
 // Whether the edge's label matches the role.
-fn edge_matches(edge: Edge, role: Role) -> bool
+pub fn edge_matches(edge: Edge, role: Role) -> bool
     ensures { λ r. ⌜ r ≡ Automata.matches edge role ⌝ }
 {
     let label = edge.label;
