@@ -43,4 +43,108 @@ pub fn ask(table: &[Number], arcs: &mut [StateSet], place: usize)
     requires { ⌜ Arcs (now table) (now arcs) ⌝ }
     requires { ⌜ place < credentials (now table) ⌝ }
     ensures { λ r. ⌜ Arcs (now (table .entry)) (now (arcs .exit)) ⌝ }
-{}
+{
+    if arcs.len() == 0 {
+        return;
+    }
+    let asked = arcs[FIRST_MADE + place];
+    if asked == MADE {
+        return;
+    }
+    if asked < MADE - 1 {
+        arcs[FIRST_MADE + place] = asked + 1;
+        return;
+    }
+    fill(table, arcs, place);
+}
+
+// Makes the row of credential `place` + 1, unless it has been made.
+pub fn make(table: &[Number], arcs: &mut [StateSet], place: usize)
+    requires { ⌜ WellFormed (now table) ⌝ }
+    requires { ⌜ Arcs (now table) (now arcs) ⌝ }
+    requires { ⌜ place < credentials (now table) ⌝ }
+    ensures { λ r. ⌜ Arcs (now (table .entry)) (now (arcs .exit)) ⌝ }
+{
+    if arcs.len() == 0 {
+        return;
+    }
+    if arcs[FIRST_MADE + place] == MADE {
+        return;
+    }
+    fill(table, arcs, place);
+}
+
+// Makes a row, edge by edge. Sixteen arcs are enough; were they not, the row would stay unmade.
+fn fill(table: &[Number], arcs: &mut [StateSet], place: usize)
+    requires { ⌜ WellFormed (now table) ⌝ }
+    requires { ⌜ Arcs (now table) (now arcs) ⌝ }
+    requires { ⌜ place < credentials (now table) ⌝ }
+    requires { ⌜ length (now arcs) ≡ indexCells ⌝ }
+    requires { ⌜ (getD (now arcs) (madeCell place) 0 ≡ made → ⊥) ⌝ }
+    ensures { λ r. ⌜ Arcs (now (table .entry)) (now (arcs .exit)) ⌝ }
+{
+    clear(arcs, place);
+    let credential = layout::credential(table, place + 1);
+    let role = credential.role;
+    let e = layout::edges(table);
+    let mut k = 0;
+    while k < e {
+        k += 1;
+        let edge = layout::edge(table, k);
+        if automata::edge_matches(edge, role) {
+            let l = find(arcs, place, 1 << edge.to);
+            if l == MOST_ARCS {
+                return;
+            }
+            put(arcs, place, l, edge);
+        }
+    }
+    arcs[FIRST_MADE + place] = MADE;
+}
+
+// No arcs.
+fn clear(arcs: &mut [StateSet], place: usize)
+    requires { ⌜ (length (now arcs) ≡ indexCells) × (place < mostCredentials) ⌝ }
+    ensures { λ r. ⌜ Cleared place (now (arcs .entry)) (now (arcs .exit)) ⌝ }
+{
+    let row = FIRST_ROW + ROW_CELLS * place;
+    let mut x = 0;
+    while x < ROW_CELLS {
+        arcs[row + x] = 0;
+        x += 1;
+    }
+}
+
+// The arc that leads to the state of the mask; where there is none, the first that leads nowhere yet.
+fn find(arcs: &[StateSet], place: usize, to: StateSet) -> usize
+    requires { ⌜ (length (now arcs) ≡ indexCells) × (place < mostCredentials) ⌝ }
+    ensures { λ r. ⌜ Found (now (arcs .entry)) place to r ⌝ }
+{
+    let row = FIRST_ROW + ROW_CELLS * place;
+    let mut l = 0;
+    while l < MOST_ARCS {
+        let other = arcs[row + ARC_CELLS * l + AUTOMATA];
+        if other == to {
+            return l;
+        }
+        if other == 0 {
+            return l;
+        }
+        l += 1;
+    }
+    l
+}
+
+// Arc l leads to the edge's `to` state, for the edge's automaton from the edge's `from` state too.
+fn put(arcs: &mut [StateSet], place: usize, l: usize, edge: Edge)
+    requires { ⌜ (length (now arcs) ≡ indexCells) × (place < mostCredentials) ⌝ }
+    requires { ⌜ l < mostArcs ⌝ }
+    requires { ⌜ Numbered mostAutomata (edge .automaton) × ((edge .from ≤ lastState) × (edge .to ≤ lastState)) ⌝ }
+    ensures { λ r. ⌜ now (arcs .exit) ≡ arcWith (now (arcs .entry)) place l edge ⌝ }
+{
+    let at = FIRST_ROW + ROW_CELLS * place + ARC_CELLS * l;
+    let own = at + (layout::wide(edge.automaton) - 1);
+    let from = arcs[own] | (1 << edge.from);
+    arcs[at + AUTOMATA] = 1 << edge.to;
+    arcs[own] = from;
+}

@@ -22,11 +22,11 @@ use Rattle.sets.proofs.Members.{inSet-zero, inSet-or, inSet-pick, same-members}
 
 module _ (t : List ℕ) (k : ℕ) (r : Role) where
   -- edge i leads automaton k on from the set x to state s
-  abbrev leadsTo : ℕ → ℕ → ℕ → Bool
+  abbrev pub leadsTo : ℕ → ℕ → ℕ → Bool
   leadsTo x s i = leads k r x (edge t i) and eqb (edge t i .to) s
 
   -- edge n + 1 adds its `to` state where it leads on
-  moved-next : (x n s : ℕ) → inSet (movedBy t k r x (suc n)) s ≡ (inSet (movedBy t k r x n) s or leadsTo x s (suc n))
+  pub moved-next : (x n s : ℕ) → inSet (movedBy t k r x (suc n)) s ≡ (inSet (movedBy t k r x n) s or leadsTo x s (suc n))
   unfolding movedBy
   moved-next x n s = inSet-pick (leads k r x (edge t (suc n))) (movedBy t k r x n) (edge t (suc n) .to) s
 
