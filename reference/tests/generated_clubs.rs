@@ -2,11 +2,11 @@
 //! valid, that their lists and first records are what the definition says, and
 //! that roles do come again in them.
 
+mod by_definition;
 mod every_record;
 
-use std::collections::BTreeSet;
-
-use every_record::records_within;
+use by_definition::{compared, first, listed};
+use reference::check_query;
 use reference::derivation::Derivation;
 use reference::generate::clubs::{self, Circle};
 use reference::generate::wallets::Wallet;
@@ -16,7 +16,6 @@ use reference::random::Random;
 use reference::sorts::Role;
 use reference::table::Table;
 use reference::words::words;
-use reference::{check_query, list, verify, write};
 
 const SEED: u64 = 7;
 /// A table is left aside if it takes more steps to find all records.
@@ -28,22 +27,6 @@ fn drawn(circle: Circle, most: u16, count: usize) -> Vec<Wallet> {
     (0..count)
         .map(|_| clubs::made_up(&mut random, circle, most))
         .collect()
-}
-
-/// The list of a wallet; nothing if there is no set.
-fn listed(wallet: &Wallet) -> Vec<u32> {
-    let mut cells = vec![0; 4_096];
-    let count = list(&wallet.records.numbers(), wallet.query, &mut cells);
-    cells.truncate(count.unwrap_or(0));
-    cells
-}
-
-/// The first record of a listed set.
-fn first(wallet: &Wallet, set: u32) -> Vec<u16> {
-    let mut cells = vec![0; 4_096];
-    let length = write(&wallet.records.numbers(), wallet.query, set, &mut cells);
-    cells.truncate(length.expect("a record"));
-    cells
 }
 
 /// How often a role stands in one word of a record at the most.
@@ -86,35 +69,8 @@ fn circles_are_valid_and_no_larger_than_asked_for() {
 #[test]
 fn lists_and_first_records_of_circles_are_what_the_definition_says() {
     for circle in Circle::ALL {
-        let (mut compared, mut written) = (0, 0);
-        for wallet in drawn(circle, 10, 150) {
-            let table = wallet.records.numbers();
-            let Some(records) = records_within(STEPS, &table, wallet.query) else {
-                continue;
-            };
-            compared += 1;
-            let used = |record: &Vec<u16>| verify(&table, wallet.query, record).ok();
-            let accepted: BTreeSet<(u32, Vec<u16>)> = records
-                .into_iter()
-                .filter_map(|record| Some((used(&record)?, record)))
-                .collect();
-            let sets: BTreeSet<u32> = accepted.iter().map(|(set, _)| *set).collect();
-            let part = |set: u32| sets.iter().any(|&part| part != set && is_part(part, set));
-            let minimal: Vec<u32> = sets.iter().copied().filter(|&set| !part(set)).collect();
-            assert_eq!(listed(&wallet), minimal, "{wallet:?}");
-            for set in minimal {
-                let least = accepted.iter().find(|(used, _)| *used == set);
-                assert_eq!(
-                    Some(first(&wallet, set)),
-                    least.map(|(_, record)| record.clone())
-                );
-                written += 1;
-            }
-        }
-        assert!(
-            compared > 60 && written > 40,
-            "{circle}: {compared}, {written}"
-        );
+        let [wallets, sets] = compared(STEPS, &drawn(circle, 10, 150));
+        assert!(wallets > 60 && sets > 40, "{circle}: {wallets}, {sets}");
     }
 }
 

@@ -6,8 +6,9 @@ use reference::generate::constraints::{self, Constraint};
 use reference::generate::growth::{Policy, Wish};
 use reference::generate::spoil::spoil;
 use reference::generate::wrongs::Wrong;
-use reference::generate::{every, policies, wide};
+use reference::generate::{every, full, policies, wide};
 use reference::random::Random;
+use reference::records::Head;
 use reference::shop;
 
 /// So many small records are spoiled number by number.
@@ -58,7 +59,7 @@ pub fn fixed(judge: &mut impl FnMut(Submitted)) {
 }
 
 /// The claims that are spoiled number by number, and how deep they go: those
-/// of the shop, that of a club, and small ones.
+/// of the shop, that of a club, those of a table of many edges, and small ones.
 fn bases(random: &mut Random) -> Vec<(Claim, u16)> {
     let claim = |table: &[u16], record: &[u16]| Claim {
         table: table.to_vec(),
@@ -77,6 +78,14 @@ fn bases(random: &mut Random) -> Vec<(Claim, u16)> {
         ..claim(&line.records.numbers(), &by_all)
     };
     bases.push((club, 3));
+    for way in full::WAYS {
+        let edges = Head::LIMITS.edges;
+        let way = Claim {
+            query: full::ASKED,
+            ..claim(&full::records(edges).numbers(), &way)
+        };
+        bases.push((way, 4));
+    }
     while bases.len() < BASES {
         let policy = Policy::new(policies::records(random));
         if let Some(grown) = Grown::new(random, &policy) {

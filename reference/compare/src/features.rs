@@ -12,6 +12,7 @@ use reference::words::{comply, every_word};
 use crate::branches::{Again, OFTEN};
 use crate::dead;
 use crate::owners::{by_owner, matching_none};
+use crate::slips::{has_many_edges, rejecting, Slip, LEAST, MANY};
 
 /// Something that an accepted record can be or have.
 #[derive(Clone, Copy, Debug, PartialEq, Eq, PartialOrd, Ord)]
@@ -46,6 +47,10 @@ pub enum Feature {
     SixteenLevels,
     /// There are more than 65,535 nodes.
     ManyNodes,
+    /// A used credential has an automaton, and the table has many edges.
+    ManyEdges,
+    /// So it is, and by such a slip the record would be rejected.
+    Slip(Slip),
 }
 
 impl Feature {
@@ -59,7 +64,8 @@ impl Feature {
         features.extend([Feature::RoleTwice, Feature::RoleTwiceAndAutomaton]);
         features.extend([Feature::RoleOften, Feature::PrincipalTwice]);
         features.extend([Feature::AtTheLimit, Feature::SixteenLevels]);
-        features.push(Feature::ManyNodes);
+        features.extend([Feature::ManyNodes, Feature::ManyEdges]);
+        features.extend(Slip::MISSING.map(Feature::Slip));
         features
     }
 
@@ -67,6 +73,7 @@ impl Feature {
     pub fn least(self) -> u64 {
         match self {
             Feature::Automaton | Feature::RoleTwice => 5_000,
+            Feature::ManyEdges | Feature::Slip(_) => LEAST,
             _ => 1,
         }
     }
@@ -81,6 +88,7 @@ impl Feature {
         let shape = Shape::of(&derivation);
         let again = Again::of(&derivation);
         let uses_owner = uses.any_of(by_owner(&table));
+        let slips = rejecting(&table, &derivation);
         let has = |feature: Feature| match feature {
             Feature::Automaton => !uses.automata.is_empty(),
             Feature::Automata => uses.automata.len() > 1,
@@ -100,6 +108,8 @@ impl Feature {
             Feature::AtTheLimit => shape.levels == usize::from(asked.depth),
             Feature::SixteenLevels => shape.levels == usize::from(DEEPEST),
             Feature::ManyNodes => claim.record.len() > NODE * usize::from(u16::MAX),
+            Feature::ManyEdges => !uses.automata.is_empty() && has_many_edges(&table),
+            Feature::Slip(slip) => slips.contains(&slip),
         };
         let all = Feature::all().into_iter();
         all.filter(|&feature| has(feature)).collect()
@@ -190,6 +200,8 @@ impl fmt::Display for Feature {
             Feature::AtTheLimit => "as deep as the query allows".into(),
             Feature::SixteenLevels => "sixteen levels".into(),
             Feature::ManyNodes => "more than 65,535 nodes".into(),
+            Feature::ManyEdges => format!("uses an automaton, {MANY} edges or more"),
+            Feature::Slip(slip) => format!("so, rejected {slip}"),
         };
         out.pad(&words)
     }

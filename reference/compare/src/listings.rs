@@ -3,10 +3,10 @@
 use reference::generate::listings::{self, Listing, Source};
 use reference::generate::shapes::{self, Place, Way};
 use reference::generate::wallets::{self, Plan, Wallet};
-use reference::generate::{clubs, damage, queries, wide};
+use reference::generate::{clubs, damage, full, queries, wide};
 use reference::query::Query;
 use reference::random::Random;
-use reference::records::Records;
+use reference::records::{Head, Records};
 use reference::shop;
 
 /// So many wallets are listed with every buffer.
@@ -30,7 +30,8 @@ pub fn fixed(judge: &mut impl FnMut(Listing)) {
 }
 
 /// Hands over the fixed listings but for the shapes: the shop's, whole and with
-/// every field damaged, derivations of very many nodes, and wallets.
+/// every field damaged, derivations of very many nodes, tables of many edges, and
+/// wallets.
 pub fn fixed_inputs(judge: &mut impl FnMut(Listing)) {
     let student = Query {
         owner: 2,
@@ -56,7 +57,21 @@ pub fn fixed_inputs(judge: &mut impl FnMut(Listing)) {
             wide::query(levels),
         ));
     }
+    fixed_edges(judge);
     fixed_wallets(judge);
+}
+
+/// Hands over tables of few and of many edges, the last of which is each
+/// automaton's in turn.
+fn fixed_edges(judge: &mut impl FnMut(Listing)) {
+    let most = Head::LIMITS.edges;
+    for edges in [full::FEWEST, most / 2, most - 1, most] {
+        let mut records = full::records(edges);
+        for automaton in 1..=records.head().automata {
+            records.edges[usize::from(edges) - 1][0] = automaton;
+            judge(listing(&records.numbers(), full::ASKED));
+        }
+    }
 }
 
 /// Hands over wallets of every size and arrangement.

@@ -197,7 +197,7 @@ impl Lists {
         }
         for mark in Mark::all() {
             let count = self.marks.get(&mark).copied();
-            lines.push((format!("one in {MARKED}: {mark}"), count, 1));
+            lines.push((format!("one in {MARKED}: {mark}"), count, mark.least()));
         }
         let word = [
             ("listed set, proved by its record", self.word.proved),

@@ -31,6 +31,7 @@ mod owners;
 mod relations;
 mod report;
 mod signs;
+mod slips;
 mod tally;
 mod traits;
 mod verdicts;

@@ -7,12 +7,17 @@ use reference::generate::listings::Listing;
 use reference::listing::{minimal_sets_within, Minimal};
 use reference::pairs::is_part;
 use reference::query::DEEPEST;
+use reference::records::Head;
 use reference::table::Table;
 use reference::words::Standing;
 
 use crate::features::Uses;
 use crate::lists::patience;
 use crate::owners::{by_owner, matching_every};
+use crate::slips::{has_many_edges, Slip, LEAST, MANY};
+
+/// A table that defines so many roles has many.
+const ROLES: usize = 16;
 
 /// Something that a listing can be or have.
 #[derive(Clone, Copy, Debug, PartialEq, Eq, PartialOrd, Ord)]
@@ -49,6 +54,15 @@ pub enum Mark {
     Deepest,
     /// There is no set, but there would be one if the limit were one higher.
     NoneForDepth,
+    /// The table has many edges.
+    ManyEdges,
+    /// So it has, and many roles are defined.
+    ManyRoles,
+    /// The table has many edges, and by such a slip there would be other sets.
+    Slip(Slip),
+    /// So it is without the last edge, of which there are as many as there may
+    /// be.
+    EdgeLimit,
 }
 
 impl Mark {
@@ -60,7 +74,18 @@ impl Mark {
         marks.extend([Mark::Sizes, Mark::Needless, Mark::Twenty]);
         marks.extend([Mark::Constrained, Mark::NoneForConstraints, Mark::Larger]);
         marks.extend([Mark::Deep, Mark::Deepest, Mark::NoneForDepth]);
+        marks.extend([Mark::ManyEdges, Mark::ManyRoles]);
+        marks.extend(Slip::all().map(Mark::Slip));
+        marks.push(Mark::EdgeLimit);
         marks
+    }
+
+    /// How many listings must have it at the least.
+    pub fn least(self) -> u64 {
+        match self {
+            Mark::ManyEdges | Mark::ManyRoles | Mark::Slip(_) | Mark::EdgeLimit => LEAST,
+            _ => 1,
+        }
     }
 
     /// The marks of a listing with these minimal sets.
@@ -91,10 +116,25 @@ impl Mark {
             Mark::Deep => others.shallower != sets,
             Mark::Deepest => others.shallower != sets && listing.query.depth == DEEPEST,
             Mark::NoneForDepth => sets.is_empty() && !others.deeper.is_empty(),
+            Mark::ManyEdges => has_many_edges(&table),
+            Mark::ManyRoles => has_many_edges(&table) && roles(&table) >= ROLES,
+            Mark::Slip(slip) => others.slips.contains(&slip),
+            Mark::EdgeLimit => others.slips.contains(&Slip::Last) && is_at_the_limit(&table),
         };
         let all = Mark::all().into_iter();
         all.filter(|&mark| has(mark)).collect()
     }
+}
+
+/// How many roles a table defines.
+fn roles(table: &Table) -> usize {
+    let roles = table.credentials.iter().map(|credential| credential.role);
+    roles.collect::<BTreeSet<_>>().len()
+}
+
+/// Whether a table has as many edges as it may have.
+fn is_at_the_limit(table: &Table) -> bool {
+    table.edges.len() == usize::from(Head::LIMITS.edges)
 }
 
 /// Whether an automaton is dead once it has read the goal's role.
@@ -115,6 +155,8 @@ struct Others {
     shallower: Vec<u32>,
     /// With a depth limit one higher; at 16 there is none.
     deeper: Vec<u32>,
+    /// The slips by which there would be others, if there are many edges.
+    slips: Vec<Slip>,
 }
 
 impl Others {
@@ -135,6 +177,7 @@ impl Others {
             any_owner: sets_with(matching_every(table.clone())),
             shallower: sets(listing, table, depth - 1),
             deeper: sets(listing, table, depth + 1),
+            slips: slips(listing, table, own),
         }
     }
 
@@ -151,12 +194,28 @@ impl Others {
 
 /// The minimal sets of another table, with another depth limit.
 fn sets(listing: &Listing, table: &Table, depth: u16) -> Vec<u32> {
+    known_sets(listing, table, depth).unwrap_or_default()
+}
+
+/// The same, unless there is none by the limit, or it takes too long.
+fn known_sets(listing: &Listing, table: &Table, depth: u16) -> Option<Vec<u32>> {
     let mut query = listing.query;
     query.depth = depth;
-    let asked = query.read().ok();
-    let sets = asked.and_then(|asked| minimal_sets_within(patience(), table, asked));
-    let sets = sets.unwrap_or_default().into_iter();
-    sets.map(|minimal| minimal.set).collect()
+    let sets = minimal_sets_within(patience(), table, query.read().ok()?)?;
+    Some(sets.iter().map(|minimal| minimal.set).collect())
+}
+
+/// The slips by which there would be others than these sets; none if the table
+/// does not have many edges.
+fn slips(listing: &Listing, table: &Table, own: &[u32]) -> Vec<Slip> {
+    let others = |slip: &Slip| {
+        let sets = known_sets(listing, &slip.table(table), listing.query.depth);
+        sets.is_some_and(|sets| sets != own)
+    };
+    match has_many_edges(table) {
+        true => Slip::all().filter(others).collect(),
+        false => Vec::new(),
+    }
 }
 
 impl fmt::Display for Mark {
@@ -178,7 +237,45 @@ impl fmt::Display for Mark {
             Mark::Deep => "other sets one level higher up".into(),
             Mark::Deepest => "so with sixteen levels".into(),
             Mark::NoneForDepth => "none, but some one level further down".into(),
+            Mark::ManyEdges => format!("{MANY} edges or more"),
+            Mark::ManyRoles => format!("so, and {ROLES} roles or more"),
+            Mark::Slip(slip) => format!("so, other sets {slip}"),
+            Mark::EdgeLimit => format!("other sets without edge {}", Head::LIMITS.edges),
         };
         out.pad(&words)
+    }
+}
+
+#[cfg(test)]
+mod tests {
+    use reference::generate::full;
+    use reference::generate::listings::{Listing, Source};
+    use reference::listing::minimal_sets;
+    use reference::table::Table;
+
+    use super::Mark;
+    use crate::slips::Slip;
+
+    /// The marks of a full table with so many edges that have to do with that.
+    fn marks(edges: u16) -> Vec<Mark> {
+        let listing = Listing {
+            table: full::records(edges).numbers(),
+            query: full::ASKED,
+            source: Source::Fixed,
+        };
+        let table = Table::read(&listing.table).expect("an accepted table");
+        let sets = minimal_sets(&table, full::ASKED.read().expect("a valid query"));
+        let mut marks = Mark::of(&listing, &sets);
+        marks.retain(|&mark| mark >= Mark::ManyEdges);
+        marks
+    }
+
+    #[test]
+    fn a_list_tells_by_which_slips_it_would_be_another() {
+        let slips = [Slip::Last, Slip::Merged, Slip::Down, Slip::Up];
+        let many = [&[Mark::ManyEdges][..], &slips.map(Mark::Slip)].concat();
+        assert_eq!(marks(99), []);
+        assert_eq!(marks(100), many);
+        assert_eq!(marks(128), [&many[..], &[Mark::EdgeLimit]].concat());
     }
 }

@@ -14,6 +14,7 @@ use crate::branches::branch;
 use crate::dead::{self, Begun};
 use crate::features::Uses;
 use crate::owners::{by_owner, matching_every};
+use crate::slips::{has_many_edges, Slip, LEAST, MANY};
 
 /// A record of more numbers is not looked at.
 const LONGEST: usize = 10_000;
@@ -29,6 +30,10 @@ pub enum Sign {
     Dead,
     /// It is refused with 14, for an automaton that is dead on no word.
     Alive,
+    /// It is refused with 14, and the table has many edges.
+    ManyEdges,
+    /// So it is, and by such a slip there would be another verdict.
+    Slip(Slip),
     /// It is refused with this number, 11 to 13, at a node, and before that node
     /// there is one where an automaton is dead that is used by then.
     DeadBefore(u32),
@@ -50,10 +55,20 @@ impl Sign {
     /// Every sign that there is.
     pub fn all() -> Vec<Sign> {
         let mut signs = vec![Sign::ByOwner, Sign::OtherOwner, Sign::Dead, Sign::Alive];
+        signs.push(Sign::ManyEdges);
+        signs.extend(Slip::MORE.map(Sign::Slip));
         signs.extend([11, 12, 13].map(Sign::DeadBefore));
         signs.extend([Sign::Level, Sign::LevelAndPair, Sign::PairRightAbove]);
         signs.extend([Sign::PairFarAbove, Sign::PairWithin, Sign::RoleBefore]);
         signs
+    }
+
+    /// How many refused records must have it at the least.
+    pub fn least(self) -> u64 {
+        match self {
+            Sign::ManyEdges | Sign::Slip(_) => LEAST,
+            _ => 1,
+        }
     }
 
     /// The signs of a claim that is refused.
@@ -118,6 +133,11 @@ fn rejected(table: &Table, asked: Asked, claim: &Claim, refusal: Refusal) -> Vec
             signs.push(Sign::OtherOwner);
         }
     }
+    if has_many_edges(table) {
+        let other = |slip: &Slip| comply(&slip.table(table), &derivation) != Err(refusal);
+        signs.push(Sign::ManyEdges);
+        signs.extend(Slip::MORE.into_iter().filter(other).map(Sign::Slip));
+    }
     signs
 }
 
@@ -138,6 +158,8 @@ impl fmt::Display for Sign {
             Sign::OtherOwner => "refused 14 for another owner's role".into(),
             Sign::Dead => "refused 14 by a dead automaton".into(),
             Sign::Alive => "refused 14 by one that is not dead".into(),
+            Sign::ManyEdges => format!("refused 14, {MANY} edges or more"),
+            Sign::Slip(slip) => format!("so, other {slip}"),
             Sign::DeadBefore(number) => format!("refused {number} after a dead automaton"),
             Sign::Level => "refused 13 by the level".into(),
             Sign::LevelAndPair => "refused 13 by the level and the pair".into(),
@@ -153,12 +175,13 @@ impl fmt::Display for Sign {
 #[cfg(test)]
 mod tests {
     use reference::generate::claims::Claim;
-    use reference::generate::clubs;
+    use reference::generate::{clubs, full};
     use reference::records::{EdgeRecord, Records};
     use reference::shop::{Q, R, T};
     use reference::{verify, Query};
 
     use super::Sign;
+    use crate::slips::Slip;
 
     /// An edge of the automaton from state 0 to state 0 on the roles of an owner:
     /// Shop's or School's.
@@ -191,6 +214,26 @@ mod tests {
         let stay = [1, 1, 2, 0, 0, 1];
         assert_eq!(signs(&[away, stay], &R), [Sign::Alive, Sign::ByOwner]);
         assert_eq!(signs(&[stay], &R), [Sign::Dead]);
+    }
+
+    #[test]
+    fn a_record_rejected_among_many_edges_tells_by_which_slips_it_would_not_be() {
+        // The second way goes by the last edge, which is another automaton's now.
+        let signs = |edges: u16| {
+            let mut records = full::records(edges);
+            records.edges[usize::from(edges) - 1][0] = 7;
+            let claim = Claim {
+                table: records.numbers(),
+                query: full::ASKED,
+                record: full::WAYS[1].to_vec(),
+            };
+            let verdict = verify(&claim.table, claim.query, &claim.record);
+            Sign::of(&claim, verdict.expect_err("a refusal"))
+        };
+        let many = [Sign::ManyEdges, Sign::Slip(Slip::Pooled)];
+        let few = [Sign::Dead, Sign::ByOwner];
+        assert_eq!(signs(99), few);
+        assert_eq!(signs(100), [few, many].concat());
     }
 
     #[test]

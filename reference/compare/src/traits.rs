@@ -18,6 +18,7 @@ use crate::branches::{Again, OFTEN};
 use crate::dead;
 use crate::features::Uses;
 use crate::owners::by_owner;
+use crate::slips::{has_many_edges, rejecting, Slip, LEAST, MANY};
 
 /// A record of so many levels and more is a deep one.
 const DEEP: usize = 4;
@@ -60,6 +61,10 @@ pub enum Trait {
     OtherCredential,
     /// Other records come before it so, under an automaton with label 4.
     OtherByOwner,
+    /// A used credential has an automaton, and the table has many edges.
+    ManyEdges,
+    /// So it is, and by such a slip the record would be rejected.
+    Slip(Slip),
 }
 
 impl Trait {
@@ -76,8 +81,17 @@ impl Trait {
         ]);
         traits.extend([Trait::LesserMiddle, Trait::LesserCredential]);
         traits.extend([Trait::OtherMiddle, Trait::OtherCredential]);
-        traits.push(Trait::OtherByOwner);
+        traits.extend([Trait::OtherByOwner, Trait::ManyEdges]);
+        traits.extend(Slip::MISSING.map(Trait::Slip));
         traits
+    }
+
+    /// How many written records must have it at the least.
+    pub fn least(self) -> u64 {
+        match self {
+            Trait::ManyEdges | Trait::Slip(_) => LEAST,
+            _ => 1,
+        }
     }
 
     /// The traits of the first record of a set.
@@ -96,6 +110,7 @@ impl Trait {
         };
         let parting = view.parting(&record, first);
         let uses_owner = uses.any_of(by_owner(&table));
+        let slips = rejecting(&table, &derivation);
         let has = |quality: Trait| match quality {
             Trait::Kind(kind) => uses.kinds.contains(&kind),
             Trait::Automaton => !uses.automata.is_empty(),
@@ -116,6 +131,8 @@ impl Trait {
             Trait::OtherMiddle => parting.is_some_and(|index| index % NODE == 1),
             Trait::OtherCredential => parting.is_some_and(|index| index % NODE == 0),
             Trait::OtherByOwner => parting.is_some() && uses_owner,
+            Trait::ManyEdges => !uses.automata.is_empty() && has_many_edges(&table),
+            Trait::Slip(slip) => slips.contains(&slip),
         };
         let all = Trait::all().into_iter();
         all.filter(|&quality| has(quality)).collect()
@@ -210,6 +227,8 @@ impl fmt::Display for Trait {
             Trait::OtherMiddle => "a lesser middle derives, but breaks".into(),
             Trait::OtherCredential => "a lesser credential derives, but breaks".into(),
             Trait::OtherByOwner => "so it is under label 4".into(),
+            Trait::ManyEdges => format!("under a constraint, {MANY} edges or more"),
+            Trait::Slip(slip) => format!("so, rejected {slip}"),
         };
         out.pad(&words)
     }

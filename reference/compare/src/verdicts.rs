@@ -150,7 +150,7 @@ impl Verdicts {
         }
         for sign in Sign::all() {
             let count = self.signs.get(&sign).copied();
-            lines.push((format!("one in {SIGNED}: {sign}"), count, 1));
+            lines.push((format!("one in {SIGNED}: {sign}"), count, sign.least()));
         }
         for wrong in Wrong::all() {
             for number in wrong.expected() {

@@ -28,8 +28,8 @@ const ANSWERS: [u32; 11] = [0, 1, 2, 3, 4, 5, 6, 7, 8, 15, 16];
 const STEPS: u64 = 100_000;
 /// One writing in so many may be left without an answer of the reference.
 const UNANSWERED: u64 = 100;
-/// Of the list of a shape, which may be very long, so many sets are asked for
-/// at most.
+/// Of the list of a shape or a net, which may be very long, so many sets are
+/// asked for at most.
 const SETS: usize = 12;
 /// A buffer has so many cells at most.
 const MOST_CELLS: usize = 200_000;
@@ -276,7 +276,7 @@ impl Writings {
         }
         for quality in Trait::all() {
             let count = self.traits.get(&quality).copied();
-            lines.push((format!("written: {quality}"), count, 1));
+            lines.push((format!("written: {quality}"), count, quality.least()));
         }
         let proved = "written, and accepted with just the set";
         lines.push((proved.into(), Some(self.proved), 1));
@@ -299,7 +299,7 @@ fn answers(size: Size) -> &'static [u32] {
 fn chosen(random: &mut Random, listing: &Listing, sets: &[Minimal]) -> Vec<u32> {
     let (listed, others) = match listing.source {
         Source::Fixed => (SETS, Relation::UNLISTED.len()),
-        Source::Shaped(_) => (SETS, 1),
+        Source::Shaped(_) | Source::Net => (SETS, 1),
         _ => (sets.len(), 1),
     };
     let mut chosen: Vec<u32> = sets.iter().map(|minimal| minimal.set).collect();

@@ -3,7 +3,7 @@
 use crate::generate::clubs::{self, Circle};
 use crate::generate::constraints::{self, Constraint, Role};
 use crate::generate::growth::{Node, Policy, Wish};
-use crate::generate::policies;
+use crate::generate::{nets, policies};
 use crate::query::{Query, DEEPEST};
 use crate::random::Random;
 use crate::records::{Head, Records};
@@ -114,13 +114,17 @@ impl<'a> Grown<'a> {
 }
 
 /// A table from which records are grown, often with automata. In one of three
-/// roles lead back to themselves.
+/// roles lead back to themselves, and one of twelve has many edges.
 pub fn table(random: &mut Random) -> Records {
-    if !random.one_in(3) {
-        return policies::records(random);
+    let most = Head::LIMITS.credentials;
+    match random.below(12) {
+        0 => nets::made_up(random, most).records,
+        1..=4 => {
+            let circle = Circle::drawn(random);
+            clubs::made_up(random, circle, most).records
+        }
+        _ => policies::records(random),
     }
-    let circle = Circle::drawn(random);
-    clubs::made_up(random, circle, Head::LIMITS.credentials).records
 }
 
 /// A goal that can be derived, and its height: the highest one of a few.

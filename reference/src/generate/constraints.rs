@@ -28,6 +28,11 @@ pub fn one((owner, name): Role) -> Matched {
     [1, owner, name]
 }
 
+/// Every role but one.
+pub fn but((owner, name): Role) -> Matched {
+    [3, owner, name]
+}
+
 /// Every role of an owner.
 pub fn owned(owner: u16) -> Matched {
     [4, owner, 0]
@@ -48,8 +53,8 @@ fn exactly(from: u16, role: Role, to: u16) -> [u16; 5] {
     on(from, one(role), to)
 }
 
-fn all_but(from: u16, (owner, name): Role, to: u16) -> [u16; 5] {
-    [from, 3, owner, name, to]
+fn all_but(from: u16, role: Role, to: u16) -> [u16; 5] {
+    on(from, but(role), to)
 }
 
 fn any_of(from: u16, owner: u16, to: u16) -> [u16; 5] {

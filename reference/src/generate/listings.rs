@@ -7,7 +7,7 @@ use crate::generate::clubs::{self, Circle};
 use crate::generate::families::{self, Family};
 use crate::generate::growth::Policy;
 use crate::generate::wallets::Wallet;
-use crate::generate::{crossed, damage, detours, policies, queries, valid, wallets};
+use crate::generate::{crossed, damage, detours, nets, policies, queries, valid, wallets};
 use crate::query::{Query, DEEPEST};
 use crate::random::Random;
 use crate::records::{Head, Records};
@@ -38,6 +38,8 @@ pub enum Source {
     Shaped(Family),
     /// A wallet in which a role leads back to itself.
     Circle(Circle),
+    /// A wallet with eight automata and many edges.
+    Net,
     /// A table in which many goals can be derived, and one of these goals.
     Policy,
     /// Such a table, and any query.
@@ -59,6 +61,7 @@ impl Source {
         sources.push(Source::Detour);
         sources.extend(Family::ALL.map(Source::Shaped));
         sources.extend(Circle::ALL.map(Source::Circle));
+        sources.push(Source::Net);
         sources.extend([Source::Policy, Source::AnyQuery, Source::Valid]);
         sources.extend([Source::Table, Source::Query, Source::Both]);
         sources
@@ -67,10 +70,11 @@ impl Source {
 
 /// A listing made up at random from any source.
 pub fn any(random: &mut Random) -> Listing {
-    match random.below(30) {
+    match random.below(32) {
         0 => from_source(random, Source::Valid),
         1 | 2 => from_source(random, Source::Detour),
-        3..=15 => {
+        3 | 4 => from_source(random, Source::Net),
+        5..=17 => {
             let circle = Circle::drawn(random);
             from_source(random, Source::Circle(circle))
         }
@@ -105,6 +109,7 @@ fn from_source(random: &mut Random, source: Source) -> Listing {
         Source::Crossed => with_query(crossed::made_up(random)),
         Source::Shaped(family) => with_query(families::made_up(random, family, most)),
         Source::Circle(circle) => with_query(clubs::made_up(random, circle, most)),
+        Source::Net => with_query(nets::made_up(random, most)),
         _ => with_query(wallets::made_up(random)),
     };
     let mut table = records.numbers();
@@ -166,6 +171,7 @@ impl fmt::Display for Source {
             Source::Detour => "wallet with detours",
             Source::Shaped(family) => return family.fmt(out),
             Source::Circle(circle) => return circle.fmt(out),
+            Source::Net => "wallet with many edges",
             Source::Policy => "goal of a table with many",
             Source::AnyQuery => "any query",
             Source::Valid => "role of any valid table",

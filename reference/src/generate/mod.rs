@@ -4,7 +4,9 @@
 //! - [`queries`]: queries, valid and damaged
 //! - [`policies`], [`constraints`]: tables in which goals can be derived
 //! - [`wallets`], [`crossed`], [`detours`], [`shapes`], [`families`],
-//!   [`clubs`], [`listings`]: tables with queries that have minimal sets
+//!   [`clubs`], [`nets`], [`listings`]: tables with queries that have minimal
+//!   sets
+//! - [`meshes`], [`full`]: automata with many edges
 //! - [`growth`], [`claims`]: right records, grown from such tables
 //! - [`wrongs`], [`spoil`], [`misfits`], [`every`]: wrong ones
 //! - [`wide`]: records of very many nodes
@@ -19,9 +21,12 @@ pub mod damage;
 pub mod detours;
 pub mod every;
 pub mod families;
+pub mod full;
 pub mod growth;
 pub mod listings;
+pub mod meshes;
 pub mod misfits;
+pub mod nets;
 pub mod noise;
 pub mod places;
 pub mod policies;
