@@ -3,8 +3,8 @@
 //! They are for what neither a theorem nor the comparison shows: that the
 //! programs which the kit's interpreter and its compiler make of the proved code
 //! give the right answers. So they are few and small: all rows of the shop
-//! example, then every refusal, kind, label and size of buffer, and a club, whose
-//! role comes again on a branch. Each list is
+//! example, then every refusal, kind, label and size of buffer, a club, whose
+//! role comes again on a branch, and automata that share edges. Each list is
 //! made with little room for cuts too, which no call of the bindings does, and
 //! after it records are written for the first sets of the list and for others.
 //!
@@ -23,9 +23,9 @@
 //! and the compiler's at every level; the interpreter stops after ten million
 //! steps.
 
-use crate::generate::wide;
+use crate::generate::{full, wide};
 use crate::query::Query;
-use crate::records::Records;
+use crate::records::{EdgeRecord, Records};
 use crate::shop::{Q, R, T, U};
 
 /// A case: what a call is given.
@@ -185,10 +185,50 @@ const FRIEND: Query = Query {
     depth: 3,
 };
 
+/// As many edges as a block has room for beside eight credentials, eight automata
+/// and a record of four nodes.
+const EDGES: u16 = 71;
+
+/// Two ways by which principal 7 is in 1.1, and two automata with these edges,
+/// which start in state 0 and accept in state 2. The first is for the first way,
+/// and one of them for the second.
+fn fork(second: u16, edges: &[EdgeRecord]) -> Records {
+    Records {
+        credentials: vec![
+            [1, 1, 2, 1, 2, 0],      // 1: whoever is in 1.2 is in 1.1
+            [1, 1, 2, 1, 3, 0],      // 2: whoever is in 1.3 is in 1.1
+            [1, 2, 2, 1, 4, 1],      // 3: whoever is in 1.4 is in 1.2, under automaton 1
+            [1, 3, 2, 1, 4, second], // 4: whoever is in 1.4 is in 1.3, under this one
+            [1, 4, 1, 7, 0, 0],      // 5: principal 7 is in 1.4
+        ],
+        cells: vec![],
+        automata: vec![[1, 4]; 2],
+        edges: edges.to_vec(),
+    }
+}
+
+/// The fork under automaton 1 alone: from 9 and from 4, which are for one way
+/// each, by 1.4 to 2.
+fn one_for_both() -> Records {
+    let begin = [[1, 0, 1, 1, 1, 1], [1, 1, 1, 1, 2, 9], [1, 1, 1, 1, 3, 4]];
+    let end = [[1, 9, 1, 1, 4, 2], [1, 4, 1, 1, 4, 2]];
+    fork(1, &[&begin[..], &end].concat())
+}
+
+/// The fork under an automaton for each way. Both come to 3, but only the second
+/// has an edge from there: by 1.4 to 2.
+fn one_for_each() -> Records {
+    let first = [[1, 0, 1, 1, 1, 1], [1, 1, 1, 1, 2, 3]];
+    let second = [[2, 0, 1, 1, 1, 1], [2, 1, 1, 1, 3, 3], [2, 3, 1, 1, 4, 2]];
+    fork(2, &[&first[..], &second].concat())
+}
+
 /// Lists of the wallet, of the wallet without its second constraint, which has
 /// two sets, and of a chain of four roles that two credentials define each; then
 /// lists with label 4: of one set, of both, and of none, since the automaton is
-/// dead at the goal; then lists of the club, of two sets and of one.
+/// dead at the goal; then lists of the club, of two sets and of one; then lists
+/// under automata that share edges: of both ways, the second of which goes by the
+/// last edge, of both ways of the fork, and of the second alone.
 fn lists() -> Vec<Case> {
     let wallet = wallet().numbers();
     let free = changed(|wallet| wallet.credentials[5][5] = 0);
@@ -217,6 +257,9 @@ fn lists() -> Vec<Case> {
         list(&owned_by(&[1, 2]).numbers(), OWNED_BY_3, 1),
         list(&club().numbers(), FRIEND, 2),
         list(&limited_club().numbers(), FRIEND, 2),
+        list(&full::records(EDGES).numbers(), full::ASKED, 2),
+        list(&one_for_both().numbers(), full::ASKED, 2),
+        list(&one_for_each().numbers(), full::ASKED, 2),
     ]
 }
 
@@ -256,6 +299,7 @@ fn verdicts() -> Vec<Case> {
     ];
     cases.extend(verdicts_by_owner());
     cases.extend(verdicts_of_the_club());
+    cases.extend(verdicts_by_edge());
     cases
 }
 
@@ -295,5 +339,14 @@ fn verdicts_of_the_club() -> Vec<Case> {
         verify(&club, two_levels, &by_4),
         verify(&club, FRIEND, &[1, 5, 1, 6, 1, 5, 4, 0]),
         verify(&club, FRIEND, &[1, 6, 1, 5, 4, 0]),
+    ]
+}
+
+/// Records under automata that share edges: one that goes by the last edge, and
+/// that of the fork's first way, to whose automaton another's edge is of no help.
+fn verdicts_by_edge() -> Vec<Case> {
+    vec![
+        verify(&full::records(EDGES).numbers(), full::ASKED, &full::WAYS[1]),
+        verify(&one_for_each().numbers(), full::ASKED, &[1, 0, 3, 0, 5, 0]),
     ]
 }

@@ -119,14 +119,16 @@ fn records_are_written_for_listed_sets_alone() {
     }
 }
 
-/// The answers to the cases of accepted tables with label 4, in their order.
+/// The answers to the cases of the wallet with label 4 where it is accepted, in
+/// their order.
 #[test]
 fn label_4_is_judged_as_it_should_be() {
     let mut told = Vec::new();
     for (case, line) in cases().iter().zip(lines()) {
         let table = Table::read(&case.table);
         let mut edges = table.iter().flat_map(|table| &table.edges);
-        if edges.any(|edge| matches!(edge.label, Label::OwnedBy(_))) {
+        let has_4 = edges.any(|edge| matches!(edge.label, Label::OwnedBy(_)));
+        if has_4 && case.query.principal == 9 {
             told.push(line);
         }
     }
@@ -165,6 +167,46 @@ fn a_role_comes_again_on_a_branch() {
     assert_eq!([told[0][3], told[1][1]], [&written, &written]);
     let verdicts = ["0 23", "14 1", "13 3", "13 3", "13 2"].map(|line| vec![line]);
     assert_eq!(told[2..], verdicts);
+}
+
+/// The answers to the cases under automata that share edges, in their order.
+#[test]
+fn edges_count_for_their_own_automaton() {
+    let mut told = Vec::new();
+    for (case, lines) in cases().iter().zip(printed()) {
+        if case.query.principal == 7 {
+            told.push(lines[0]);
+        }
+    }
+    let second_alone = format!("0 1 26 {UNTOUCHED}");
+    let lists = ["0 2 85 170", "0 2 21 26", &second_alone];
+    assert_eq!(told[..3], lists);
+    assert_eq!(told[3..], ["0 170", "14 1"]);
+}
+
+/// The case without the edge with this index.
+fn without(case: &Case, index: usize) -> Case {
+    let mut records = Records::read(&case.table).expect("an accepted table");
+    records.edges.remove(index);
+    let table = records.numbers();
+    Case {
+        table,
+        ..case.clone()
+    }
+}
+
+#[test]
+fn lists_hang_on_single_edges() {
+    let cases = cases().into_iter();
+    let cases: Vec<Case> = cases.filter(|case| case.query.principal == 7).collect();
+    let edges = usize::from(cases[0].table[3]);
+    assert_eq!(listed(&without(&cases[0], edges - 1)), [85]);
+    // The two edges on one role to one state.
+    assert_eq!(listed(&without(&cases[1], 3)), [26]);
+    assert_eq!(listed(&without(&cases[1], 4)), [21]);
+    // An edge that both automata have: the second needs its own.
+    assert_eq!(listed(&without(&cases[2], 2)), []);
+    assert_eq!(listed(&without(&cases[2], 0)), [26]);
 }
 
 #[test]
