@@ -14,6 +14,7 @@ usage: bench
        bench writing
        bench dead [--before FILE --after FILE]...
        bench clubs [--limit SECONDS]
+       bench moves [--before FILE --after FILE]...
        bench peers [--limit SECONDS] [--plot FILE]
        bench page [--limit SECONDS] [--plot FILE] [--before FILE --after FILE]...
        bench climb [--writing] [--steps NUMBER] [--seed NUMBER] [--limit SECONDS]
@@ -24,13 +25,15 @@ writing of records, and the lines are in columns. With `writing` the latter is
 timed alone, and the tables are Markdown. With `dead` tables whose constraint
 dies early are timed, beside twins whose constraint does not, and the tables are
 Markdown. With `clubs` the lists and records of clubs are timed, whose friends are
-the friends of their friends, and the tables are Markdown. With `peers` several ways of listing are timed on the same wallets, and
-the tables are Markdown. With `page` all this is done, all tables are Markdown,
-and a table about the machine comes first. With `climb` tables on which the
-library's list takes long are looked for, and the slowest ones printed. With
-`single` one call is made for the numbers of a query and a table on standard input,
-and the numbers that it gives are printed: `clubs` starts it where a call may not
-end in time.
+the friends of their friends, and the tables are Markdown. With `moves` the moving
+of state sets along roles is timed, on long records beside a loop in C and on short
+ones, and the tables are Markdown. With `peers` several ways of listing are timed
+on the same wallets, and the tables are Markdown. With `page` all this is done, all
+tables are Markdown, and a table about the machine comes first. With `climb` tables
+on which the library's list takes long are looked for, and the slowest ones
+printed. With `single` one call is made for the numbers of a query and a table on
+standard input, and the numbers that it gives are printed: `clubs` starts it where
+a call may not end in time.
 
 --limit SECONDS   how long a call may take for one wallet, 1 if not given
 --plot FILE       where a plot of the ways is written, as SVG
@@ -48,7 +51,7 @@ const SEED: u64 = 2015;
 /// The options of each task.
 const PEERS: &[&str] = &["--limit", "--plot"];
 const PAGE: &[&str] = &["--limit", "--plot", "--before", "--after"];
-const DEAD: &[&str] = &["--before", "--after"];
+const BUILDS: &[&str] = &["--before", "--after"];
 const CLUBS: &[&str] = &["--limit"];
 
 /// The limit if none is given.
@@ -69,6 +72,8 @@ pub enum Task {
     Dead(Vec<[PathBuf; 2]>),
     /// Time clubs. A call may take so long for one of them.
     Clubs(Duration),
+    /// Time moves, by two builds if they are given.
+    Moves(Vec<[PathBuf; 2]>),
     /// Time several ways of listing.
     Peers(Options),
     /// All of this, as tables for the page.
@@ -99,7 +104,8 @@ pub fn task(arguments: impl IntoIterator<Item = OsString>) -> Result<Task, Strin
     };
     match first.to_str() {
         Some("writing") => alone(arguments, Task::Writing),
-        Some("dead") => Ok(Task::Dead(options(arguments, DEAD)?.builds)),
+        Some("dead") => Ok(Task::Dead(options(arguments, BUILDS)?.builds)),
+        Some("moves") => Ok(Task::Moves(options(arguments, BUILDS)?.builds)),
         Some("clubs") => Ok(Task::Clubs(options(arguments, CLUBS)?.limit)),
         Some("peers") => Ok(Task::Peers(options(arguments, PEERS)?)),
         Some("page") => Ok(Task::Page(options(arguments, PAGE)?)),
@@ -273,6 +279,11 @@ mod tests {
             ),
             ("clubs", Task::Clubs(Duration::from_secs(1))),
             ("clubs --limit 5", Task::Clubs(Duration::from_secs(5))),
+            ("moves", Task::Moves(Vec::new())),
+            (
+                "moves --after b --before a",
+                Task::Moves(vec![["a", "b"].map(PathBuf::from)]),
+            ),
             ("single library", Task::Single(single::Call::Library)),
             ("single reference", Task::Single(single::Call::Reference)),
             ("single write 7", Task::Single(single::Call::Write(7))),
@@ -323,6 +334,8 @@ mod tests {
             ("dead --before a --after b --after c", UNEQUAL),
             ("clubs 6", "unknown argument 6"),
             ("clubs --plot a", "unknown argument --plot"),
+            ("moves --limit 1", "unknown argument --limit"),
+            ("moves --before a", UNEQUAL),
             ("single", "something is missing after single"),
             ("single list", "unknown argument list"),
             ("single library 7", "unknown argument 7"),

@@ -13,7 +13,9 @@
 //! With `writing` it times the writing of records beside verifying and listing,
 //! and the refusals of writing. With `dead` it times tables whose constraint dies
 //! early, and, if asked, an older build of the library beside a newer one. With
-//! `clubs` it times clubs whose friends are the friends of their friends.
+//! `clubs` it times clubs whose friends are the friends of their friends. With
+//! `moves` it times the moving of state sets along roles, beside a loop in C, and
+//! by two builds too, if asked.
 //! With `peers` it times the library's list, the reference's, an enumeration of
 //! proofs and an answer set solver on the same wallets, and compares what they
 //! list. With `page` it does all this, and its tables are those of
@@ -25,6 +27,7 @@
 #![warn(missing_docs)]
 
 mod arguments;
+mod builds;
 mod calls;
 mod climb;
 mod clubs;
@@ -33,6 +36,7 @@ mod families;
 mod listing;
 mod lists;
 mod machine;
+mod moves;
 mod peers;
 mod pipe;
 mod plot;
@@ -52,7 +56,8 @@ use std::time::Duration;
 use reference::random::Random;
 
 use arguments::{Options, Task};
-use dead::{Build, Pair};
+use builds::{Build, Pair};
+use moves::Limit;
 use sheet::Form;
 
 /// The seed of the tables and records.
@@ -63,6 +68,8 @@ const COMMAND: &str = "cargo run --release --offline -p bench --";
 const DEAD: &str = "### Constraints that die early";
 /// The head of the page's section about clubs.
 const CLUBS: &str = "### Clubs";
+/// The head of the page's section about moves.
+const MOVES: &str = "### Moves";
 /// The code for wrong arguments.
 const WRONG_ARGUMENTS: u8 = 2;
 
@@ -87,6 +94,7 @@ fn done(task: Task) -> ExitCode {
         Task::Writing => print_writing(),
         Task::Dead(builds) => return time_dead(&builds),
         Task::Clubs(limit) => print_clubs(limit),
+        Task::Moves(builds) => return time_moves(&builds),
         Task::Peers(options) => return time_peers(&options, false),
         Task::Page(options) => return time_peers(&options, true),
         Task::Climb(climb) => climb::run(climb),
@@ -106,8 +114,9 @@ fn time_calls(form: Form) {
 
 /// Times the ways of listing, prints the tables and writes the plot. For the
 /// page there are tables of the machine, of the calls, of writing, of constraints
-/// that die early and of clubs beside them. It fails if two ways list different
-/// sets, if the plot cannot be written, or if a build cannot be loaded.
+/// that die early, of clubs and of moves beside them. It fails if two ways list
+/// different sets, if the plot cannot be written, or if a build or the loop in C
+/// cannot be loaded.
 fn time_peers(options: &Options, page: bool) -> ExitCode {
     let plot = options.plot.as_deref();
     if let Some(Err(error)) = plot.map(can_be_written) {
@@ -117,13 +126,17 @@ fn time_peers(options: &Options, page: bool) -> ExitCode {
         Ok(pairs) => pairs,
         Err(code) => return code,
     };
+    let moves_limit = match page.then(made).transpose() {
+        Ok(moves_limit) => moves_limit,
+        Err(code) => return code,
+    };
     if page {
         print_heading();
     }
     let comparison = peers::compare(options.limit);
     print!("{}", peers::tables::all(&comparison));
     let drawn = plot.map(|file| fs::write(file, peers::curves::drawn(&comparison)));
-    if page {
+    if let Some(moves_limit) = moves_limit {
         println!("\n### Calls of the library and of the reference");
         time_calls(Form::Markdown);
         println!();
@@ -132,6 +145,8 @@ fn time_peers(options: &Options, page: bool) -> ExitCode {
         dead::time(Form::Markdown, &pairs);
         println!("\n{CLUBS}");
         clubs::time(options.limit);
+        println!("\n{MOVES}");
+        moves::time(Form::Markdown, &pairs, &moves_limit);
     }
     match drawn {
         Some(Err(error)) => unwritten(&error),
@@ -151,6 +166,20 @@ fn time_dead(builds: &[[PathBuf; 2]]) -> ExitCode {
     print_command();
     machine::print();
     dead::time(Form::Markdown, &pairs);
+    ExitCode::SUCCESS
+}
+
+/// Times moves, by two builds if they are given. It fails if one of them or the
+/// loop in C cannot be loaded.
+fn time_moves(builds: &[[PathBuf; 2]]) -> ExitCode {
+    let (pairs, limit) = match (loaded(builds), made()) {
+        (Ok(pairs), Ok(limit)) => (pairs, limit),
+        (Err(code), _) | (_, Err(code)) => return code,
+    };
+    println!("{MOVES}\n\nThis section was printed by\n");
+    print_command();
+    machine::print();
+    moves::time(Form::Markdown, &pairs, &limit);
     ExitCode::SUCCESS
 }
 
@@ -202,6 +231,14 @@ fn loaded(builds: &[[PathBuf; 2]]) -> Result<Vec<Pair>, ExitCode> {
     let pairs: Result<Vec<Pair>, String> = builds.iter().map(load).collect();
     pairs.map_err(|error| {
         eprintln!("a build cannot be loaded: {error}");
+        ExitCode::FAILURE
+    })
+}
+
+/// The loop in C, or the code for why it cannot be loaded, which is said.
+fn made() -> Result<Limit, ExitCode> {
+    Limit::make().map_err(|error| {
+        eprintln!("bench/limit.c cannot be compiled and loaded: {error}");
         ExitCode::FAILURE
     })
 }

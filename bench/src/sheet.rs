@@ -40,6 +40,22 @@ impl Form {
             Form::Markdown => words::times(ratio),
         }
     }
+
+    /// The same of two things that may be close: then with more digits.
+    pub fn close_ratio(self, ratio: f64) -> String {
+        match ratio {
+            close if close < 10.0 => format!("{close:.2}"),
+            far => self.ratio(far),
+        }
+    }
+
+    /// So many in each second.
+    pub fn per_second(self, number: f64) -> String {
+        match self {
+            Form::Columns => format!("{number:.0}"),
+            Form::Markdown => format!("{:.1} million", number / 1e6),
+        }
+    }
 }
 
 /// Lines of words, under heads.
@@ -50,7 +66,7 @@ pub struct Lines {
 
 impl Lines {
     /// Prints what some lines are about, and their heads.
-    pub fn begin(form: Form, title: &str, heads: &[&str]) -> Lines {
+    pub fn begin(form: Form, title: &str, heads: &[impl AsRef<str>]) -> Lines {
         let lines = Lines::under(form, heads);
         match form {
             Form::Columns => println!("{title}"),
@@ -64,9 +80,9 @@ impl Lines {
     }
 
     /// Lines under these heads. A column is wide enough for its head.
-    fn under(form: Form, heads: &[&str]) -> Lines {
+    fn under(form: Form, heads: &[impl AsRef<str>]) -> Lines {
         let others = heads.iter().skip(1);
-        let others = others.map(|head| OTHERS.max(head.chars().count() + 1));
+        let others = others.map(|head| OTHERS.max(head.as_ref().chars().count() + 1));
         Lines {
             form,
             widths: others.collect(),
@@ -139,10 +155,10 @@ impl Sheet {
 
     /// A figure in words.
     fn words(&self, figure: f64) -> String {
-        match (self.lines.form, self.unit) {
-            (form, Unit::Nanoseconds(decimals)) => form.time(figure, decimals),
-            (Form::Columns, Unit::PerSecond) => format!("{figure:.0}"),
-            (Form::Markdown, Unit::PerSecond) => format!("{:.1} million", figure / 1e6),
+        let form = self.lines.form;
+        match self.unit {
+            Unit::Nanoseconds(decimals) => form.time(figure, decimals),
+            Unit::PerSecond => form.per_second(figure),
         }
     }
 }
@@ -198,6 +214,12 @@ mod tests {
     fn a_title_says_of_what_plain_numbers_are() {
         let titles = [Form::Columns, Form::Markdown].map(|form| form.timed("time"));
         assert_eq!(titles, ["time in nanoseconds", "time"]);
+    }
+
+    #[test]
+    fn close_ratios_have_more_digits() {
+        let ratios = [0.978, 1.04, 17.6].map(|ratio| Form::Markdown.close_ratio(ratio));
+        assert_eq!(ratios, ["0.98", "1.04", "18"]);
     }
 
     #[test]

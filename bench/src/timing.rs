@@ -78,10 +78,13 @@ pub fn alone<Value, Failure>(
     Ok((value, median(times)))
 }
 
-/// So many rounds at most are made of two calls that take turns.
+/// So many rounds at most are made of calls that take turns.
 const ROUNDS_IN_TURNS: usize = 15;
 /// No further turns are taken once they have lasted so long.
 const LONG_TURNS: Duration = Duration::from_secs(1);
+
+/// A call that takes turns with others.
+pub type Call<'a> = Box<dyn FnMut() + 'a>;
 
 /// The times of two calls in nanoseconds, each the median of some rounds that
 /// last so long at the least and take turns.
@@ -90,7 +93,7 @@ pub fn in_turns<One, Other>(
     one: impl FnMut() -> One,
     other: impl FnMut() -> Other,
 ) -> [f64; 2] {
-    turns(round, one, other).map(median)
+    two_turns(round, one, other).map(median)
 }
 
 /// The same with the least of the rounds, for two calls that may take nearly the
@@ -100,29 +103,50 @@ pub fn least_in_turns<One, Other>(
     one: impl FnMut() -> One,
     other: impl FnMut() -> Other,
 ) -> [f64; 2] {
-    turns(round, one, other).map(least)
+    two_turns(round, one, other).map(least)
 }
 
-/// The times of the rounds of two calls. The rounds take turns, so that whatever
-/// slows the machine slows both. The first turns show how many calls there can be
-/// in a round. If they take very long there are no others, but a round of the
-/// call of which there can be several: the first alone would say little of it.
-fn turns<One, Other>(
+/// The same for any number of calls. No further turns are taken once they have
+/// lasted so long.
+pub fn least_of_turns(round: Duration, long: Duration, calls: Vec<Call>) -> Vec<f64> {
+    turns(round, long, calls).into_iter().map(least).collect()
+}
+
+/// The times of the rounds of two calls.
+fn two_turns<One, Other>(
     round: Duration,
-    mut one: impl FnMut() -> One,
-    mut other: impl FnMut() -> Other,
+    one: impl FnMut() -> One,
+    other: impl FnMut() -> Other,
 ) -> [Vec<f64>; 2] {
+    let times = turns(round, LONG_TURNS, vec![unheard(one), unheard(other)]);
+    times.try_into().expect("the times of two calls")
+}
+
+/// A call whose value nobody asks for.
+fn unheard<'a, Value>(mut call: impl FnMut() -> Value + 'a) -> Call<'a> {
+    Box::new(move || {
+        black_box(call());
+    })
+}
+
+/// The times of the rounds of some calls. The rounds take turns, so that whatever
+/// slows the machine slows all. The first turns show how many calls there can be
+/// in a round. If they take very long there are no others, but a round of each
+/// call of which there can be several: the first alone would say little of it.
+fn turns(round: Duration, long: Duration, mut calls: Vec<Call>) -> Vec<Vec<f64>> {
     let start = Instant::now();
-    let firsts = [repeated(1, &mut one), repeated(1, &mut other)];
-    let passes = firsts.map(|first| filling(round, first));
-    let mut times = [Vec::new(), Vec::new()];
-    while times[0].len() < ROUNDS_IN_TURNS && start.elapsed() < LONG_TURNS {
-        times[0].push(repeated(passes[0], &mut one));
-        times[1].push(repeated(passes[1], &mut other));
+    let first = |call: &mut Call| repeated(1, call);
+    let firsts: Vec<f64> = calls.iter_mut().map(first).collect();
+    let mut times = vec![Vec::new(); calls.len()];
+    while times[0].len() < ROUNDS_IN_TURNS && start.elapsed() < long {
+        for ((call, &first), times) in calls.iter_mut().zip(&firsts).zip(&mut times) {
+            times.push(repeated(filling(round, first), call));
+        }
     }
     if times[0].is_empty() {
-        times[0].push(settled(passes[0], firsts[0], &mut one));
-        times[1].push(settled(passes[1], firsts[1], &mut other));
+        for ((call, &first), times) in calls.iter_mut().zip(&firsts).zip(&mut times) {
+            times.push(settled(filling(round, first), first, call));
+        }
     }
     times
 }
@@ -176,7 +200,7 @@ fn least(values: Vec<f64>) -> f64 {
 }
 
 /// The middle one of some values, the higher of two.
-fn median(mut values: Vec<f64>) -> f64 {
+pub fn median(mut values: Vec<f64>) -> f64 {
     values.sort_by(f64::total_cmp);
     values[values.len() / 2]
 }

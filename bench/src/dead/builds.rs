@@ -10,7 +10,8 @@ use reference::random::Random;
 use reference::records::{Head, Records};
 use reference::shop;
 
-use super::{first_set, same, tables, Build, ROUND};
+use super::{first_set, same, tables, ROUND};
+use crate::builds::{Build, Pair};
 use crate::calls;
 use crate::families::{self, Named};
 use crate::listing::{Listing, CELLS};
@@ -24,9 +25,6 @@ use crate::SEED;
 const RECORD_CELLS: usize = 1 << 17;
 /// The levels of the records whose nodes are counted.
 const LEVELS: u16 = 9;
-
-/// An object of the older build and one of the newer build, which take turns.
-pub type Pair = [Build; 2];
 
 /// Prints all tables about both builds.
 pub fn time(form: Form, pairs: &[Pair]) {
@@ -51,13 +49,9 @@ fn begin(form: Form, title: &str, inputs: &str) -> Lines {
     Lines::begin(form, &title, &heads)
 }
 
-/// Prints a line about both builds. Where they are close, the ratio has more
-/// digits than others have.
+/// Prints a line about both builds.
 fn print(form: Form, lines: &Lines, what: &str, [before, after]: [f64; 2]) {
-    let ratio = match before / after {
-        close if close < 10.0 => format!("{close:.2}"),
-        far => form.ratio(far),
-    };
+    let ratio = form.close_ratio(before / after);
     let [before, after] = [before, after].map(|time| form.time(time, 1));
     lines.line(&[what, &before, &after, &ratio]);
 }

@@ -2,21 +2,18 @@
 //! never has an empty set, and by an older build of the library beside a newer one.
 //!
 //! - [`tables`]: the tables and their twins
-//! - [`build`]: a build that is loaded
 //! - [`builds`]: an older build beside a newer one
 
-mod build;
 mod builds;
 mod tables;
 
 use std::fmt::Debug;
 use std::time::Duration;
 
+use crate::builds::Pair;
 use crate::listing::{Listing, CELLS};
 use crate::sheet::{Form, Lines};
 use crate::timing::least_in_turns;
-pub use build::Build;
-pub use builds::Pair;
 use tables::Early;
 
 /// How long a round of one call lasts at the least.

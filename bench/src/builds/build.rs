@@ -1,27 +1,16 @@
 //! A build of the library that is loaded from a shared object and called beside
-//! another one. This is the only unsafe code of the benchmark.
+//! another one.
 
 #![allow(unsafe_code)]
 
-use std::ffi::{c_char, c_int, c_void, CStr, CString};
+use std::ffi::c_void;
 use std::mem;
-use std::os::unix::ffi::OsStrExt;
 use std::path::Path;
 
 use bwlchareg::{Query, Refusal};
 
+use super::object::Object;
 use crate::listing::{library_query, Listing};
-
-extern "C" {
-    fn dlopen(file: *const c_char, mode: c_int) -> *mut c_void;
-    fn dlsym(object: *mut c_void, name: *const c_char) -> *mut c_void;
-    fn dlerror() -> *mut c_char;
-}
-
-/// Everything that the object needs is looked for when it is loaded, and what it
-/// defines is for nobody else: so several objects do not come in each other's way,
-/// nor in that of the linked one.
-const NOW_AND_LOCAL: c_int = 2;
 
 /// The calls as bindings/c/bwlchareg.h has them.
 type List = unsafe extern "C" fn(
@@ -71,19 +60,10 @@ impl Build {
     /// loaded. That its calls are those of the header is up to whoever names the
     /// file. A file that is named twice is loaded once.
     pub fn load(file: &Path) -> Result<Build, String> {
-        let told = |error: &dyn ToString| format!("{}: {}", file.display(), error.to_string());
-        // Without a slash in its name the system would look for it elsewhere.
-        let whole = file.canonicalize().map_err(|error| told(&error))?;
-        let name = CString::new(whole.as_os_str().as_bytes()).map_err(|error| told(&error))?;
-        // SAFETY: the name ends with a zero. What the object does when it is
-        // loaded is up to whoever names it.
-        let object = unsafe { dlopen(name.as_ptr(), NOW_AND_LOCAL) };
-        if object.is_null() {
-            return Err(failure());
-        }
-        let list = found(object, c"bwlchareg_list")?;
-        let write = found(object, c"bwlchareg_write")?;
-        let verify = found(object, c"bwlchareg_verify")?;
+        let object = Object::load(file)?;
+        let list = object.find(c"bwlchareg_list")?;
+        let write = object.find(c"bwlchareg_write")?;
+        let verify = object.find(c"bwlchareg_verify")?;
         // SAFETY: these are the calls of the header, whose types are above.
         Ok(unsafe {
             Build {
@@ -178,27 +158,6 @@ fn answer(call: impl FnOnce(&mut u64) -> u32) -> Result<u64, Refusal> {
             position: value,
         }),
     }
-}
-
-/// The address of a call in a loaded object.
-fn found(object: *mut c_void, name: &CStr) -> Result<*mut c_void, String> {
-    // SAFETY: the object is loaded, and the name ends with a zero.
-    let address = unsafe { dlsym(object, name.as_ptr()) };
-    match address.is_null() {
-        true => Err(failure()),
-        false => Ok(address),
-    }
-}
-
-/// Why the last call failed.
-fn failure() -> String {
-    // SAFETY: where there is a message, it ends with a zero, and it stays until
-    // the next failure.
-    let words = unsafe {
-        let message = dlerror();
-        (!message.is_null()).then(|| CStr::from_ptr(message).to_string_lossy().into_owned())
-    };
-    words.unwrap_or("the object cannot be loaded".to_string())
 }
 
 #[cfg(test)]
