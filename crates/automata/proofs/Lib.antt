@@ -5,3 +5,4 @@ pub mod Moves
 pub mod Promised
 pub mod Labels
 pub mod Together
+pub mod Unions

@@ -28,6 +28,10 @@ together f = record { sets = each f mostAutomata }
 abbrev pub setFor : StateSets → ℕ → ℕ
 setFor s k = getD (s .sets) (k - 1) 0
 
+-- automaton by automaton the union of both
+unfoldable pub union : StateSets → StateSets → StateSets
+union s u = together (λ k. bitOr (setFor s k) (setFor u k))
+
 unfoldable pub startingSets : List ℕ → StateSets
 startingSets t = together (starting t)
 
