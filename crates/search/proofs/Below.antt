@@ -15,7 +15,6 @@ use Rattle.sets.proofs.Tests.{and-both, and-first, and-is, and-is-off, and-none
 use Rattle.sets.proofs.Tests.{passed}
 use Rattle.table.specs.Limits.{mostCredentials}
 use Rattle.table.specs.Layout.{credential, credentials}
-use Rattle.table.specs.declared.Role.{Role}
 use Rattle.automata.specs.Together.{acceptingSet}
 use Rattle.automata.specs.declared.Moved.{Moved}
 use Rattle.automata.specs.declared.StateSets.{StateSets}
@@ -121,8 +120,9 @@ pub record Open (t : List ℕ) (levels person place : ℕ) : Type 0 where
   pub few-persons : person < mostCredentials
   pub few-places : place < mostCredentials
 
-pub opened : {t index rows : List ℕ} {S levels last person place : ℕ} → Searched t index rows S levels last → Stands t person place
-    → {told : Bool} → told ≡ mayBeProved t rows last person place levels → not told ≡ false → Open t levels person place
+pub opened : {t index arcs rows : List ℕ} {S levels last person place : ℕ} → Searched t index arcs rows S levels last
+    → Stands t person place → {told : Bool} → told ≡ mayBeProved t rows last person place levels → not told ≡ false
+    → Open t levels person place
 opened {t} {rows = rows} {levels = levels} {last} {person} {place} searched stands e on =
     let may = passed e on in
     let there = may-there t rows last person place levels may in
@@ -135,18 +135,16 @@ opened {t} {rows = rows} {levels = levels} {last} {person} {place} searched stan
     }
 
 -- the state sets that the code holds are those behind the goal's role
-pub judged-moved : (t : List ℕ) (S A levels person place : ℕ) (s : StateSets) {r : Role} {x : Moved} {above : Above}
-    {answer : Answer}
-    → r ≡ credential t (suc place) .role → x ≡ steppedOn t A r s
+pub judged-moved : (t : List ℕ) (S A levels person place : ℕ) (s : StateSets) {x : Moved} {above : Above} {answer : Answer}
+    → x ≡ steppedOn t A (credential t (suc place) .role) s
     → Judged (anyTest t S A levels (x .states) person place) above answer
     → Judged (anyTest t S A levels (stepped t A (credential t (suc place) .role) s) person place) above answer
-judged-moved t S A levels person place s {r} read told judged =
-    rw (steps t A r s told, read) at judged
+judged-moved t S A levels person place s told judged = rw (steps t A _ s told) at judged
 
 -- the goal at these places
 module _ (t : List ℕ) (S A levels : ℕ) (s : StateSets) (person place : ℕ) (stands : Stands t person place) where
   -- the rows do not have it
-  pub goal-unlisted : {index rows : List ℕ} {last : ℕ} → Searched t index rows S levels last
+  pub goal-unlisted : {index arcs rows : List ℕ} {last : ℕ} → Searched t index arcs rows S levels last
       → mayBeProved t rows last person place levels ≡ false → (b : Above) → goalTest t S A levels s person place b ≡ false
   unfolding mayBeProved
   goal-unlisted {rows = rows} {last} searched missing b = sym (go (eqb levels 0) refl (ltb place (credentials t)) refl)
@@ -182,7 +180,7 @@ module _ (t : List ℕ) (S A levels : ℕ) (s : StateSets) (person place : ℕ) 
         sym (place-step t S A levels above s person place stands there left) ∙ and-both (ap not new) proved
 
 -- from part to part
-module _ {t index rows : List ℕ} {S levels last : ℕ} (searched : Searched t index rows S levels last) {person i : ℕ}
+module _ {t index arcs rows : List ℕ} {S levels last : ℕ} (searched : Searched t index arcs rows S levels last) {person i : ℕ}
     (tried : Tried t person i) (kind : (credential t (suc i) .kind ≡ 2) ⊎ (credential t (suc i) .kind ≡ 4))
     (A : ℕ) (s : StateSets) where
   pub parts-missed : {told : Bool} → told ≡ inSet (askedMembers index rows (lesser levels last) i) person → not told ≡ true
@@ -198,7 +196,7 @@ module _ {t index rows : List ℕ} {S levels last : ℕ} (searched : Searched t 
 abbrev pub noneLinked : List ℕ → List ℕ → ℕ → ℕ → ℕ → StateSets → ℕ → ℕ → ℕ → Above → Bool
 noneLinked t index S A levels s person i j = λ b. anyBelow (middleTried t index (provesAt t S A levels b s) person i) j
 
-module _ {t index rows : List ℕ} {S levels last : ℕ} (searched : Searched t index rows S levels last) {person i : ℕ}
+module _ {t index arcs rows : List ℕ} {S levels last : ℕ} (searched : Searched t index arcs rows S levels last) {person i : ℕ}
     (tried : Tried t person i) (kind : credential t (suc i) .kind ≡ 3) (A : ℕ) (s : StateSets) where
   pub links-none : (above : Above) → Failed (noneLinked t index S A levels s person i 0) above nothingAbove
   unfolding anyBelow
@@ -208,8 +206,8 @@ module _ {t index rows : List ℕ} {S levels last : ℕ} (searched : Searched t 
       → Failed (noneLinked t index S A levels s person i j) above met → Failed (ownTest t S A levels s person i) above met
   links-all j e = failed-so (λ b none. sym (linked-none searched tried kind A b s _ j e none))
 
-module _ {t index rows : List ℕ} {S levels last person i row j first second : ℕ} {told : Bool}
-    (middle : Middle t index rows S levels last person i row j first second told) (A : ℕ) (s : StateSets) where
+module _ {t index arcs rows : List ℕ} {S levels last person i row j first second : ℕ} {told : Bool}
+    (middle : Middle t index arcs rows S levels last person i row j first second told) (A : ℕ) (s : StateSets) where
   pub link-skipped : told ≡ false → {above met : Above} → Failed (noneLinked t index S A levels s person i j) above met
       → Failed (noneLinked t index S A levels s person i (j + 1)) above met
   link-skipped off = failed-so (λ b before. linked-skipped middle A b s before off)

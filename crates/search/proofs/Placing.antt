@@ -100,8 +100,8 @@ module _ (t : List ℕ) (S A : ℕ) where
         false-true (sym missing ∙ and-second _ _ there))
 
 -- fewer levels
-pub searched-fewer : {t index rows : List ℕ} {S levels last : ℕ} (levels′ : ℕ) → levels′ ≤ levels
-    → Searched t index rows S levels last → Searched t index rows S levels′ last
+pub searched-fewer : {t index arcs rows : List ℕ} {S levels last : ℕ} (levels′ : ℕ) → levels′ ≤ levels
+    → Searched t index arcs rows S levels last → Searched t index arcs rows S levels′ last
 searched-fewer levels′ fewer searched =
     let members = searched .members in
     record {
@@ -115,6 +115,7 @@ searched-fewer levels′ fewer searched =
             only = λ k l g h. members .only k (omega arith) g h;
           };
       shallow = omega (arith, searched .shallow);
+      moving = searched .moving;
     }
 
 -- a principal with a place, and any role
@@ -171,7 +172,7 @@ unfolding rolesAsked padded pick
 linking-role t c three = rw three
 
 -- what a credential proves, cell by cell of the index: the search for each goal that it asks, by places
-module _ {t index rows : List ℕ} {S levels last : ℕ} (searched : Searched t index rows S levels last) {person i : ℕ}
+module _ {t index arcs rows : List ℕ} {S levels last : ℕ} (searched : Searched t index arcs rows S levels last) {person i : ℕ}
     (tried : Tried t person i) where
   pub part-cell : (credential t (suc i) .kind ≡ 2) ⊎ (credential t (suc i) .kind ≡ 4) → (k : ℕ) → k < 4
       → getD index (askedCell i k) 0 ≡ roleAt t (partRole t i k)

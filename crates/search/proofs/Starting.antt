@@ -24,17 +24,18 @@ use Rattle.search.proofs.Exact.{members-exact}
 use Rattle.search.proofs.Placing.{proves-at, stands-at, unnamed-unproved}
 
 -- the search may be asked with the members within the query's depth
-pub goal-searched : {t : List ℕ} {q : Query} {index : List ℕ} → Prepared t q index → {S depth last : ℕ} {rows : List ℕ}
-    → depth ≡ q .depth → Members t S (q .depth) last rows → Searched t index rows S depth last
+pub goal-searched : {t : List ℕ} {q : Query} {index arcs : List ℕ} → Prepared t q index arcs → {S depth last : ℕ} {rows : List ℕ}
+    → depth ≡ q .depth → Members t S (q .depth) last rows → Searched t index arcs rows S depth last
 goal-searched {q = q} prepared levels members =
     record {
       wellFormed = prepared .wellFormed;
       indexed = prepared .indexed;
       members = rw levels members;
       shallow = omega (arith, depth-fits q (prepared .valid), levels);
+      moving = prepared .moving;
     }
 
-module _ {t : List ℕ} {q : Query} {index : List ℕ} (prepared : Prepared t q index) {person : ℕ}
+module _ {t : List ℕ} {q : Query} {index arcs : List ℕ} (prepared : Prepared t q index arcs) {person : ℕ}
     (who : person ≡ getD index goalPerson 0) where
   at-person : person ≡ personAt t (q .principal .0)
   at-person = who ∙ prepared .aimed .goalsPerson
@@ -70,7 +71,8 @@ module _ {t : List ℕ} {q : Query} {index : List ℕ} (prepared : Prepared t q 
     -- the row of the depth tells who is none, and where no automaton is imposed, who is one
     module _ (S A depth : ℕ) {last : ℕ} {rows : List ℕ} (levels : depth ≡ q .depth) (members : Members t S (q .depth) last rows)
         {told : Bool} (e : told ≡ mayBeProved t rows last person place depth) where
-      pub goal-missing : {index′ : List ℕ} → Searched t index′ rows S depth last → not told ≡ true → false ≡ provable t q S A
+      pub goal-missing : {index′ arcs′ : List ℕ} → Searched t index′ arcs′ rows S depth last → not told ≡ true
+          → false ≡ provable t q S A
       goal-missing searched off =
           goal-found S A depth (startingSets t) levels refl
           (sym (goal-unlisted t S A depth (startingSets t) person place goal-stands searched (failed e off) nothingAbove))

@@ -2,8 +2,7 @@
 use mathlib.Core.Path.{_≡_, refl, sym, ap, _∙_}
 use mathlib.Core.List.{List}
 use mathlib.Core.Bool.{Bool, true, false, not}
-use Prim.Native.Nat.{ℕ, suc, _+_, _<_, _≤_}
-use native.Mathlib.Numerals.{add-one}
+use Prim.Native.Nat.{ℕ, _<_, _≤_}
 use lib.ListN.{getD}
 use lib.Bits.{bitAnd}
 use lib.Dec.{eqb}
@@ -11,8 +10,6 @@ use borrow.Author.Tests.{eq-eqb, le-ltb, lt-ltb, ne-eqb}
 use Rattle.sets.specs.Logic.{_and_, pick}
 use Rattle.sets.specs.Sets.{inSet, part}
 use Rattle.sets.proofs.Tests.{and-is, and-is-off, failed, passed}
-use Rattle.table.specs.Layout.{credential}
-use Rattle.table.specs.declared.Credential.{Credential}
 use Rattle.table.specs.declared.Role.{Role}
 use Rattle.automata.specs.Together.{acceptingSet, movedOn}
 use Rattle.automata.specs.declared.Moved.{Moved}
@@ -41,10 +38,6 @@ module _ (index : List ℕ) (S place i : ℕ) where
   pub allowed-defines : inSet S i ≡ true → (cell : ℕ) → cell ≡ getD index (roleCell i) 0 → eqb cell place ≡ usable index S place i
   unfolding usable
   allowed-defines on cell e = ap (λ x. eqb x place) e ∙ sym (and-is on refl)
-
-pub role-read : (t : List ℕ) (place : ℕ) (x : Credential) → x ≡ credential t (place + 1)
-    → x .role ≡ credential t (suc place) .role
-role-read t place x read = ap (λ (y : Credential). y .role) (read ∙ ap (credential t) (add-one place))
 
 pub lesser-first : (k last : ℕ) → k < last → k ≡ lesser k last
 unfolding lesser pick

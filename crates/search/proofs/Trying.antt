@@ -152,7 +152,7 @@ at-cell t S A levels above s person place cell read e = e ∙ ap (provesAt t S A
 
 -- from part to part: the roles that a credential of kind 2 or 4 asks have places, and what is found of them decides what it
 -- proves
-module _ {t index rows : List ℕ} {S levels last : ℕ} (searched : Searched t index rows S levels last) {person i : ℕ}
+module _ {t index arcs rows : List ℕ} {S levels last : ℕ} (searched : Searched t index arcs rows S levels last) {person i : ℕ}
     (tried : Tried t person i) (kind : (credential t (suc i) .kind ≡ 2) ⊎ (credential t (suc i) .kind ≡ 4)) where
   pub stands-part : (k : ℕ) → k < 4 → (place : ℕ) → place ≡ getD index (askedCell i k) 0 → Stands t person place
   stands-part k l place e =
@@ -198,8 +198,8 @@ module _ {t index rows : List ℕ} {S levels last : ℕ} (searched : Searched t 
         (sym (ap (λ place. not (provesAt t S A levels above s person place)) cells) ∙ any-not misses k j before l)
 
 -- credential i + 1, of kind 3, is tried with the principal at j as the middle: the row told whether both are in their roles
-pub record Middle (t index rows : List ℕ) (S levels last person i row j first second : ℕ) (told : Bool) : Type 0 where
-  pub searched : Searched t index rows S levels last
+pub record Middle (t index arcs rows : List ℕ) (S levels last person i row j first second : ℕ) (told : Bool) : Type 0 where
+  pub searched : Searched t index arcs rows S levels last
   pub tried : Tried t person i
   pub kind : credential t (suc i) .kind ≡ 3
   pub there : j < credentials t
@@ -210,7 +210,7 @@ pub record Middle (t index rows : List ℕ) (S levels last person i row j first 
       ≡ (inSet (getD rows (rowCell row first) 0) j and inSet (getD rows (rowCell row second) 0) person and isPerson t j)
 
 -- no middle is left
-pub linked-none : {t index rows : List ℕ} {S levels last : ℕ} → Searched t index rows S levels last → {person i : ℕ}
+pub linked-none : {t index arcs rows : List ℕ} {S levels last : ℕ} → Searched t index arcs rows S levels last → {person i : ℕ}
     → Tried t person i → credential t (suc i) .kind ≡ 3 → (A : ℕ) (above : Above) (s : StateSets) (word : Bool) (j : ℕ)
     → j ≡ credentials t
     → anyBelow (middleTried t index (provesAt t S A levels above s) person i) j ≡ false
@@ -219,8 +219,8 @@ linked-none searched tried kind A above s word j e none =
     sym (cell-middles searched tried A above s word kind ∙ any-all _ j _ e none)
 
 -- from middle to middle
-module _ {t index rows : List ℕ} {S levels last person i row j first second : ℕ} {told : Bool}
-    (middle : Middle t index rows S levels last person i row j first second told) where
+module _ {t index arcs rows : List ℕ} {S levels last person i row j first second : ℕ} {told : Bool}
+    (middle : Middle t index arcs rows S levels last person i row j first second told) where
   module _ (on : told ≡ true) where
     named : isPerson t j ≡ true
     named = and-second _ _ (and-second _ _ (sym (middle .told-is) ∙ on))

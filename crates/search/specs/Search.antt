@@ -16,6 +16,7 @@ use Rattle.table.specs.declared.Role.{Role}
 use Rattle.table.specs.declared.Goal.{Goal}
 use Rattle.table.specs.declared.Query.{Query}
 use Rattle.sets.specs.Sets.{inSet, part}
+use Rattle.automata.specs.Arcs.{Arcs}
 use Rattle.automata.specs.Together.{acceptingSet, deadSet, movedSets, startingSets}
 use Rattle.automata.specs.declared.Moved.{Moved}
 use Rattle.automata.specs.declared.StateSets.{StateSets}
@@ -28,12 +29,13 @@ use Rattle.members.specs.declared.above.Above.{Above}
 use Rattle.members.specs.Trying.{mayUse, provesBy}
 use Rattle.members.specs.Members.{Aimed, Indexed, Members, askedCell, roleCell}
 
--- a search is asked of an accepted table and a valid query, with their index
-pub record Prepared (t : List ℕ) (q : Query) (index : List ℕ) : Type 0 where
+-- a search is asked of an accepted table and a valid query, with their index and an index of arcs
+pub record Prepared (t : List ℕ) (q : Query) (index arcs : List ℕ) : Type 0 where
   pub wellFormed : WellFormed t
   pub valid : Valid q
   pub indexed : Indexed t index
   pub aimed : Aimed t q index
+  pub moving : Arcs t arcs
 
 -- every credential that the forest names is in the set: credential i counts 2^(i-1)
 abbrev pub UsesOnly : Forest → ℕ → Type 0
@@ -89,13 +91,14 @@ pub record Stands (t : List ℕ) (person place : ℕ) : Type 0 where
   pub few : place ≤ credentials t
   pub first : place < credentials t → roleAt t (credential t (suc place) .role) ≡ place
 
--- a search with so many levels left, no more than a query allows: an accepted table, its index, and the members within these levels
--- by the credentials of S
-pub record Searched (t index rows : List ℕ) (S levels last : ℕ) : Type 0 where
+-- a search with so many levels left, no more than a query allows: an accepted table, its index, the members within these levels
+-- by the credentials of S, and an index of arcs
+pub record Searched (t index arcs rows : List ℕ) (S levels last : ℕ) : Type 0 where
   pub wellFormed : WellFormed t
   pub indexed : Indexed t index
   pub members : Members t S levels last rows
   pub shallow : levels ≤ mostDepth
+  pub moving : Arcs t arcs
 
 -- credential i + 1 is tried for the principal who stands at `person`
 pub record Tried (t : List ℕ) (person i : ℕ) : Type 0 where

@@ -4,6 +4,7 @@
 use crate::Terms;
 use sets::AutomatonSet;
 use sets::CredentialSet;
+use sets::StateSet;
 use table::Number;
 use table::Query;
 use table::layout;
@@ -19,11 +20,17 @@ ghost use Rattle.search.specs.Admits;
 ghost use Rattle.search.specs.Admits.{admitsBy};
 
 // Whether some accepted record uses only credentials of the set.
-pub fn admits(table: &[Number], query: Query, index: &[u8], set: CredentialSet) -> bool
-    requires { ⌜ Prepared (now table) query (now index) ⌝ }
+pub fn admits(
+    table: &[Number],
+    query: Query,
+    index: &[u8],
+    arcs: &[StateSet],
+    set: CredentialSet,
+) -> bool
+    requires { ⌜ Prepared (now table) query (now index) (now arcs) ⌝ }
     ensures { λ r. ⌜ r ≡ Admits.admits (now (table .entry)) query set ⌝ }
 {
-    admits_under(table, query, index, set, 0, layout::automata(table))
+    admits_under(table, query, index, arcs, set, 0, layout::automata(table))
 }
 
 // Whether the set proves the membership under the constraints, and each automaton from k down to 1 that it bears can be done
@@ -32,11 +39,12 @@ fn admits_under(
     table: &[Number],
     query: Query,
     index: &[u8],
+    arcs: &[StateSet],
     set: CredentialSet,
     constraints: AutomatonSet,
     k: usize,
 ) -> bool
-    requires { ⌜ Prepared (now table) query (now index) ⌝ }
+    requires { ⌜ Prepared (now table) query (now index) (now arcs) ⌝ }
     requires { ⌜ k ≤ mostAutomata ⌝ }
     ensures { λ r. ⌜ r ≡ (provable (now (table .entry)) query set constraints
         and admitsBy (now (table .entry)) query set constraints k) ⌝ }
@@ -48,13 +56,14 @@ fn admits_under(
         constraints: constraints,
         last: last,
     };
-    if !crate::provable(table, query, index, &rows, terms) {
+    if !crate::provable(table, query, index, arcs, &rows, terms) {
         return false;
     }
     admits_by(
         table,
         query,
         index,
+        arcs,
         &rows,
         terms,
         derivation::automata_of(table, set),
@@ -68,12 +77,13 @@ fn admits_by(
     table: &[Number],
     query: Query,
     index: &[u8],
+    arcs: &[StateSet],
     rows: &[CredentialSet],
     terms: Terms,
     borne: AutomatonSet,
     k: usize,
 ) -> bool
-    requires { ⌜ Prepared (now table) query (now index) ⌝ }
+    requires { ⌜ Prepared (now table) query (now index) (now arcs) ⌝ }
     requires { ⌜ Members (now table) (terms .allowed) (query .depth) (terms .last) (now rows) ⌝ }
     requires { ⌜ borne ≡ automataOf (now table) (terms .allowed) ⌝ }
     requires { ⌜ k ≤ mostAutomata ⌝ }
@@ -83,10 +93,10 @@ fn admits_by(
         return true;
     }
     if !sets::has_16(borne, k - 1) {
-        return admits_by(table, query, index, rows, terms, borne, k - 1);
+        return admits_by(table, query, index, arcs, rows, terms, borne, k - 1);
     }
     let fewer = without(table, terms.allowed, k);
-    if admits_under(table, query, index, fewer, terms.constraints, k - 1) {
+    if admits_under(table, query, index, arcs, fewer, terms.constraints, k - 1) {
         return true;
     }
     let more = Terms {
@@ -94,10 +104,10 @@ fn admits_by(
         constraints: sets::with_16(terms.constraints, k - 1),
         last: terms.last,
     };
-    if !crate::provable(table, query, index, rows, more) {
+    if !crate::provable(table, query, index, arcs, rows, more) {
         return false;
     }
-    admits_by(table, query, index, rows, more, borne, k - 1)
+    admits_by(table, query, index, arcs, rows, more, borne, k - 1)
 }
 
 // The credentials of the set that do not bear automaton k.

@@ -8,8 +8,8 @@ use members::Above;
 use members::ROW;
 use sets::AutomatonSet;
 use sets::CredentialSet;
+use sets::StateSet;
 use table::Number;
-use table::Role;
 use table::SIMPLE_MEMBERSHIP;
 use table::layout;
 ghost use mathlib.Core.Path.{_≡_};
@@ -20,6 +20,7 @@ ghost use Rattle.sets.specs.Logic.{_and_};
 ghost use Rattle.table.specs.Layout.{credential, credentials};
 ghost use Rattle.table.specs.Holding.{WellFormed};
 ghost use Rattle.sets.specs.Sets.{inSet, meets, part};
+ghost use Rattle.automata.specs.Arcs.{Arcs};
 ghost use Rattle.automata.specs.Together.{acceptingSet};
 ghost use Rattle.members.specs.Places.{isPerson};
 ghost use Rattle.members.specs.Trying.{provesBy};
@@ -34,6 +35,7 @@ ghost use Rattle.search.specs.Failing.{mayBeProved};
 pub fn goal_search(
     table: &[Number],
     index: &[u8],
+    arcs: &[StateSet],
     rows: &[CredentialSet],
     terms: Terms,
     person: usize,
@@ -42,7 +44,7 @@ pub fn goal_search(
     states: StateSets,
     above: Above,
 ) -> bool
-    requires { ⌜ Searched (now table) (now index) (now rows) (terms .allowed) levels (terms .last) ⌝ }
+    requires { ⌜ Searched (now table) (now index) (now arcs) (now rows) (terms .allowed) levels (terms .last) ⌝ }
     requires { ⌜ Stands (now table) person place ⌝ }
     ensures { λ r. ⌜ r ≡ provesAt (now (table .entry)) (terms .allowed) (terms .constraints) levels above states person place ⌝ }
 {
@@ -50,6 +52,7 @@ pub fn goal_search(
     let answer = seeking::seek_goal(
         table,
         index,
+        arcs,
         rows,
         terms,
         person,
@@ -67,6 +70,7 @@ pub fn goal_search(
 pub fn credential_search(
     table: &[Number],
     index: &[u8],
+    arcs: &[StateSet],
     rows: &[CredentialSet],
     terms: Terms,
     person: usize,
@@ -75,7 +79,7 @@ pub fn credential_search(
     states: StateSets,
     above: Above,
 ) -> bool
-    requires { ⌜ Searched (now table) (now index) (now rows) (terms .allowed) levels (terms .last) ⌝ }
+    requires { ⌜ Searched (now table) (now index) (now arcs) (now rows) (terms .allowed) levels (terms .last) ⌝ }
     requires { ⌜ Tried (now table) person i ⌝ }
     ensures { λ r. ⌜ r ≡ provesBy (now (table .entry))
         (proves (now (table .entry)) (terms .allowed) (terms .constraints) levels above states)
@@ -83,12 +87,13 @@ pub fn credential_search(
 {
     let credential = layout::credential(table, i + 1);
     if credential.kind == SIMPLE_MEMBERSHIP {
-        return ends_word(table, index, terms.constraints, person, i, states);
+        return ends_word(table, index, arcs, terms.constraints, person, i, states);
     }
     let mut memory = [0; failures::CELLS];
     let answer = seeking::seek_through(
         table,
         index,
+        arcs,
         rows,
         terms,
         person,
@@ -105,12 +110,14 @@ pub fn credential_search(
 pub fn ends_word(
     table: &[Number],
     index: &[u8],
+    arcs: &[StateSet],
     constraints: AutomatonSet,
     person: usize,
     i: usize,
     states: StateSets,
 ) -> bool
     requires { ⌜ WellFormed (now table) ⌝ }
+    requires { ⌜ Arcs (now table) (now arcs) ⌝ }
     requires { ⌜ Placed (now index) ⌝ }
     requires { ⌜ i < 20 ⌝ }
     ensures { λ r. ⌜ r ≡ (eqb (getD (now (index .entry)) (askedCell i 0) 0) person
@@ -119,7 +126,7 @@ pub fn ends_word(
     if members::asked_cell(index, i, 0) != person {
         return false;
     }
-    constraints & states.accepting(table) == constraints
+    constraints & states.accepting(table, arcs) == constraints
 }
 
 // A principal stands at j who is in the first role, and the one at `person` is in the second, by the row.
@@ -212,20 +219,20 @@ pub fn is_listed(rows: &[CredentialSet], row: usize, person: usize, place: usize
     sets::has(rows[ROW * row + place], person)
 }
 
-// The role that stands at a place.
-pub fn role_of(table: &[Number], place: usize) -> Role
+// The state sets moved on by the role at `place`, with the automata that are dead there; where no automaton is imposed nobody
+// asks for them.
+pub fn stepped(
+    table: &[Number],
+    arcs: &[StateSet],
+    constraints: AutomatonSet,
+    place: usize,
+    states: StateSets,
+) -> Moved
     requires { ⌜ WellFormed (now table) ⌝ }
+    requires { ⌜ Arcs (now table) (now arcs) ⌝ }
     requires { ⌜ place < credentials (now table) ⌝ }
-    ensures { λ r. ⌜ r ≡ credential (now (table .entry)) (suc place) .role ⌝ }
-{
-    let credential = layout::credential(table, place + 1);
-    credential.role
-}
-
-// The state sets one role on, with the automata that are dead there; where no automaton is imposed nobody asks for them.
-pub fn stepped(table: &[Number], constraints: AutomatonSet, role: Role, states: StateSets) -> Moved
-    requires { ⌜ WellFormed (now table) ⌝ }
-    ensures { λ r. ⌜ r ≡ Search.steppedOn (now (table .entry)) constraints role states ⌝ }
+    ensures { λ r. ⌜ r ≡ Search.steppedOn (now (table .entry)) constraints
+        (credential (now (table .entry)) (suc place) .role) states ⌝ }
 {
     if constraints == 0 {
         return Moved {
@@ -233,7 +240,7 @@ pub fn stepped(table: &[Number], constraints: AutomatonSet, role: Role, states: 
             dead: 0,
         };
     }
-    states.moved(table, role)
+    states.moved(table, arcs, place)
 }
 
 // Some automaton that is imposed is dead.

@@ -12,12 +12,12 @@ pub use goals::credential_search;
 pub use goals::goal_search;
 pub use goals::is_middle;
 pub use goals::may_use;
-pub use goals::role_of;
 pub use goals::row_of;
 pub use goals::stepped;
 use members::Above;
 use sets::AutomatonSet;
 use sets::CredentialSet;
+use sets::StateSet;
 use table::Number;
 use table::Query;
 use table::layout;
@@ -35,16 +35,18 @@ pub struct Terms {
 }
 
 // Whether some derivation of the queried membership uses only allowed credentials, and each of its words is accepted by each of
-// the automata `constraints`. The index is that of the table and the query (`members::index`), and the rows up to the last are the
-// table of members of the allowed credentials (`members::fill`), which tells it by itself where no automaton is imposed.
+// the automata `constraints`. The index is that of the table and the query (`members::index`), the arcs are an index of the
+// table's edges (crate automata), and the rows up to the last are the table of members of the allowed credentials
+// (`members::fill`), which tells it by itself where no automaton is imposed.
 fn provable(
     table: &[Number],
     query: Query,
     index: &[u8],
+    arcs: &[StateSet],
     rows: &[CredentialSet],
     terms: Terms,
 ) -> bool
-    requires { ⌜ Prepared (now table) query (now index) ⌝ }
+    requires { ⌜ Prepared (now table) query (now index) (now arcs) ⌝ }
     requires { ⌜ Members (now table) (terms .allowed) (query .depth) (terms .last) (now rows) ⌝ }
     ensures { λ r. ⌜ r ≡ Search.provable (now (table .entry)) query (terms .allowed) (terms .constraints) ⌝ }
 {
@@ -63,6 +65,7 @@ fn provable(
     goals::goal_search(
         table,
         index,
+        arcs,
         rows,
         terms,
         person,

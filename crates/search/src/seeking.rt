@@ -6,6 +6,7 @@ use crate::goals;
 use automata::StateSets;
 use members::Above;
 use sets::CredentialSet;
+use sets::StateSet;
 use table::INTERSECTION_CONTAINMENT;
 use table::LINKING_CONTAINMENT;
 use table::Number;
@@ -32,6 +33,7 @@ pub struct Answer {
 pub fn seek_goal(
     table: &[Number],
     index: &[u8],
+    arcs: &[StateSet],
     rows: &[CredentialSet],
     terms: Terms,
     person: usize,
@@ -41,7 +43,7 @@ pub fn seek_goal(
     above: Above,
     memory: &mut [u32],
 ) -> Answer
-    requires { ⌜ Searched (now table) (now index) (now rows) (terms .allowed) levels (terms .last) ⌝ }
+    requires { ⌜ Searched (now table) (now index) (now arcs) (now rows) (terms .allowed) levels (terms .last) ⌝ }
     requires { ⌜ Stands (now table) person place ⌝ }
     requires { ⌜ Remembered (now table) (terms .allowed) (terms .constraints) (now memory) ⌝ }
     ensures { λ r. ⌜ Judged (goalTest (now (table .entry)) (terms .allowed) (terms .constraints) levels states person place) above r
@@ -61,6 +63,7 @@ pub fn seek_goal(
     let answer = seek_below(
         table,
         index,
+        arcs,
         rows,
         terms,
         person,
@@ -83,6 +86,7 @@ pub fn seek_goal(
 fn seek_below(
     table: &[Number],
     index: &[u8],
+    arcs: &[StateSet],
     rows: &[CredentialSet],
     terms: Terms,
     person: usize,
@@ -92,7 +96,7 @@ fn seek_below(
     above: Above,
     memory: &mut [u32],
 ) -> Answer
-    requires { ⌜ Searched (now table) (now index) (now rows) (terms .allowed) levels (terms .last) ⌝ }
+    requires { ⌜ Searched (now table) (now index) (now arcs) (now rows) (terms .allowed) levels (terms .last) ⌝ }
     requires { ⌜ Stands (now table) person place × (place < credentials (now table)) ⌝ }
     requires { ⌜ Remembered (now table) (terms .allowed) (terms .constraints) (now memory) ⌝ }
     ensures { λ r. ⌜ Judged (anyTest (now (table .entry)) (terms .allowed) (terms .constraints) levels
@@ -100,8 +104,7 @@ fn seek_below(
         person place) above r
         × Remembered (now (table .entry)) (terms .allowed) (terms .constraints) (now (memory .exit)) ⌝ }
 {
-    let role = goals::role_of(table, place);
-    let below = goals::stepped(table, terms.constraints, role, states);
+    let below = goals::stepped(table, arcs, terms.constraints, place, states);
     if goals::any_dead(terms.constraints, below.dead) {
         return failed(Above::nothing());
     }
@@ -113,6 +116,7 @@ fn seek_below(
             let answer = seek_through(
                 table,
                 index,
+                arcs,
                 rows,
                 terms,
                 person,
@@ -136,6 +140,7 @@ fn seek_below(
 pub fn seek_through(
     table: &[Number],
     index: &[u8],
+    arcs: &[StateSet],
     rows: &[CredentialSet],
     terms: Terms,
     person: usize,
@@ -145,7 +150,7 @@ pub fn seek_through(
     above: Above,
     memory: &mut [u32],
 ) -> Answer
-    requires { ⌜ Searched (now table) (now index) (now rows) (terms .allowed) levels (terms .last) ⌝ }
+    requires { ⌜ Searched (now table) (now index) (now arcs) (now rows) (terms .allowed) levels (terms .last) ⌝ }
     requires { ⌜ Tried (now table) person i ⌝ }
     requires { ⌜ Remembered (now table) (terms .allowed) (terms .constraints) (now memory) ⌝ }
     ensures { λ r. ⌜ Judged (ownTest (now (table .entry)) (terms .allowed) (terms .constraints) levels states person i) above r
@@ -157,6 +162,7 @@ pub fn seek_through(
         SIMPLE_MEMBERSHIP => found(goals::ends_word(
             table,
             index,
+            arcs,
             terms.constraints,
             person,
             i,
@@ -165,6 +171,7 @@ pub fn seek_through(
         SIMPLE_CONTAINMENT => seek_parts(
             table,
             index,
+            arcs,
             rows,
             terms,
             person,
@@ -177,6 +184,7 @@ pub fn seek_through(
         LINKING_CONTAINMENT => seek_linked(
             table,
             index,
+            arcs,
             rows,
             terms,
             person,
@@ -189,6 +197,7 @@ pub fn seek_through(
         INTERSECTION_CONTAINMENT => seek_parts(
             table,
             index,
+            arcs,
             rows,
             terms,
             person,
@@ -206,6 +215,7 @@ pub fn seek_through(
 fn seek_parts(
     table: &[Number],
     index: &[u8],
+    arcs: &[StateSet],
     rows: &[CredentialSet],
     terms: Terms,
     person: usize,
@@ -215,7 +225,7 @@ fn seek_parts(
     above: Above,
     memory: &mut [u32],
 ) -> Answer
-    requires { ⌜ Searched (now table) (now index) (now rows) (terms .allowed) levels (terms .last) ⌝ }
+    requires { ⌜ Searched (now table) (now index) (now arcs) (now rows) (terms .allowed) levels (terms .last) ⌝ }
     requires { ⌜ Tried (now table) person i ⌝ }
     requires { ⌜ (credential (now table) (suc i) .kind ≡ 2) ⊎ (credential (now table) (suc i) .kind ≡ 4) ⌝ }
     requires { ⌜ Remembered (now table) (terms .allowed) (terms .constraints) (now memory) ⌝ }
@@ -231,6 +241,7 @@ fn seek_parts(
             let answer = seek_goal(
                 table,
                 index,
+                arcs,
                 rows,
                 terms,
                 person,
@@ -253,6 +264,7 @@ fn seek_parts(
 fn seek_linked(
     table: &[Number],
     index: &[u8],
+    arcs: &[StateSet],
     rows: &[CredentialSet],
     terms: Terms,
     person: usize,
@@ -262,7 +274,7 @@ fn seek_linked(
     above: Above,
     memory: &mut [u32],
 ) -> Answer
-    requires { ⌜ Searched (now table) (now index) (now rows) (terms .allowed) levels (terms .last) ⌝ }
+    requires { ⌜ Searched (now table) (now index) (now arcs) (now rows) (terms .allowed) levels (terms .last) ⌝ }
     requires { ⌜ Tried (now table) person i ⌝ }
     requires { ⌜ credential (now table) (suc i) .kind ≡ 3 ⌝ }
     requires { ⌜ Remembered (now table) (terms .allowed) (terms .constraints) (now memory) ⌝ }
@@ -280,6 +292,7 @@ fn seek_linked(
             let link = seek_link(
                 table,
                 index,
+                arcs,
                 rows,
                 terms,
                 person,
@@ -305,6 +318,7 @@ fn seek_linked(
 fn seek_link(
     table: &[Number],
     index: &[u8],
+    arcs: &[StateSet],
     rows: &[CredentialSet],
     terms: Terms,
     person: usize,
@@ -316,7 +330,7 @@ fn seek_link(
     above: Above,
     memory: &mut [u32],
 ) -> Answer
-    requires { ⌜ Searched (now table) (now index) (now rows) (terms .allowed) levels (terms .last) ⌝ }
+    requires { ⌜ Searched (now table) (now index) (now arcs) (now rows) (terms .allowed) levels (terms .last) ⌝ }
     requires { ⌜ Stands (now table) middle first × Stands (now table) person second ⌝ }
     requires { ⌜ Remembered (now table) (terms .allowed) (terms .constraints) (now memory) ⌝ }
     ensures { λ r. ⌜ Judged (linkTest (now (table .entry)) (terms .allowed) (terms .constraints) levels states
@@ -326,6 +340,7 @@ fn seek_link(
     let answer = seek_goal(
         table,
         index,
+        arcs,
         rows,
         terms,
         middle,
@@ -341,6 +356,7 @@ fn seek_link(
     seek_goal(
         table,
         index,
+        arcs,
         rows,
         terms,
         person,

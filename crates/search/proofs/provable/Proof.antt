@@ -19,7 +19,7 @@ credentials-requires c κs = search needs
 
 returns : tie.Need-returns
 returns c =
-    let pre = c .before .before .before .before .before .before .pre in
+    let pre = c .before .before .before .before .before .before .before .pre in
     goal-unnamed (pre .0) (c .before .before .goal-person .ensures .0) _ _ _ refl (pre .1)
     (omega (arith, c .if1 .taken, c .before .credentials .ensures .same))
 
@@ -31,7 +31,7 @@ wide-requires c κs = search needs
 
 -- the query's principal has a place, its role is looked up, and its depth is read
 abbrev from : tie.After-wide → tie.Start
-from at = at .before .before .before .before .before .before .before .before
+from at = at .before .before .before .before .before .before .before .before .before
 
 there : (at : tie.After-wide) → at .before .before .before .before .goal-person .result < credentials (now (from at .args .table))
 there at = omega (arith, at .before .before .if1 .left, at .before .before .before .credentials .ensures .same)

@@ -33,29 +33,29 @@ use Rattle.table.proofs.layout.wide.Reads as wide-reads
 use Rattle.search.proofs.admission.+admits_by+admits_under.{statement}
 use Rattle.search.proofs.admission.+admits_by+admits_under.Tie.{close}
 
-abbrev μ-admits-by : Measures 3 admits-by-kinds.ps ℕ
-μ-admits-by κs a = 2 * (a .1 .1 .1 .1 .1 .1 .0)
+abbrev μ-admits-by : Measures 4 admits-by-kinds.ps ℕ
+μ-admits-by κs a = 2 * (a .1 .1 .1 .1 .1 .1 .1 .0)
 
-abbrev μ-admits-under : Measures 2 admits-under-kinds.ps ℕ
-μ-admits-under κs a = 2 * (a .1 .1 .1 .1 .1 .0) + 1
+abbrev μ-admits-under : Measures 3 admits-under-kinds.ps ℕ
+μ-admits-under κs a = 2 * (a .1 .1 .1 .1 .1 .1 .0) + 1
 
-abbrev admits-by-at : ℕ → In 3 admits-by-kinds.ps
-admits-by-at t = and 3 admits-by-kinds.ps (is 3 admits-by-kinds.ps μ-admits-by t) admits-by.Pre
+abbrev admits-by-at : ℕ → In 4 admits-by-kinds.ps
+admits-by-at t = and 4 admits-by-kinds.ps (is 4 admits-by-kinds.ps μ-admits-by t) admits-by.Pre
 
-abbrev admits-by-below : ℕ → In 3 admits-by-kinds.ps
+abbrev admits-by-below : ℕ → In 4 admits-by-kinds.ps
 admits-by-below t =
-    and 3 admits-by-kinds.ps (falls 3 admits-by-kinds.ps _<_ μ-admits-by t) admits-by.Pre
+    and 4 admits-by-kinds.ps (falls 4 admits-by-kinds.ps _<_ μ-admits-by t) admits-by.Pre
 
-abbrev admits-under-at : ℕ → In 2 admits-under-kinds.ps
+abbrev admits-under-at : ℕ → In 3 admits-under-kinds.ps
 admits-under-at t =
-    and 2 admits-under-kinds.ps (is 2 admits-under-kinds.ps μ-admits-under t) admits-under.Pre
+    and 3 admits-under-kinds.ps (is 3 admits-under-kinds.ps μ-admits-under t) admits-under.Pre
 
-abbrev admits-under-below : ℕ → In 2 admits-under-kinds.ps
+abbrev admits-under-below : ℕ → In 3 admits-under-kinds.ps
 admits-under-below t =
     and
-    2
+    3
     admits-under-kinds.ps
-    (falls 2 admits-under-kinds.ps _<_ μ-admits-under t)
+    (falls 3 admits-under-kinds.ps _<_ μ-admits-under t)
     admits-under.Pre
 
 abbrev admits-by-claims : ℕ → admits-by-lts.Claims
@@ -90,7 +90,7 @@ admits-under-claims t = (
 
 -- what `admits_by` needs, whatever its measure is
 abbrev admits-by-needs :
-    (admits-by-lts.Claims → In 3 admits-by-kinds.ps → Out 3 admits-by-kinds.ps admits-by-kinds.r → Type 0) → Type 0
+    (admits-by-lts.Claims → In 4 admits-by-kinds.ps → Out 4 admits-by-kinds.ps admits-by-kinds.r → Type 0) → Type 0
 admits-by-needs need = (t : ℕ) → need (admits-by-claims t) (admits-by-at t) admits-by.Post
 
 module _ (t : ℕ) where
@@ -104,24 +104,24 @@ module _ (t : ℕ) where
   admits-by-Else3 = admits-by-lts.Else3 (admits-by-claims t) (admits-by-at t) admits-by.Post
 
   -- the automata below k may be decided, under the same constraints or one more
-  on-below : (c : admits-by-Else1) → let args = c .before .before .before .before .args in
+  on-below : (c : admits-by-Else1) → let args = c .before .before .before .before .before .args in
       (2 * (args .k - 1) < t)
-      × (Prepared (now (args .table)) (args .query) (now (args .index))
+      × (Prepared (now (args .table)) (args .query) (now (args .index)) (now (args .arcs))
       × (Members (now (args .table)) (args .terms .allowed) (args .query .depth) (args .terms .last) (now (args .rows))
       × ((args .borne ≡ automataOf (now (args .table)) (args .terms .allowed)) × (args .k - 1 ≤ mostAutomata))))
   on-below c =
-      let pre = c .before .before .before .before .pre in
+      let pre = c .before .before .before .before .before .pre in
       (omega (arith, pre .0, c .if1 .left), (pre .1 .0, (pre .1 .1 .0, (pre .1 .1 .1 .0, omega (arith, pre .1 .1 .1 .1)))))
 
   -- some credential of the set bears automaton k
-  is-borne : (c : admits-by-Else2) → let args = c .before .before .before .before .before .before .args in
+  is-borne : (c : admits-by-Else2) → let args = c .before .before .before .before .before .before .before .args in
       Borne (now (args .table)) (args .terms .allowed) (args .k)
   is-borne c =
       let borne = on-below (c .before .before) .1 .1 .1 .0 in
       record { there = c .before .before .if1 .left; borne = rw borne at (passed (c .before .has-16 .ensures) (c .if2 .left)) }
 
   -- it cannot be done without
-  unspared : (c : admits-by-Else3) → let args = c .before .before .before .before .before .before .before .before .before .args in
+  unspared : (c : admits-by-Else3) → let args = c .before .before .before .before .before .before .before .before .before .before .args in
       spared (now (args .table)) (args .query) (args .terms .allowed) (args .terms .constraints) (args .k) ≡ false
   unspared c =
       sym (spared-told _ _ _ _ _ (c .before .before .without .ensures) (c .before .admits-under .ensures)) ∙ c .if3 .left
@@ -156,7 +156,7 @@ admits-by-sub-admits-under t c = search needs
 admits-by-admits-under-requires : admits-by-needs admits-by-lts.Need-admits-under-requires
 admits-by-admits-under-requires t c κs =
     let else1 = c .before .before .before in
-    let pre = else1 .before .before .before .before .pre in
+    let pre = else1 .before .before .before .before .before .pre in
     (omega (arith, pre .0, else1 .if1 .left), (pre .1 .0, omega (arith, pre .1 .1 .1 .1)))
 
 admits-by-returns-3 : admits-by-needs admits-by-lts.Need-returns-3
@@ -194,7 +194,7 @@ admits-by-returns-5 t c =
 
 -- what `admits_under` needs, whatever its measure is
 abbrev admits-under-needs :
-    (admits-under-lts.Claims → In 2 admits-under-kinds.ps → Out 2 admits-under-kinds.ps admits-under-kinds.r → Type 0) → Type 0
+    (admits-under-lts.Claims → In 3 admits-under-kinds.ps → Out 3 admits-under-kinds.ps admits-under-kinds.r → Type 0) → Type 0
 admits-under-needs need = (t : ℕ) → need (admits-under-claims t) (admits-under-at t) admits-under.Post
 
 admits-under-wide-requires : admits-under-needs admits-under-lts.Need-wide-requires
@@ -205,11 +205,11 @@ admits-under-slice-aggregate-fill t c = search needs
 
 admits-under-fill-requires : admits-under-needs admits-under-lts.Need-fill-requires
 admits-under-fill-requires t c κs =
-    let valid = c .before .before .before .before .pre .1 .0 .valid in
+    let valid = c .before .before .before .before .before .pre .1 .0 .valid in
     let wide = c .before .wide .ensures .0 in (
-      c .before .before .before .before .pre .1 .0 .wellFormed,
+      c .before .before .before .before .before .pre .1 .0 .wellFormed,
       (
-        c .before .before .before .before .pre .1 .0 .indexed,
+        c .before .before .before .before .before .pre .1 .0 .indexed,
         ((omega (arith, depth-some _ valid, wide), omega (arith, depth-fits _ valid, wide)), (refl, zeros tableCells)),
       ),
     )
@@ -219,7 +219,7 @@ admits-under-slice-aggregate-provable t c = search needs
 
 admits-under-provable-requires : admits-under-needs admits-under-lts.Need-provable-requires
 admits-under-provable-requires t c κs =
-    let pre = c .before .before .before .before .before .before .before .pre .1 in
+    let pre = c .before .before .before .before .before .before .before .before .pre .1 in
     (pre .0, rw (c .before .before .before .before .wide .ensures .0) at (c .before .before .fill .ensures))
 
 admits-under-returns : admits-under-needs admits-under-lts.Need-returns
@@ -233,7 +233,7 @@ admits-under-automata-of-requires t c κs = search needs
 
 admits-under-admits-by-requires : admits-under-needs admits-under-lts.Need-admits-by-requires
 admits-under-admits-by-requires t c κs =
-    let pre = c .before .before .before .before .before .before .before .before .before .before .before .pre in
+    let pre = c .before .before .before .before .before .before .before .before .before .before .before .before .pre in
     let members = rw (c .before .before .before .before .before .before .before .before .wide .ensures .0) at (c .before .before .before .before .before .before .fill .ensures) in
     (omega (arith, pre .0), (pre .1 .0, (members, (c .automata-of .ensures, pre .1 .1))))
 

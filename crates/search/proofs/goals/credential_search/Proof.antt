@@ -18,12 +18,12 @@ credential-requires c κs = search needs
 
 ends-word-requires : tie.Need-ends-word-requires
 ends-word-requires c κs =
-    let (searched, tried) = c .before .before .before .before .before .before .pre in
-    (searched .wellFormed, (searched .indexed .placed, below-most (searched .wellFormed) _ (tried .there)))
+    let (searched, tried) = c .before .before .before .before .before .before .before .pre in
+    (searched .wellFormed, (searched .moving, (searched .indexed .placed, below-most (searched .wellFormed) _ (tried .there))))
 
 returns : tie.Need-returns
 returns c =
-    let (searched, tried) = c .before .before .before .before .before .before .before .pre in
+    let (searched, tried) = c .before .before .before .before .before .before .before .before .pre in
     let kind = kind-read _ _ _ (c .before .before .before .credential .ensures) 1 (c .before .if1 .taken) in
     c .ends-word .ensures ∙ sym (cell-named searched tried _ _ _ _ kind)
 
@@ -31,14 +31,14 @@ slice-aggregate-seek-through : tie.Need-slice-aggregate-seek-through
 slice-aggregate-seek-through c = search needs
 
 seek-through-requires : tie.Need-seek-through-requires
-seek-through-requires c κs = (c .before .before .before .before .before .before .before .pre .0, (c .before .before .before .before .before .before .before .pre .1, remembered-none _ _ _ _ refl (zeros memoryCells)))
+seek-through-requires c κs = (c .before .before .before .before .before .before .before .before .pre .0, (c .before .before .before .before .before .before .before .before .pre .1, remembered-none _ _ _ _ refl (zeros memoryCells)))
 
 wide : (at : tie.Start) → length (at .args .above .persons) ≡ mostCredentials
 wide at = search needs
 
 returns-2 : tie.Need-returns-2
 returns-2 c =
-    let start = c .before .before .before .before .before .before .before .before .before in
+    let start = c .before .before .before .before .before .before .before .before .before .before in
     judged-told (wide start) (c .before .seek-through .ensures .0)
 
 pub credential-search-spec : {M : Type 1} → statement M

@@ -14,14 +14,14 @@ slice-aggregate-seek-goal c = search needs
 
 seek-goal-requires : tie.Need-seek-goal-requires
 seek-goal-requires c κs =
-    let pre = c .before .before .before .before .pre in
+    let pre = c .before .before .before .before .before .pre in
     (pre .0, (pre .1, remembered-none _ _ _ _ refl (zeros memoryCells)))
 
 wide : (at : tie.Start) → length (at .args .above .persons) ≡ mostCredentials
 wide at = search needs
 
 returns : tie.Need-returns
-returns c = judged-told (wide (c .before .before .before .before .before .before)) (c .before .seek-goal .ensures .0)
+returns c = judged-told (wide (c .before .before .before .before .before .before .before)) (c .before .seek-goal .ensures .0)
 
 pub goal-search-spec : {M : Type 1} → statement M
 goal-search-spec = tie.close (tie.spec slice-aggregate-seek-goal seek-goal-requires returns)

@@ -64,7 +64,6 @@ use Rattle.search.proofs.goals.is_asked_before.Reads as is-asked-before
 use Rattle.search.proofs.goals.is_middle.Reads as is-middle-reads
 use Rattle.search.proofs.goals.may_be_proved.Reads as may-be-proved-reads
 use Rattle.search.proofs.goals.may_use.Reads as may-use-reads
-use Rattle.search.proofs.goals.role_of.Reads as role-of-reads
 use Rattle.search.proofs.goals.row_of.Reads as row-of-reads
 use Rattle.search.proofs.goals.stepped.Reads as stepped-reads
 use Rattle.search.proofs.seeking.failed.Reads as failed-reads
@@ -76,71 +75,69 @@ use Rattle.search.proofs.seeking.+seek_below+seek_goal+seek_link+seek_l
 use Rattle.search.proofs.seeking.+seek_below+seek_goal+seek_link+seek_linked+seek_parts+seek_through.Tie.{close}
 
 -- each function calls the next with as many levels, and a goal is entered with one less
-abbrev μ-seek-below : Measures 4 seek-below-kinds.ps ℕ
-μ-seek-below κs a = 5 * (a .1 .1 .1 .1 .1 .1 .0) + 4
+abbrev μ-seek-below : Measures 5 seek-below-kinds.ps ℕ
+μ-seek-below κs a = 5 * (a .1 .1 .1 .1 .1 .1 .1 .0) + 4
 
-abbrev μ-seek-goal : Measures 4 seek-goal-kinds.ps ℕ
-μ-seek-goal κs a = 5 * (a .1 .1 .1 .1 .1 .1 .0)
+abbrev μ-seek-goal : Measures 5 seek-goal-kinds.ps ℕ
+μ-seek-goal κs a = 5 * (a .1 .1 .1 .1 .1 .1 .1 .0)
 
-abbrev μ-seek-link : Measures 4 seek-link-kinds.ps ℕ
-μ-seek-link κs a = 5 * (a .1 .1 .1 .1 .1 .1 .1 .1 .0) + 1
+abbrev μ-seek-link : Measures 5 seek-link-kinds.ps ℕ
+μ-seek-link κs a = 5 * (a .1 .1 .1 .1 .1 .1 .1 .1 .1 .0) + 1
 
-abbrev μ-seek-linked : Measures 4 seek-linked-kinds.ps ℕ
-μ-seek-linked κs a = 5 * (a .1 .1 .1 .1 .1 .1 .0) + 2
+abbrev μ-seek-linked : Measures 5 seek-linked-kinds.ps ℕ
+μ-seek-linked κs a = 5 * (a .1 .1 .1 .1 .1 .1 .1 .0) + 2
 
-abbrev μ-seek-parts : Measures 4 seek-parts-kinds.ps ℕ
-μ-seek-parts κs a = 5 * (a .1 .1 .1 .1 .1 .1 .0) + 1
+abbrev μ-seek-parts : Measures 5 seek-parts-kinds.ps ℕ
+μ-seek-parts κs a = 5 * (a .1 .1 .1 .1 .1 .1 .1 .0) + 1
 
-abbrev μ-seek-through : Measures 4 seek-through-kinds.ps ℕ
-μ-seek-through κs a = 5 * (a .1 .1 .1 .1 .1 .1 .0) + 3
+abbrev μ-seek-through : Measures 5 seek-through-kinds.ps ℕ
+μ-seek-through κs a = 5 * (a .1 .1 .1 .1 .1 .1 .1 .0) + 3
 
 -- what a function asks where its measure is t, and where it is less
-abbrev measured : (ps : List (PK 4)) → Measures 4 ps ℕ → In 4 ps → ℕ → In 4 ps
-measured ps μ pre t = and 4 ps (is 4 ps μ t) pre
+abbrev measured : (ps : List (PK 5)) → Measures 5 ps ℕ → In 5 ps → ℕ → In 5 ps
+measured ps μ pre t = and 5 ps (is 5 ps μ t) pre
 
-abbrev fallen : (ps : List (PK 4)) → Measures 4 ps ℕ → In 4 ps → ℕ → In 4 ps
-fallen ps μ pre t = and 4 ps (falls 4 ps _<_ μ t) pre
+abbrev fallen : (ps : List (PK 5)) → Measures 5 ps ℕ → In 5 ps → ℕ → In 5 ps
+fallen ps μ pre t = and 5 ps (falls 5 ps _<_ μ t) pre
 
-abbrev seek-below-at : ℕ → In 4 seek-below-kinds.ps
+abbrev seek-below-at : ℕ → In 5 seek-below-kinds.ps
 seek-below-at = measured seek-below-kinds.ps μ-seek-below seek-below.Pre
 
-abbrev seek-below-below : ℕ → In 4 seek-below-kinds.ps
+abbrev seek-below-below : ℕ → In 5 seek-below-kinds.ps
 seek-below-below = fallen seek-below-kinds.ps μ-seek-below seek-below.Pre
 
-abbrev seek-goal-at : ℕ → In 4 seek-goal-kinds.ps
+abbrev seek-goal-at : ℕ → In 5 seek-goal-kinds.ps
 seek-goal-at = measured seek-goal-kinds.ps μ-seek-goal seek-goal.Pre
 
-abbrev seek-goal-below : ℕ → In 4 seek-goal-kinds.ps
+abbrev seek-goal-below : ℕ → In 5 seek-goal-kinds.ps
 seek-goal-below = fallen seek-goal-kinds.ps μ-seek-goal seek-goal.Pre
 
-abbrev seek-link-at : ℕ → In 4 seek-link-kinds.ps
+abbrev seek-link-at : ℕ → In 5 seek-link-kinds.ps
 seek-link-at = measured seek-link-kinds.ps μ-seek-link seek-link.Pre
 
-abbrev seek-link-below : ℕ → In 4 seek-link-kinds.ps
+abbrev seek-link-below : ℕ → In 5 seek-link-kinds.ps
 seek-link-below = fallen seek-link-kinds.ps μ-seek-link seek-link.Pre
 
-abbrev seek-linked-at : ℕ → In 4 seek-linked-kinds.ps
+abbrev seek-linked-at : ℕ → In 5 seek-linked-kinds.ps
 seek-linked-at = measured seek-linked-kinds.ps μ-seek-linked seek-linked.Pre
 
-abbrev seek-linked-below : ℕ → In 4 seek-linked-kinds.ps
+abbrev seek-linked-below : ℕ → In 5 seek-linked-kinds.ps
 seek-linked-below = fallen seek-linked-kinds.ps μ-seek-linked seek-linked.Pre
 
-abbrev seek-parts-at : ℕ → In 4 seek-parts-kinds.ps
+abbrev seek-parts-at : ℕ → In 5 seek-parts-kinds.ps
 seek-parts-at = measured seek-parts-kinds.ps μ-seek-parts seek-parts.Pre
 
-abbrev seek-parts-below : ℕ → In 4 seek-parts-kinds.ps
+abbrev seek-parts-below : ℕ → In 5 seek-parts-kinds.ps
 seek-parts-below = fallen seek-parts-kinds.ps μ-seek-parts seek-parts.Pre
 
-abbrev seek-through-at : ℕ → In 4 seek-through-kinds.ps
+abbrev seek-through-at : ℕ → In 5 seek-through-kinds.ps
 seek-through-at = measured seek-through-kinds.ps μ-seek-through seek-through.Pre
 
-abbrev seek-through-below : ℕ → In 4 seek-through-kinds.ps
+abbrev seek-through-below : ℕ → In 5 seek-through-kinds.ps
 seek-through-below = fallen seek-through-kinds.ps μ-seek-through seek-through.Pre
 
 abbrev seek-below-claims : ℕ → seek-below-lts.Claims
 seek-below-claims t = (
-  role-of-reads.Asked,
-  role-of-reads.Learnt,
   stepped-reads.Asked,
   stepped-reads.Learnt,
   any-dead-reads.Asked,
@@ -258,17 +255,17 @@ seek-through-claims t = (
 )
 
 abbrev seek-below-Inv-loop : seek-below-lts.InvT-loop
-seek-below-Inv-loop table index rows terms person place levels above memory₀ below n met₀ i₀ memory met i =
+seek-below-Inv-loop table index arcs rows terms person place levels above memory₀ below n met₀ i₀ memory met i =
     (i ≤ n) × (Failed (noneTried table (terms .allowed) (terms .constraints) levels (below .states) person place i) above met
     × Remembered table (terms .allowed) (terms .constraints) memory)
 
 abbrev seek-below-μ-loop : seek-below-lts.MeasureT-loop
-seek-below-μ-loop table index rows terms person place levels above memory₀ below n met₀ i₀ memory met i = n - i
+seek-below-μ-loop table index arcs rows terms person place levels above memory₀ below n met₀ i₀ memory met i = n - i
 
 -- a place of `seek_below`, or a need, where its measure is t; and what it needs, whatever its measure is
 abbrev seek-below-Place : Type 1
 seek-below-Place =
-    seek-below-lts.Claims → In 4 seek-below-kinds.ps → Out 4 seek-below-kinds.ps seek-below-kinds.r
+    seek-below-lts.Claims → In 5 seek-below-kinds.ps → Out 5 seek-below-kinds.ps seek-below-kinds.r
     → seek-below-lts.InvT-loop → seek-below-lts.MeasureT-loop → Type 0
 
 abbrev seek-below-place : seek-below-Place → ℕ → Type 0
@@ -276,9 +273,6 @@ seek-below-place place t = place (seek-below-claims t) (seek-below-at t) seek-be
 
 abbrev seek-below-needs : seek-below-Place → Type 0
 seek-below-needs need = (t : ℕ) → seek-below-place need t
-
-seek-below-role-of-requires : seek-below-needs seek-below-lts.Need-role-of-requires
-seek-below-role-of-requires t c κs = search needs
 
 seek-below-stepped-requires : seek-below-needs seek-below-lts.Need-stepped-requires
 seek-below-stepped-requires t c κs = search needs
@@ -296,10 +290,9 @@ seek-below-returns : seek-below-needs seek-below-lts.Need-returns
 seek-below-returns t c =
     let at-any-dead = c .before .before .before in
     let at-stepped = at-any-dead .before in
-    let at-role-of = at-stepped .before in
-    let start = at-role-of .before .before .before .before .before in
+    let start = at-stepped .before .before .before .before .before .before in
     let (searched, (stands, remembered)) = start .pre .1 in (
-      judged-moved _ _ _ _ _ _ _ (at-role-of .role-of .ensures) (at-stepped .stepped .ensures)
+      judged-moved _ _ _ _ _ _ _ (at-stepped .stepped .ensures)
           (judged-never (c .failed .ensures) (c .before .nothing .ensures) (λ b.
           dead-tried _ _ _ _ _ (at-stepped .stepped .ensures) (sym (at-any-dead .any-dead .ensures)
           ∙ c .before .before .if1 .taken) _ b _)),
@@ -360,11 +353,10 @@ seek-below-returns-2 t c =
     let at-loop-test = at-may-use .before in
     let at-credentials = at-loop-test .before .before .before in
     let at-stepped = at-credentials .before .before .before in
-    let at-role-of = at-stepped .before in
-    let start = at-role-of .before .before .before .before .before in
+    let start = at-stepped .before .before .before .before .before .before in
     let (searched, ((stands, there), remembered)) = start .pre .1 in
     let (judged, now-remembered) = at-seek-through .seek-through .ensures in (
-      judged-moved _ _ _ _ _ _ _ (at-role-of .role-of .ensures) (at-stepped .stepped .ensures)
+      judged-moved _ _ _ _ _ _ _ (at-stepped .stepped .ensures)
           (judged-proved (c .proved .ensures)
           (tried-proved (searched .indexed) stands there _ _ _ _ _ (omega
           (arith, at-loop-test .loop-test .taken, at-credentials .credentials .ensures .same)) (at-may-use .may-use .ensures)
@@ -420,11 +412,10 @@ seek-below-returns-3 : seek-below-needs seek-below-lts.Need-returns-3
 seek-below-returns-3 t c =
     let at-credentials = c .before .before .before .before in
     let at-stepped = at-credentials .before .before .before in
-    let at-role-of = at-stepped .before in
-    let start = at-role-of .before .before .before .before .before in
+    let start = at-stepped .before .before .before .before .before .before in
     let (searched, ((stands, there), remembered)) = start .pre .1 in
     let (failed-so-far, now-remembered) = c .before .before .loop .inv .1 in (
-      judged-moved _ _ _ _ _ _ _ (at-role-of .role-of .ensures) (at-stepped .stepped .ensures)
+      judged-moved _ _ _ _ _ _ _ (at-stepped .stepped .ensures)
           (judged-failed (c .failed2 .ensures) (tried-all (searched .indexed) stands there _ _ _ _ _ (omega
           (arith, c .before .loop-test .left, c .before .before .loop .inv .0, at-credentials .credentials .ensures .same))
           failed-so-far)),
@@ -434,7 +425,7 @@ seek-below-returns-3 t c =
 -- a place of `seek_goal`, or a need, where its measure is t; and what it needs, whatever its measure is
 abbrev seek-goal-Place : Type 1
 seek-goal-Place =
-    seek-goal-lts.Claims → In 4 seek-goal-kinds.ps → Out 4 seek-goal-kinds.ps seek-goal-kinds.r
+    seek-goal-lts.Claims → In 5 seek-goal-kinds.ps → Out 5 seek-goal-kinds.ps seek-goal-kinds.r
     → Type 0
 
 abbrev seek-goal-place : seek-goal-Place → ℕ → Type 0
@@ -446,7 +437,7 @@ seek-goal-needs need = (t : ℕ) → seek-goal-place need t
 -- the goal may be sought
 module _ (t : ℕ) (at : seek-goal-place seek-goal-lts.Else1 t) where
   abbrev seek-goal-start : seek-goal-place seek-goal-lts.Start t
-  seek-goal-start = at .before .before .before .before .before .before
+  seek-goal-start = at .before .before .before .before .before .before .before
 
   seek-goal-open : let from = seek-goal-start .args in Open (now (from .table)) (from .levels) (from .person) (from .place)
   seek-goal-open =
@@ -476,7 +467,7 @@ seek-goal-failed-requires t c κs = search needs
 seek-goal-returns : seek-goal-needs seek-goal-lts.Need-returns
 seek-goal-returns t c =
     let at-may-be-proved = c .before .before .before in
-    let start = at-may-be-proved .before .before .before .before .before in
+    let start = at-may-be-proved .before .before .before .before .before .before in
     let (searched, (stands, remembered)) = start .pre .1 in
     let missing = failed (at-may-be-proved .may-be-proved .ensures) (c .before .before .if1 .taken) in (
       judged-never (c .failed .ensures) (c .before .nothing .ensures)
@@ -526,7 +517,7 @@ seek-goal-returns-3 t c =
     let at-if3 = c .before .before .before in
     let at-recalls = at-if3 .before in
     let at-slot = at-recalls .before .before in
-    let start = at-slot .before .before .before .before .before .before .before .before .before in
+    let start = at-slot .before .before .before .before .before .before .before .before .before .before in
     let (searched, (stands, remembered)) = start .pre .1 in
     let eight = seek-goal-eight t start in (
       judged-failed (c .failed3 .ensures)
@@ -610,7 +601,7 @@ seek-goal-returns-5 t c =
 -- a place of `seek_link`, or a need, where its measure is t; and what it needs, whatever its measure is
 abbrev seek-link-Place : Type 1
 seek-link-Place =
-    seek-link-lts.Claims → In 4 seek-link-kinds.ps → Out 4 seek-link-kinds.ps seek-link-kinds.r
+    seek-link-lts.Claims → In 5 seek-link-kinds.ps → Out 5 seek-link-kinds.ps seek-link-kinds.r
     → Type 0
 
 abbrev seek-link-place : seek-link-Place → ℕ → Type 0
@@ -652,17 +643,17 @@ seek-link-returns-2 t c =
     (link-second _ _ _ _ _ _ _ _ _ (first .passes (not-false _ (at-if1 .if1 .left))) second, remembered)
 
 abbrev seek-linked-Inv-loop : seek-linked-lts.InvT-loop
-seek-linked-Inv-loop table index rows terms person i levels states above memory₀ n row first met₀ j₀ memory met j =
+seek-linked-Inv-loop table index arcs rows terms person i levels states above memory₀ n row first met₀ j₀ memory met j =
     (j ≤ n) × (Failed (noneLinked table index (terms .allowed) (terms .constraints) levels states person i j) above met
     × Remembered table (terms .allowed) (terms .constraints) memory)
 
 abbrev seek-linked-μ-loop : seek-linked-lts.MeasureT-loop
-seek-linked-μ-loop table index rows terms person i levels states above memory₀ n row first met₀ j₀ memory met j = n - j
+seek-linked-μ-loop table index arcs rows terms person i levels states above memory₀ n row first met₀ j₀ memory met j = n - j
 
 -- a place of `seek_linked`, or a need, where its measure is t; and what it needs, whatever its measure is
 abbrev seek-linked-Place : Type 1
 seek-linked-Place =
-    seek-linked-lts.Claims → In 4 seek-linked-kinds.ps → Out 4 seek-linked-kinds.ps seek-linked-kinds.r
+    seek-linked-lts.Claims → In 5 seek-linked-kinds.ps → Out 5 seek-linked-kinds.ps seek-linked-kinds.r
     → seek-linked-lts.InvT-loop → seek-linked-lts.MeasureT-loop → Type 0
 
 abbrev seek-linked-place : seek-linked-Place → ℕ → Type 0
@@ -678,11 +669,11 @@ module _ (t : ℕ) (at : seek-linked-place seek-linked-lts.After-is-middle t) wh
   seek-linked-asked = at .before .before .before .before .before
 
   abbrev seek-linked-start : seek-linked-place seek-linked-lts.Start t
-  seek-linked-start = seek-linked-asked .before .before .before .before .before .before .before
+  seek-linked-start = seek-linked-asked .before .before .before .before .before .before .before .before
 
   seek-linked-middle : let from = seek-linked-start .args in
-      Middle (now (from .table)) (now (from .index)) (now (from .rows)) (from .terms .allowed) (from .levels) (from .terms .last)
-      (from .person) (from .i) (seek-linked-asked .before .row-of .result) (at .before .before .before .loop .j)
+      Middle (now (from .table)) (now (from .index)) (now (from .arcs)) (now (from .rows)) (from .terms .allowed) (from .levels)
+      (from .terms .last) (from .person) (from .i) (seek-linked-asked .before .row-of .result) (at .before .before .before .loop .j)
       (seek-linked-asked .asked-cell .result) (at .before .link-cell .result) (at .is-middle .result)
   seek-linked-middle =
       let (searched, (tried, (kind, remembered))) = seek-linked-start .pre .1 in
@@ -711,7 +702,7 @@ seek-linked-nothing-requires t c κs = search needs
 
 seek-linked-loop-holds : seek-linked-needs seek-linked-lts.Need-loop-holds
 seek-linked-loop-holds t c =
-    let start = c .before .before .before .before .before .before .before .before in
+    let start = c .before .before .before .before .before .before .before .before .before in
     let (searched, (tried, (kind, remembered))) = start .pre .1 in
     (omega arith, (rw (c .nothing .ensures) (links-none searched tried kind _ _ _), remembered))
 
@@ -723,7 +714,7 @@ seek-linked-is-middle-requires t c κs =
     let at-asked-cell = c .before .before .before .before in
     let at-row-of = at-asked-cell .before in
     let at-credentials = at-row-of .before in
-    let start = at-credentials .before .before .before .before .before in
+    let start = at-credentials .before .before .before .before .before .before in
     let (searched, (tried, (kind, remembered))) = start .pre .1 in (
       searched .wellFormed,
       (
@@ -755,7 +746,7 @@ seek-linked-same-length : seek-linked-needs seek-linked-lts.Need-same-length
 seek-linked-same-length t c =
     let at-seek-link = c .before .before .before .before in
     let mid19 = at-seek-link .before .before .before .before .before .before .before .before .before .before in
-    let start = mid19 .before .before .before .before .before in
+    let start = mid19 .before .before .before .before .before .before in
     at-seek-link .seek-link .ensures .1 .room ∙ sym (start .pre .1 .1 .1 .1 .room)
 
 seek-linked-returns : seek-linked-needs seek-linked-lts.Need-returns
@@ -795,13 +786,13 @@ seek-linked-failed-requires t c κs = search needs
 
 seek-linked-same-length-2 : seek-linked-needs seek-linked-lts.Need-same-length-2
 seek-linked-same-length-2 t c =
-    let start = c .before .before .before .before .before .before .before .before .before .before .before in
+    let start = c .before .before .before .before .before .before .before .before .before .before .before .before in
     c .before .before .loop .inv .1 .1 .room ∙ sym (start .pre .1 .1 .1 .1 .room)
 
 seek-linked-returns-2 : seek-linked-needs seek-linked-lts.Need-returns-2
 seek-linked-returns-2 t c =
     let at-credentials = c .before .before .before .before .before .before in
-    let start = at-credentials .before .before .before .before .before in
+    let start = at-credentials .before .before .before .before .before .before in
     let (searched, (tried, (kind, remembered))) = start .pre .1 in
     let (failed-so-far, now-remembered) = c .before .before .loop .inv .1 in (
       judged-failed (c .failed .ensures) (links-all searched tried kind _ _ _ (omega
@@ -811,17 +802,17 @@ seek-linked-returns-2 t c =
     )
 
 abbrev seek-parts-Inv-loop : seek-parts-lts.InvT-loop
-seek-parts-Inv-loop table index rows terms person i levels states above memory₀ k₀ memory k =
+seek-parts-Inv-loop table index arcs rows terms person i levels states above memory₀ k₀ memory k =
     (k ≤ 4) × ((anyBelow (partMissed index (provesAt table (terms .allowed) (terms .constraints) levels above states) person i) k
     ≡ false) × Remembered table (terms .allowed) (terms .constraints) memory)
 
 abbrev seek-parts-μ-loop : seek-parts-lts.MeasureT-loop
-seek-parts-μ-loop table index rows terms person i levels states above memory₀ k₀ memory k = 4 - k
+seek-parts-μ-loop table index arcs rows terms person i levels states above memory₀ k₀ memory k = 4 - k
 
 -- a place of `seek_parts`, or a need, where its measure is t; and what it needs, whatever its measure is
 abbrev seek-parts-Place : Type 1
 seek-parts-Place =
-    seek-parts-lts.Claims → In 4 seek-parts-kinds.ps → Out 4 seek-parts-kinds.ps seek-parts-kinds.r
+    seek-parts-lts.Claims → In 5 seek-parts-kinds.ps → Out 5 seek-parts-kinds.ps seek-parts-kinds.r
     → seek-parts-lts.InvT-loop → seek-parts-lts.MeasureT-loop → Type 0
 
 abbrev seek-parts-place : seek-parts-Place → ℕ → Type 0
@@ -846,7 +837,7 @@ seek-parts-failed-requires t c κs = search needs
 seek-parts-returns : seek-parts-needs seek-parts-lts.Need-returns
 seek-parts-returns t c =
     let at-are-listed = c .before .before .before in
-    let start = at-are-listed .before .before .before .before .before in
+    let start = at-are-listed .before .before .before .before .before .before in
     let (searched, (tried, (kind, remembered))) = start .pre .1 in
     let missed = parts-missed searched tried kind _ _ (at-are-listed .are-listed .ensures) (c .before .before .if1 .taken) in
     (judged-never (c .failed .ensures) (c .before .nothing .ensures) missed, remembered)
@@ -854,7 +845,7 @@ seek-parts-returns t c =
 seek-parts-loop-holds : seek-parts-needs seek-parts-lts.Need-loop-holds
 unfolding anyBelow
 seek-parts-loop-holds t c =
-    let start = c .before .before .before .before .before .before in
+    let start = c .before .before .before .before .before .before .before in
     let (searched, (tried, (kind, remembered))) = start .pre .1 in
     (omega arith, (refl, remembered))
 
@@ -868,7 +859,7 @@ seek-parts-seek-goal-requires : seek-parts-needs seek-parts-lts.Need-seek-goal-r
 seek-parts-seek-goal-requires t c κs =
     let at-loop-test = c .before .before .before .before in
     let at-loop = at-loop-test .before in
-    let start = at-loop .before .before .before .before .before .before .before in
+    let start = at-loop .before .before .before .before .before .before .before .before in
     let (searched, (tried, (kind, remembered))) = start .pre .1 in
     let stands = stands-part searched tried kind _ (at-loop-test .loop-test .taken) _ (c .before .asked-cell .ensures .0) in
     (omega (arith, start .pre .0), (searched, (stands, at-loop .loop .inv .1 .1)))
@@ -880,7 +871,7 @@ seek-parts-same-length : seek-parts-needs seek-parts-lts.Need-same-length
 seek-parts-same-length t c =
     let at-seek-goal = c .before .before .before .before .before in
     let mid18 = at-seek-goal .before .before .before .before .before .before .before .before .before .before in
-    let start = mid18 .before .before .before in
+    let start = mid18 .before .before .before .before in
     at-seek-goal .seek-goal .ensures .1 .room ∙ sym (start .pre .1 .1 .1 .1 .room)
 
 seek-parts-returns-2 : seek-parts-needs seek-parts-lts.Need-returns-2
@@ -888,7 +879,7 @@ seek-parts-returns-2 t c =
     let at-seek-goal = c .before .before .before .before .before in
     let at-asked-cell = at-seek-goal .before .before in
     let at-loop-test = at-asked-cell .before .before .before in
-    let start = at-loop-test .before .before .before .before .before .before .before .before in
+    let start = at-loop-test .before .before .before .before .before .before .before .before .before in
     let (searched, (tried, (kind, remembered))) = start .pre .1 in
     let (judged, now-remembered) = at-seek-goal .seek-goal .ensures in
     let missed = judged .failed (not-true _ (c .before .if3 .taken)) in (
@@ -907,7 +898,7 @@ seek-parts-loop-less t c = search needs
 seek-parts-loop-again : seek-parts-needs seek-parts-lts.Need-loop-again
 seek-parts-loop-again t c =
     let at-loop = c .before .before .before in
-    let start = at-loop .before .before .before .before .before .before .before in
+    let start = at-loop .before .before .before .before .before .before .before .before in
     let (searched, (tried, (kind, remembered))) = start .pre .1 in
     let (so-far, before) = at-loop .loop .inv .1 in
     let wide = seek-parts-wide t start in (
@@ -930,12 +921,12 @@ seek-parts-proved-requires t c κs = search needs
 
 seek-parts-same-length-2 : seek-parts-needs seek-parts-lts.Need-same-length-2
 seek-parts-same-length-2 t c =
-    let start = c .before .before .before .before .before .before .before .before .before in
+    let start = c .before .before .before .before .before .before .before .before .before .before in
     c .before .before .loop .inv .1 .1 .room ∙ sym (start .pre .1 .1 .1 .1 .room)
 
 seek-parts-returns-3 : seek-parts-needs seek-parts-lts.Need-returns-3
 seek-parts-returns-3 t c =
-    let start = c .before .before .before .before .before .before .before .before .before in
+    let start = c .before .before .before .before .before .before .before .before .before .before in
     let (searched, (tried, (kind, remembered))) = start .pre .1 in
     let (none-missed, now-remembered) = c .before .before .loop .inv .1 in (
       judged-proved (c .proved .ensures) (sym (all-proved searched tried kind _ _ _ _ _ (omega
@@ -946,7 +937,7 @@ seek-parts-returns-3 t c =
 -- a place of `seek_through`, or a need, where its measure is t; and what it needs, whatever its measure is
 abbrev seek-through-Place : Type 1
 seek-through-Place =
-    seek-through-lts.Claims → In 4 seek-through-kinds.ps → Out 4 seek-through-kinds.ps seek-through-kinds.r
+    seek-through-lts.Claims → In 5 seek-through-kinds.ps → Out 5 seek-through-kinds.ps seek-through-kinds.r
     → Type 0
 
 abbrev seek-through-place : seek-through-Place → ℕ → Type 0
@@ -963,30 +954,30 @@ seek-through-credential-requires t c κs = search needs
 
 seek-through-ends-word-requires : seek-through-needs seek-through-lts.Need-ends-word-requires
 seek-through-ends-word-requires t c κs =
-    let start = c .before .before .before .before .before .before in
+    let start = c .before .before .before .before .before .before .before in
     let (searched, (tried, remembered)) = start .pre .1 in
-    (searched .wellFormed, (searched .indexed .placed, below-most (searched .wellFormed) _ (tried .there)))
+    (searched .wellFormed, (searched .moving, (searched .indexed .placed, below-most (searched .wellFormed) _ (tried .there))))
 
 seek-through-found-requires : seek-through-needs seek-through-lts.Need-found-requires
 seek-through-found-requires t c κs = search needs
 
 seek-through-seek-parts-requires : seek-through-needs seek-through-lts.Need-seek-parts-requires
 seek-through-seek-parts-requires t c κs =
-    let start = c .before .before .before .before .before .before .before in
+    let start = c .before .before .before .before .before .before .before .before in
     let (searched, (tried, remembered)) = start .pre .1 in
     let kind = kind-read _ _ _ (c .before .before .credential .ensures) 2 (c .before .match .keys2) in
     (omega (arith, start .pre .0), (searched, (tried, (inl kind, remembered))))
 
 seek-through-seek-linked-requires : seek-through-needs seek-through-lts.Need-seek-linked-requires
 seek-through-seek-linked-requires t c κs =
-    let start = c .before .before .before .before .before .before .before in
+    let start = c .before .before .before .before .before .before .before .before in
     let (searched, (tried, remembered)) = start .pre .1 in
     let kind = kind-read _ _ _ (c .before .before .credential .ensures) 3 (c .before .match .keys3) in
     (omega (arith, start .pre .0), (searched, (tried, (kind, remembered))))
 
 seek-through-seek-parts-requires-2 : seek-through-needs seek-through-lts.Need-seek-parts-requires-2
 seek-through-seek-parts-requires-2 t c κs =
-    let start = c .before .before .before .before .before .before .before in
+    let start = c .before .before .before .before .before .before .before .before in
     let (searched, (tried, remembered)) = start .pre .1 in
     let kind = kind-read _ _ _ (c .before .before .credential .ensures) 4 (c .before .match .keys4) in
     (omega (arith, start .pre .0), (searched, (tried, (inr kind, remembered))))
@@ -1000,7 +991,7 @@ seek-through-failed-requires t c κs = search needs
 seek-through-returns : seek-through-needs seek-through-lts.Need-returns
 seek-through-returns t c =
     let at-credential = c .before .before .before in
-    let start = at-credential .before .before .before .before .before in
+    let start = at-credential .before .before .before .before .before .before in
     let (searched, (tried, remembered)) = start .pre .1 in
     let kind = kind-read _ _ _ (at-credential .credential .ensures) 1 (c .before .before .match .keys1) in (
       judged-found _ (c .found .ensures) (λ x. c .before .ends-word .ensures ∙ sym
@@ -1029,7 +1020,7 @@ seek-through-returns-4 t c = search needs
 seek-through-returns-5 : seek-through-needs seek-through-lts.Need-returns-5
 seek-through-returns-5 t c =
     let at-credential = c .before .before .before in
-    let start = at-credential .before .before .before .before .before in
+    let start = at-credential .before .before .before .before .before .before in
     let (searched, (tried, remembered)) = start .pre .1 in
     let no = c .before .before .match .rest in (
       judged-never (c .failed .ensures) (c .before .nothing .ensures) (λ b.
@@ -1041,7 +1032,7 @@ pub +seek-below+seek-goal+seek-link+seek-linked+seek-parts+seek-through-spec : {
 +seek-below+seek-goal+seek-link+seek-linked+seek-parts+seek-through-spec =
     close μ-seek-below μ-seek-goal μ-seek-link μ-seek-linked μ-seek-parts μ-seek-through
     (λ t. seek-below-lts.spec (seek-below-claims t) (seek-below-at t) seek-below.Post seek-below-Inv-loop seek-below-μ-loop
-    (seek-below-role-of-requires t) (seek-below-stepped-requires t) (seek-below-any-dead-requires t)
+    (seek-below-stepped-requires t) (seek-below-any-dead-requires t)
     (seek-below-nothing-requires t) (seek-below-failed-requires t) (seek-below-returns t)
     (seek-below-credentials-requires t) (seek-below-nothing-requires-2 t) (seek-below-loop-holds t)
     (seek-below-may-use-requires t) (seek-below-seek-through-requires t) (seek-below-proved-requires t)
