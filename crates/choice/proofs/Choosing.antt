@@ -93,7 +93,7 @@ module _ (t : List ℕ) (S A levels : ℕ) (above : Above) (s : StateSets) where
       (role-stands t r (ltb-true (roleAt t r) (credentials t) (and-first _ _ proved)))
 
 -- credential i + 1 proves its goal
-module _ {t index rows : List ℕ} {S levels last : ℕ} (searched : Searched t index rows S levels last) {person i : ℕ}
+module _ {t index arcs rows : List ℕ} {S levels last : ℕ} (searched : Searched t index arcs rows S levels last) {person i : ℕ}
     (tried : Tried t person i) (A : ℕ) (above : Above) (s : StateSets) where
   abbrev one : Goal → Bool
   one = proves t S A levels above s
@@ -335,8 +335,8 @@ module _ {t index rows : List ℕ} {S levels last : ℕ} (searched : Searched t 
         goals-are (suc (suc k)) l = absurd (omega arith)
 
 -- the least credential, number i + 1, for the goal at `person` and `place`; the code has read it as x
-module _ {t index rows : List ℕ} {S levels last : ℕ} (searched : Searched t index rows S levels last) {person place i : ℕ}
-    (stands : Stands t person place) (A : ℕ) (above : Above) (s : StateSets) (there : i < credentials t)
+module _ {t index arcs rows : List ℕ} {S levels last : ℕ} (searched : Searched t index arcs rows S levels last)
+    {person place i : ℕ} (stands : Stands t person place) (A : ℕ) (above : Above) (s : StateSets) (there : i < credentials t)
     (is : suc i ≡ leastCredential t S (proves t S A levels above s) (part A (acceptingSet t s)) (goalAt t person place))
     (x : Credential) (read : x ≡ credential t (i + 1)) where
   same : goalAt t person i ≡ goalAt t person place

@@ -112,7 +112,7 @@ module _ (t index rows : List ℕ) (row person i j found first second : ℕ)
   listed-not off = set-not _ found j so-far (rw (read, read′) at (sym e ∙ off))
 
 -- credential i + 1, of kind 3, with the principal at j as the middle
-module _ {t index rows : List ℕ} {S levels last : ℕ} (searched : Searched t index rows S levels last) {person i : ℕ}
+module _ {t index arcs rows : List ℕ} {S levels last : ℕ} (searched : Searched t index arcs rows S levels last) {person i : ℕ}
     (tried : Tried t person i) (kind : credential t (suc i) .kind ≡ 3) {j : ℕ} (there : j < credentials t)
     (named : isPerson t j ≡ true) where
   pub first-stands : {place : ℕ} → place ≡ getD index (askedCell i 0) 0 → Stands t j place
@@ -152,7 +152,7 @@ pub record MiddlesLeft (t : List ℕ) (passes : ℕ → Bool) (left : ℕ) : Typ
   pub people : (k : ℕ) → inSet left k ≡ true → isPerson t k ≡ true
 
 -- at first those whom the row has
-module _ {t index rows : List ℕ} {S levels last : ℕ} (searched : Searched t index rows S levels last) {person i : ℕ}
+module _ {t index arcs rows : List ℕ} {S levels last : ℕ} (searched : Searched t index arcs rows S levels last) {person i : ℕ}
     (tried : Tried t person i) (kind : credential t (suc i) .kind ≡ 3) (A : ℕ) (above : Above) (s : StateSets) where
   abbrev passes : ℕ → Bool
   passes = leads t index S A levels above s person i

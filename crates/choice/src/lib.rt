@@ -7,6 +7,7 @@ use automata::StateSets;
 use members::Above;
 use search::Terms;
 use sets::CredentialSet;
+use sets::StateSet;
 use table::Credential;
 use table::INTERSECTION_CONTAINMENT;
 use table::LINKING_CONTAINMENT;
@@ -42,6 +43,7 @@ pub struct Node {
 pub fn choose(
     table: &[Number],
     index: &[u8],
+    arcs: &[StateSet],
     rows: &[CredentialSet],
     terms: Terms,
     person: usize,
@@ -50,7 +52,7 @@ pub fn choose(
     states: StateSets,
     above: Above,
 ) -> Node
-    requires { ⌜ Searched (now table) (now index) (now rows) (terms .allowed) levels (terms .last) ⌝ }
+    requires { ⌜ Searched (now table) (now index) (now arcs) (now rows) (terms .allowed) levels (terms .last) ⌝ }
     requires { ⌜ Stands (now table) person place × (place < credentials (now table)) ⌝ }
     requires { ⌜ anyBelow (provesWith (now table) (terms .allowed)
         (proves (now table) (terms .allowed) (terms .constraints) levels above states)
@@ -62,6 +64,7 @@ pub fn choose(
     let i = least_credential(
         table,
         index,
+        arcs,
         rows,
         terms,
         person,
@@ -74,7 +77,18 @@ pub fn choose(
     if credential.kind != LINKING_CONTAINMENT {
         return unlinked(index, person, i, parts_asked(table, credential));
     }
-    let j = middles::least_middle(table, index, rows, terms, person, i, levels, states, above);
+    let j = middles::least_middle(
+        table,
+        index,
+        arcs,
+        rows,
+        terms,
+        person,
+        i,
+        levels,
+        states,
+        above,
+    );
     let middle = layout::credential(table, j + 1);
     linked(index, person, i, j, middle.first)
 }
@@ -84,6 +98,7 @@ pub fn choose(
 fn least_credential(
     table: &[Number],
     index: &[u8],
+    arcs: &[StateSet],
     rows: &[CredentialSet],
     terms: Terms,
     person: usize,
@@ -92,7 +107,7 @@ fn least_credential(
     states: StateSets,
     above: Above,
 ) -> usize
-    requires { ⌜ Searched (now table) (now index) (now rows) (terms .allowed) levels (terms .last) ⌝ }
+    requires { ⌜ Searched (now table) (now index) (now arcs) (now rows) (terms .allowed) levels (terms .last) ⌝ }
     requires { ⌜ Stands (now table) person place × (place < credentials (now table)) ⌝ }
     requires { ⌜ anyBelow (provesWith (now table) (terms .allowed)
         (proves (now table) (terms .allowed) (terms .constraints) levels above states)
@@ -110,6 +125,7 @@ fn least_credential(
             if search::credential_search(
                 table,
                 index,
+                arcs,
                 rows,
                 terms,
                 person,

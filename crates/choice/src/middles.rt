@@ -4,6 +4,7 @@ use automata::StateSets;
 use members::Above;
 use search::Terms;
 use sets::CredentialSet;
+use sets::StateSet;
 use table::Number;
 use table::layout;
 ghost use mathlib.Core.Path.{_≡_};
@@ -27,6 +28,7 @@ ghost use Rattle.choice.specs.Choice.{LeastMiddle, LeastNamed, comesBefo
 pub fn least_middle(
     table: &[Number],
     index: &[u8],
+    arcs: &[StateSet],
     rows: &[CredentialSet],
     terms: Terms,
     person: usize,
@@ -35,7 +37,7 @@ pub fn least_middle(
     states: StateSets,
     above: Above,
 ) -> usize
-    requires { ⌜ Searched (now table) (now index) (now rows) (terms .allowed) levels (terms .last) ⌝ }
+    requires { ⌜ Searched (now table) (now index) (now arcs) (now rows) (terms .allowed) levels (terms .last) ⌝ }
     requires { ⌜ Tried (now table) person i × (credential (now table) (suc i) .kind ≡ 3) ⌝ }
     requires { ⌜ provesBy (now table) (proves (now table) (terms .allowed) (terms .constraints) levels above states)
         (part (terms .constraints) (acceptingSet (now table) states)) (goalAt (now table) person i) (suc i) ≡ true ⌝ }
@@ -49,6 +51,7 @@ pub fn least_middle(
         if leads_on(
             table,
             index,
+            arcs,
             rows,
             terms,
             person,
@@ -133,6 +136,7 @@ fn comes_before(table: &[Number], j: usize, best: usize) -> bool
 fn leads_on(
     table: &[Number],
     index: &[u8],
+    arcs: &[StateSet],
     rows: &[CredentialSet],
     terms: Terms,
     person: usize,
@@ -142,7 +146,7 @@ fn leads_on(
     states: StateSets,
     above: Above,
 ) -> bool
-    requires { ⌜ Searched (now table) (now index) (now rows) (terms .allowed) levels (terms .last) ⌝ }
+    requires { ⌜ Searched (now table) (now index) (now arcs) (now rows) (terms .allowed) levels (terms .last) ⌝ }
     requires { ⌜ Tried (now table) person i × (credential (now table) (suc i) .kind ≡ 3) ⌝ }
     requires { ⌜ (j < credentials (now table)) × (isPerson (now table) j ≡ true) ⌝ }
     ensures { λ r. ⌜ r ≡ leads (now (table .entry)) (now (index .entry)) (terms .allowed) (terms .constraints) levels above states
@@ -151,6 +155,7 @@ fn leads_on(
     if !search::goal_search(
         table,
         index,
+        arcs,
         rows,
         terms,
         j,
@@ -164,6 +169,7 @@ fn leads_on(
     search::goal_search(
         table,
         index,
+        arcs,
         rows,
         terms,
         person,

@@ -3,6 +3,7 @@
 // cut (crate cuts). What it finds comes in no order, and is put into the buffer in its place (crate sorted). specs/Below.antt
 // says what is asked and given.
 use sets::CredentialSet;
+use sets::StateSet;
 use table::Number;
 use table::Query;
 use table::layout;
@@ -26,6 +27,7 @@ pub fn below(
     table: &[Number],
     query: Query,
     index: &[u8],
+    arcs: &[StateSet],
     usable: CredentialSet,
     chosen: CredentialSet,
     free: CredentialSet,
@@ -34,7 +36,7 @@ pub fn below(
     sets: &mut [CredentialSet],
     found: &mut usize,
 )
-    requires { ⌜ Prepared (now table) query (now index) ⌝ }
+    requires { ⌜ Prepared (now table) query (now index) (now arcs) ⌝ }
     requires { ⌜ Bears (admits (now table) query) usable ⌝ }
     requires { ⌜ Ready (admits (now table) query) (credentials (now table)) chosen free (now cuts) (now count) ⌝ }
     requires { ⌜ Held (credentials (now table)) chosen free (now sets) (now found) ⌝ }
@@ -45,6 +47,7 @@ pub fn below(
         table,
         query,
         index,
+        arcs,
         usable,
         chosen,
         free,
@@ -63,6 +66,7 @@ pub fn below(
         table,
         query,
         index,
+        arcs,
         usable,
         chosen, // without it
         rest,
@@ -75,6 +79,7 @@ pub fn below(
         table,
         query,
         index,
+        arcs,
         usable,
         more, // with it
         rest,
@@ -91,6 +96,7 @@ fn decide(
     table: &[Number],
     query: Query,
     index: &[u8],
+    arcs: &[StateSet],
     usable: CredentialSet,
     chosen: CredentialSet,
     free: CredentialSet,
@@ -99,7 +105,7 @@ fn decide(
     sets: &mut [CredentialSet],
     found: &mut usize,
 ) -> CredentialSet
-    requires { ⌜ Prepared (now table) query (now index) ⌝ }
+    requires { ⌜ Prepared (now table) query (now index) (now arcs) ⌝ }
     requires { ⌜ Bears (admits (now table) query) usable ⌝ }
     requires { ⌜ Ready (admits (now table) query) (credentials (now table)) chosen free (now cuts) (now count) ⌝ }
     requires { ⌜ Held (credentials (now table)) chosen free (now sets) (now found) ⌝ }
@@ -114,11 +120,12 @@ fn decide(
     if among != 0 {
         return among;
     }
-    if search::admits(table, query, index, chosen) {
+    if search::admits(table, query, index, arcs, chosen) {
         keep(
             table,
             query,
             index,
+            arcs,
             chosen,
             *count == cuts.len(),
             sets,
@@ -135,6 +142,7 @@ fn decide(
             table,
             query,
             index,
+            arcs,
             usable,
             cuts,
             *count,
@@ -175,12 +183,13 @@ fn keep(
     table: &[Number],
     query: Query,
     index: &[u8],
+    arcs: &[StateSet],
     set: CredentialSet,
     full: bool,
     sets: &mut [CredentialSet],
     found: &mut usize,
 )
-    requires { ⌜ Prepared (now table) query (now index) ⌝ }
+    requires { ⌜ Prepared (now table) query (now index) (now arcs) ⌝ }
     requires { ⌜ set < 2 ^ credentials (now table) ⌝ }
     requires { ⌜ admits (now table) query set ≡ true ⌝ }
     requires { ⌜ (full ≡ false → isLeast (admits (now table) query) set ≡ true) ⌝ }
@@ -189,7 +198,7 @@ fn keep(
         (now (sets .exit)) (now (found .exit)) ⌝ }
 {
     if full {
-        if !is_minimal(table, query, index, set) {
+        if !is_minimal(table, query, index, arcs, set) {
             return;
         }
     }
@@ -197,8 +206,14 @@ fn keep(
 }
 
 // Whether an admitted set is minimal: without any one of its credentials it is not admitted.
-pub fn is_minimal(table: &[Number], query: Query, index: &[u8], set: CredentialSet) -> bool
-    requires { ⌜ Prepared (now table) query (now index) ⌝ }
+pub fn is_minimal(
+    table: &[Number],
+    query: Query,
+    index: &[u8],
+    arcs: &[StateSet],
+    set: CredentialSet,
+) -> bool
+    requires { ⌜ Prepared (now table) query (now index) (now arcs) ⌝ }
     requires { ⌜ set < 2 ^ credentials (now table) ⌝ }
     requires { ⌜ admits (now table) query set ≡ true ⌝ }
     ensures { λ r. ⌜ r ≡ isLeast (admits (now (table .entry)) query) set ⌝ }
@@ -206,7 +221,7 @@ pub fn is_minimal(table: &[Number], query: Query, index: &[u8], set: CredentialS
     let n = layout::credentials(table);
     let mut i = 0;
     while i < n {
-        if is_spare(table, query, index, set, i) {
+        if is_spare(table, query, index, arcs, set, i) {
             return false;
         }
         i += 1;
@@ -215,15 +230,22 @@ pub fn is_minimal(table: &[Number], query: Query, index: &[u8], set: CredentialS
 }
 
 // Whether a credential of the set is there, and the set is admitted without it.
-fn is_spare(table: &[Number], query: Query, index: &[u8], set: CredentialSet, i: usize) -> bool
-    requires { ⌜ Prepared (now table) query (now index) ⌝ }
+fn is_spare(
+    table: &[Number],
+    query: Query,
+    index: &[u8],
+    arcs: &[StateSet],
+    set: CredentialSet,
+    i: usize,
+) -> bool
+    requires { ⌜ Prepared (now table) query (now index) (now arcs) ⌝ }
     requires { ⌜ i < credentials (now table) ⌝ }
     ensures { λ r. ⌜ r ≡ (inSet set i and admits (now (table .entry)) query (bitXor set (2 ^ i))) ⌝ }
 {
     if !sets::has(set, i) {
         return false;
     }
-    search::admits(table, query, index, set ^ (1 << i))
+    search::admits(table, query, index, arcs, set ^ (1 << i))
 }
 
 // Grows a set that is not admitted, credential by credential, while it is not.
@@ -231,6 +253,7 @@ fn grown(
     table: &[Number],
     query: Query,
     index: &[u8],
+    arcs: &[StateSet],
     usable: CredentialSet,
     cuts: &[CredentialSet],
     count: usize,
@@ -238,7 +261,7 @@ fn grown(
     found: usize,
     chosen: CredentialSet,
 ) -> CredentialSet
-    requires { ⌜ Prepared (now table) query (now index) ⌝ }
+    requires { ⌜ Prepared (now table) query (now index) (now arcs) ⌝ }
     requires { ⌜ Bears (admits (now table) query) usable ⌝ }
     requires { ⌜ Cuts (admits (now table) query) (credentials (now table)) (now cuts) count ⌝ }
     requires { ⌜ chosen < 2 ^ credentials (now table) ⌝ }
@@ -253,6 +276,7 @@ fn grown(
             table,
             query,
             index,
+            arcs,
             usable,
             cuts,
             count,
@@ -273,6 +297,7 @@ fn grown_by(
     table: &[Number],
     query: Query,
     index: &[u8],
+    arcs: &[StateSet],
     usable: CredentialSet,
     cuts: &[CredentialSet],
     count: usize,
@@ -281,7 +306,7 @@ fn grown_by(
     set: CredentialSet,
     i: usize,
 ) -> CredentialSet
-    requires { ⌜ Prepared (now table) query (now index) ⌝ }
+    requires { ⌜ Prepared (now table) query (now index) (now arcs) ⌝ }
     requires { ⌜ Bears (admits (now table) query) usable ⌝ }
     requires { ⌜ Cuts (admits (now table) query) (credentials (now table)) (now cuts) count ⌝ }
     requires { ⌜ set < 2 ^ credentials (now table) ⌝ }
@@ -302,7 +327,7 @@ fn grown_by(
     if has_listed(sets, found, more) {
         return set;
     }
-    if search::admits(table, query, index, more & usable) {
+    if search::admits(table, query, index, arcs, more & usable) {
         return set;
     }
     more

@@ -26,10 +26,10 @@ use Rattle.derivation.proofs.Ruling.{Rule, rule-applied}
 use Rattle.derivation.proofs.Ruling.Rule.{membership, containment, linking, intersection}
 use Rattle.members.specs.Places.{personAt, roleAt}
 use Rattle.members.specs.Trying.{everyGoal}
-use Rattle.members.specs.Members.{Indexed, goalRole, padded, rolesAsked}
+use Rattle.members.specs.Members.{Aimed, Indexed, goalRole, padded, rolesAsked}
 use Rattle.members.proofs.ByKind.{middleRole, parts-few}
 use Rattle.members.proofs.Places.{person-is, person-stands}
-use Rattle.search.specs.Search.{Prepared, UsesOnly}
+use Rattle.search.specs.Search.{UsesOnly}
 use Rattle.relevance.specs.Relevance.{AsksIn, Relevant, Round, definedAt}
 use Rattle.search.proofs.Naming.{IsMiddle, middle-tried}
 use Rattle.search.proofs.Within.{only-end, only-node}
@@ -119,15 +119,15 @@ defined-fits index places n =
     members-below _ n (λ s h. ltb-true s n (and-first _ _ (sym (setOf-members _ n s) ∙ h)))
 
 -- the code has counted n credentials
-pub relevant-found : (t : List ℕ) (q : Query) (index : List ℕ) → Prepared t q index → (places n R : ℕ)
-    → inSet places (getD index goalRole 0) ≡ true → Round t index (credentials t) places places → n ≡ credentials t
-    → R ≡ definedAt index places n → Relevant t q R
+pub relevant-found : (t : List ℕ) (q : Query) (index : List ℕ) → WellFormed t → Indexed t index → Aimed t q index
+    → (places n R : ℕ) → inSet places (getD index goalRole 0) ≡ true → Round t index (credentials t) places places
+    → n ≡ credentials t → R ≡ definedAt index places n → Relevant t q R
 unfolding everyGoal isReached
-relevant-found t q index prepared places n R start closed count found =
+relevant-found t q index wf indexed aimed places n R start closed count found =
     rw (found, count)
     record {
       fits = defined-fits index places (credentials t);
       every = λ f d.
-          reached-covers t (prepared .wellFormed) index (prepared .indexed) places closed d
-          (and-both (rw (prepared .aimed .goalsRole) at start) refl);
+          reached-covers t wf index indexed places closed d
+          (and-both (rw (aimed .goalsRole) at start) refl);
     }

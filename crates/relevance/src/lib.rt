@@ -15,14 +15,15 @@ ghost use Rattle.sets.specs.Logic.{_and_};
 ghost use Rattle.sets.specs.Sets.{inSet};
 ghost use Rattle.table.specs.Layout.{credentials};
 ghost use Rattle.table.specs.Holding.{WellFormed};
-ghost use Rattle.members.specs.Members.{Indexed, Placed, goalRole};
-ghost use Rattle.search.specs.Search.{Prepared};
+ghost use Rattle.members.specs.Members.{Aimed, Indexed, Placed, goalRole};
 ghost use Rattle.relevance.specs.Relevance.{Relevant, Round, WithAsked, WithLinks, WithRoles, definedAt};
 
 // The credentials whose role can be reached from the query's role: every derivation of the queried membership uses only these. The
 // index is that of the table and the query (`members::index`).
 pub fn relevant(table: &[Number], query: Query, index: &[u8]) -> CredentialSet
-    requires { ⌜ Prepared (now table) query (now index) ⌝ }
+    requires { ⌜ WellFormed (now table) ⌝ }
+    requires { ⌜ Indexed (now table) (now index) ⌝ }
+    requires { ⌜ Aimed (now table) query (now index) ⌝ }
     ensures { λ r. ⌜ Relevant (now (table .entry)) query r ⌝ }
 {
     at_places(index, layout::credentials(table), reached(table, index))

@@ -27,7 +27,7 @@ abbrev Read : Type 0
 Read = tie.After-credential
 
 abbrev asked : Read → tie.Start
-asked at = at .before .before .before .before .before
+asked at = at .before .before .before .before .before .before
 
 parts-asked-requires : tie.Need-parts-asked-requires
 parts-asked-requires c κs =
@@ -69,7 +69,9 @@ add-credential-2 c =
     record { fits = omega (arith, below-most wf _ (c .least-middle .ensures .there)) }
 
 credential-requires-2 : tie.Need-credential-requires-2
-credential-requires-2 c κs = search needs
+credential-requires-2 c κs =
+    let wf = asked (c .before .before .before) .pre .0 .wellFormed in
+    (wf .sized, rw (← add-one _) at (numbered (c .least-middle .ensures .there)))
 
 linked-requires : tie.Need-linked-requires
 linked-requires c κs =

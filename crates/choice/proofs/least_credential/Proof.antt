@@ -17,20 +17,20 @@ use Rattle.choice.proofs.least_credential.Statement.{statement}
 use Rattle.choice.proofs.least_credential.Tie as tie
 
 abbrev Inv-loop : tie.InvT-loop
-Inv-loop table index rows terms person place levels states above last i₀ i =
+Inv-loop table index arcs rows terms person place levels states above last i₀ i =
     (i ≤ last) × (anyBelow (provesWith table (terms .allowed)
     (proves table (terms .allowed) (terms .constraints) levels above states)
     (part (terms .constraints) (acceptingSet table states)) (goalAt table person place)) i ≡ false)
 
 abbrev μ-loop : tie.MeasureT-loop
-μ-loop table index rows terms person place levels states above last i₀ i = last - i
+μ-loop table index arcs rows terms person place levels states above last i₀ i = last - i
 
 credentials-requires : tie.Need-credentials-requires Inv-loop μ-loop
 credentials-requires c κs = search needs
 
 last-usable-requires : tie.Need-last-usable-requires Inv-loop μ-loop
 last-usable-requires c κs =
-    let pre = c .before .before .before .before .pre in
+    let pre = c .before .before .before .before .before .pre in
     let n = c .credentials .ensures in
     (pre .0 .indexed .placed, (omega (arith, n .same, pre .1 .0 .1), n .few))
 
@@ -46,7 +46,7 @@ abbrev Found : Type 0
 Found = tie.After-last-usable Inv-loop μ-loop
 
 abbrev asked : Found → tie.Start Inv-loop μ-loop
-asked at = at .before .before .before .before .before
+asked at = at .before .before .before .before .before .before
 
 inside : (at : Found) (i : ℕ) → i < at .last-usable .result → i < credentials (now (asked at .args .table))
 inside at i l = omega (arith, l, at .last-usable .ensures .few, at .before .credentials .ensures .same)

@@ -16,14 +16,14 @@ use Rattle.regions.proofs.decide.Reads as decide-reads
 use Rattle.regions.proofs.+below.{statement}
 use Rattle.regions.proofs.+below.Tie.{close}
 
-abbrev μ-below : Measures 6 below-kinds.ps ℕ
-μ-below κs a = a .1 .1 .1 .1 .1 .0
+abbrev μ-below : Measures 7 below-kinds.ps ℕ
+μ-below κs a = a .1 .1 .1 .1 .1 .1 .0
 
-abbrev below-at : ℕ → In 6 below-kinds.ps
-below-at t = and 6 below-kinds.ps (is 6 below-kinds.ps μ-below t) below.Pre
+abbrev below-at : ℕ → In 7 below-kinds.ps
+below-at t = and 7 below-kinds.ps (is 7 below-kinds.ps μ-below t) below.Pre
 
-abbrev below-below : ℕ → In 6 below-kinds.ps
-below-below t = and 6 below-kinds.ps (falls 6 below-kinds.ps _<_ μ-below t) below.Pre
+abbrev below-below : ℕ → In 7 below-kinds.ps
+below-below t = and 7 below-kinds.ps (falls 7 below-kinds.ps _<_ μ-below t) below.Pre
 
 abbrev below-claims : ℕ → below-lts.Claims
 below-claims t = (
@@ -38,7 +38,7 @@ below-claims t = (
 )
 
 -- what `below` needs, whatever its measure is
-abbrev below-needs : (below-lts.Claims → In 6 below-kinds.ps → Out 6 below-kinds.ps below-kinds.r → Type 0) → Type 0
+abbrev below-needs : (below-lts.Claims → In 7 below-kinds.ps → Out 7 below-kinds.ps below-kinds.r → Type 0) → Type 0
 below-needs need = (t : ℕ) → need (below-claims t) (below-at t) below.Post
 
 below-decide-requires : below-needs below-lts.Need-decide-requires
@@ -58,7 +58,7 @@ below-returns t c =
 
 below-highest-requires : below-needs below-lts.Need-highest-requires
 below-highest-requires t c κs =
-    let pre = c .before .before .before .before .before .before .before .before .before .before .before .before .before .before .pre in
+    let pre = c .before .before .before .before .before .before .before .before .before .before .before .before .before .before .before .pre in
     let decide = c .before .before .before .before .before .decide in
     let pre = pre in
     let decide = decide in
@@ -81,7 +81,7 @@ below-below-requires t c κs =
     let if1 = at-if1 .if1 in
     let at-decide = at-if1 .before .before .before .before .before in
     let decide = at-decide .decide in
-    let start = at-decide .before .before .before .before .before .before .before .before .before in
+    let start = at-decide .before .before .before .before .before .before .before .before .before .before in
     let pre = start .pre in
     let splits = decided-splits (pre .1 .1 .1 .0) (decide .ensures) (if1 .left) (pre .1 .1 .1 .1) _ (highest .ensures .0) in
     let few = highest .ensures .1 in (
@@ -101,7 +101,7 @@ below-below-requires-2 t c κs =
     let if1 = at-if1 .if1 in
     let at-decide = at-if1 .before .before .before .before .before in
     let decide = at-decide .decide in
-    let start = at-decide .before .before .before .before .before .before .before .before .before in
+    let start = at-decide .before .before .before .before .before .before .before .before .before .before in
     let pre = start .pre in
     let splits = decided-splits (pre .1 .1 .1 .0) (decide .ensures) (if1 .left) (pre .1 .1 .1 .1) _ (highest .ensures .0) in
     let few = highest .ensures .1 in (
@@ -138,7 +138,7 @@ below-returns-2 t c =
     let if1 = at-if1 .if1 in
     let at-decide = at-if1 .before .before .before .before .before in
     let decide = at-decide .decide in
-    let start = at-decide .before .before .before .before .before .before .before .before .before in
+    let start = at-decide .before .before .before .before .before .before .before .before .before .before in
     let pre = start .pre in
     let splits = decided-splits (pre .1 .1 .1 .0) (decide .ensures) (if1 .left) (pre .1 .1 .1 .1) _ (highest .ensures .0) in
     let few = highest .ensures .1 in

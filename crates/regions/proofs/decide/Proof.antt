@@ -18,7 +18,7 @@ same-length c = search needs
 
 returns : tie.Need-returns
 returns c =
-    let pre = c .before .before .before .before .before .before .before .before .pre in
+    let pre = c .before .before .before .before .before .before .before .before .before .pre in
     let is-barren = c .before .is-barren in
     let ready = pre .1 .1 .0 in
     let none = is-barren .ensures .none (c .if1 .taken) _ _ (admits-monotone _ (pre .0 .wellFormed) _) ready in
@@ -32,8 +32,8 @@ same-length-2 c = search needs
 
 returns-2 : tie.Need-returns-2
 returns-2 c =
-    let args = c .before .before .before .before .before .before .before .before .before .before .before .args in
-    let pre = c .before .before .before .before .before .before .before .before .before .before .before .pre in
+    let args = c .before .before .before .before .before .before .before .before .before .before .before .before .args in
+    let pre = c .before .before .before .before .before .before .before .before .before .before .before .before .pre in
     let unmet = c .before .unmet in
     decided-left _ (and-part (unmet .result) (args .free)) (more-same (pre .1 .1 .0 .known)) (λ none. absurd (c .if2 .taken none))
 
@@ -50,7 +50,7 @@ keep-requires c κs =
     let if1 = at-if1 .if1 in
     let at-is-barren = at-if1 .before in
     let is-barren = at-is-barren .is-barren in
-    let start = at-is-barren .before .before .before .before .before .before .before in
+    let start = at-is-barren .before .before .before .before .before .before .before .before in
     let pre = start .pre in
     let ready = pre .1 .1 .0 in
     let passes = sym (admits .ensures) ∙ if3 .taken in (
@@ -81,7 +81,7 @@ returns-3 c =
     let if3 = at-if3 .if3 in
     let at-admits = at-if3 .before in
     let admits = at-admits .admits in
-    let start = at-admits .before .before .before .before .before .before .before .before .before .before .before .before in
+    let start = at-admits .before .before .before .before .before .before .before .before .before .before .before .before .before in
     let pre = start .pre in
     let passes = sym (admits .ensures) ∙ if3 .taken in
     decided-over (ended-kept (pre .0 .wellFormed) (pre .1 .1 .0) passes (keep .ensures))
@@ -91,7 +91,7 @@ same-length-5 c = search needs
 
 returns-4 : tie.Need-returns-4
 returns-4 c =
-    let pre = c .before .before .before .before .before .before .before .before .before .before .before .before .before .before .pre in
+    let pre = c .before .before .before .before .before .before .before .before .before .before .before .before .before .before .before .pre in
     let admits = c .before .before .admits in
     let if3 = c .before .if3 in
     let ready = pre .1 .1 .0 in
@@ -104,7 +104,7 @@ grown-requires c κs =
     let if3 = at-if3 .if3 in
     let at-admits = at-if3 .before in
     let admits = at-admits .admits in
-    let start = at-admits .before .before .before .before .before .before .before .before .before .before .before .before in
+    let start = at-admits .before .before .before .before .before .before .before .before .before .before .before .before .before in
     let pre = start .pre in
     let ready = pre .1 .1 .0 in
     (pre .0, (pre .1 .0, (ready .known, (chosen-fits ready, sym (admits .ensures) ∙ if3 .left))))
@@ -114,23 +114,23 @@ outside-requires c κs = search needs
 
 mul-cuts : tie.Need-mul-cuts
 mul-cuts c =
-    let start = c .before .before .before .before .before .before .before .before .before .before .before .before .before .before .before .before .before .before .before in
+    let start = c .before .before .before .before .before .before .before .before .before .before .before .before .before .before .before .before .before .before .before .before in
     let slice-known = c .before .before .before .before .before .before .before .before .before .before .before .before .before .before .before .before .slice-known in
     let if4 = c .before .before .before .before .before .if4 in
-    search (needs, start .good, slice-known .given, start .pre .1 .1 .0 .known .room, if4 .left)
+    search (needs, start .good .1 .1 .1 .1 .1 .1 .1 .0, slice-known .given, start .pre .1 .1 .0 .known .room, if4 .left)
 
 slice-write-cuts : tie.Need-slice-write-cuts
 slice-write-cuts c =
-    let start = c .before .before .before .before .before .before .before .before .before .before .before .before .before .before .before .before .before .before .before in
+    let start = c .before .before .before .before .before .before .before .before .before .before .before .before .before .before .before .before .before .before .before .before in
     let if4 = c .before .before .before .before .before .if4 in
     search (needs, start .pre .1 .1 .0 .known .room, if4 .left)
 
 add-count : tie.Need-add-count
 add-count c =
-    let start = c .before .before .before .before .before .before .before .before .before .before .before .before .before .before .before .before .before .before .before in
+    let start = c .before .before .before .before .before .before .before .before .before .before .before .before .before .before .before .before .before .before .before .before in
     let slice-known = c .before .before .before .before .before .before .before .before .before .before .before .before .before .before .before .before .slice-known in
     let if4 = c .before .before .before .before .before .if4 in
-    search (needs, start .good, slice-known .given, start .pre .1 .1 .0 .known .room, if4 .left)
+    search (needs, start .good .1 .1 .1 .1 .1 .1 .1 .0, slice-known .given, start .pre .1 .1 .0 .known .room, if4 .left)
 
 same-length-6 : tie.Need-same-length-6
 same-length-6 c = search needs
@@ -144,7 +144,7 @@ returns-5 c =
     let grown = at-grown .grown in
     let at-if4 = at-grown .before .before .before .before in
     let if4 = at-if4 .if4 in
-    let start = at-if4 .before .before .before .before .before .before .before .before .before .before .before .before .before .before in
+    let start = at-if4 .before .before .before .before .before .before .before .before .before .before .before .before .before .before .before in
     let pre = start .pre in
     decided-cut (pre .0 .wellFormed) (pre .1 .1 .0) (if4 .left) _ _ (grown .ensures) (c .outside .ensures)
 

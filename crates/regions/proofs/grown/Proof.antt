@@ -12,23 +12,23 @@ use Rattle.regions.proofs.grown.Statement.{statement}
 use Rattle.regions.proofs.grown.Tie as tie
 
 abbrev Inv-loop : tie.InvT-loop
-Inv-loop table query index usable cuts count sets found chosen n set₀ i₀ set i =
+Inv-loop table query index arcs usable cuts count sets found chosen n set₀ i₀ set i =
     (i ≤ n) × (n ≡ credentials table) × Grown (admits table query) (credentials table) chosen set
 
 abbrev μ-loop : tie.MeasureT-loop
-μ-loop table query index usable cuts count sets found chosen n set₀ i₀ set i = n - i
+μ-loop table query index arcs usable cuts count sets found chosen n set₀ i₀ set i = n - i
 
 credentials-requires : tie.Need-credentials-requires Inv-loop μ-loop
 credentials-requires c κs = search needs
 
 loop-holds : tie.Need-loop-holds Inv-loop μ-loop
 loop-holds c =
-    let pre = c .before .before .before .before .before .pre in
+    let pre = c .before .before .before .before .before .before .pre in
     (omega arith, c .credentials .ensures .same, grown-same (pre .1 .1 .1 .0) (pre .1 .1 .1 .1))
 
 grown-by-requires : tie.Need-grown-by-requires Inv-loop μ-loop
 grown-by-requires c κs =
-    let pre = c .before .before .before .before .before .before .before .pre in
+    let pre = c .before .before .before .before .before .before .before .before .pre in
     let loop = c .before .loop in
     (pre .0, (pre .1 .0, (pre .1 .1 .0, (loop .inv .2 .fits, (loop .inv .2 .fails, omega (arith, loop .inv .1))))))
 

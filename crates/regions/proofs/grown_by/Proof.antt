@@ -11,7 +11,7 @@ has-requires c κs = search needs
 
 returns : tie.Need-returns
 returns c =
-    let pre = c .before .before .before .before .before .before .pre in
+    let pre = c .before .before .before .before .before .before .before .pre in
     grown-same (pre .1 .1 .1 .0) (pre .1 .1 .1 .1 .0)
 
 with-requires : tie.Need-with-requires
@@ -22,7 +22,7 @@ has-requires-2 c κs = search needs
 
 returns-2 : tie.Need-returns-2
 returns-2 c =
-    let pre = c .before .before .before .before .before .before .before .before .before .pre in
+    let pre = c .before .before .before .before .before .before .before .before .before .before .pre in
     let with = c .before .before .with in
     let out = failed (c .before .has2 .ensures) (c .if2 .taken) in
     grown-more _ _ _ (pre .1 .1 .1 .0) (pre .1 .1 .1 .1 .1) (with .ensures)
@@ -33,7 +33,7 @@ meets-all-requires c κs = search needs
 
 returns-3 : tie.Need-returns-3
 returns-3 c =
-    let pre = c .before .before .before .before .before .before .before .before .before .before .before .pre in
+    let pre = c .before .before .before .before .before .before .before .before .before .before .before .before .pre in
     let with = c .before .before .before .before .with in
     let unmet = failed (c .before .meets-all .ensures) (c .if3 .taken) in
     grown-unmet _ _ _ (pre .1 .1 .1 .0) (pre .1 .1 .1 .1 .1) (pre .1 .1 .0) (with .ensures) unmet
@@ -43,7 +43,7 @@ has-listed-requires c κs = search needs
 
 returns-4 : tie.Need-returns-4
 returns-4 c =
-    let pre = c .before .before .before .before .before .before .before .before .before .before .before .before .before .pre in
+    let pre = c .before .before .before .before .before .before .before .before .before .before .before .before .before .before .pre in
     grown-same (pre .1 .1 .1 .0) (pre .1 .1 .1 .1 .0)
 
 admits-requires : tie.Need-admits-requires
@@ -52,14 +52,14 @@ admits-requires c κs = search needs
 returns-5 : tie.Need-returns-5
 returns-5 c =
     let at-with = c .before .before .before .before .before .before .before .before in
-    let pre = at-with .before .before .before .before .before .before .before .pre in
+    let pre = at-with .before .before .before .before .before .before .before .before .pre in
     grown-same (pre .1 .1 .1 .0) (pre .1 .1 .1 .1 .0)
 
 returns-6 : tie.Need-returns-6
 returns-6 c =
     let at-with = c .before .before .before .before .before .before .before .before in
     let with = at-with .with in
-    let pre = at-with .before .before .before .before .before .before .before .pre in
+    let pre = at-with .before .before .before .before .before .before .before .before .pre in
     let fails = sym (pre .1 .0 _) ∙ sym (c .before .admits .ensures) ∙ c .if5 .left in
     grown-more _ _ _ (pre .1 .1 .1 .0) (pre .1 .1 .1 .1 .1) (with .ensures) fails
 

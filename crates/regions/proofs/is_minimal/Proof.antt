@@ -15,10 +15,11 @@ use Rattle.regions.proofs.is_minimal.Statement.{statement}
 use Rattle.regions.proofs.is_minimal.Tie as tie
 
 abbrev Inv-loop : tie.InvT-loop
-Inv-loop table query index set n i₀ i = (i ≤ n) × (n ≡ credentials table) × (anyBelow (spare (admits table query) set) i ≡ false)
+Inv-loop table query index arcs set n i₀ i =
+    (i ≤ n) × (n ≡ credentials table) × (anyBelow (spare (admits table query) set) i ≡ false)
 
 abbrev μ-loop : tie.MeasureT-loop
-μ-loop table query index set n i₀ i = n - i
+μ-loop table query index arcs set n i₀ i = n - i
 
 credentials-requires : tie.Need-credentials-requires Inv-loop μ-loop
 credentials-requires c κs = search needs
@@ -49,7 +50,7 @@ loop-again c =
 
 returns-2 : tie.Need-returns-2 Inv-loop μ-loop
 returns-2 c =
-    let pre = c .before .before .before .before .before .pre in
+    let pre = c .before .before .before .before .before .before .pre in
     let loop = c .before .loop in
     sym (none-spare _ _ (admits-monotone _ (pre .0 .wellFormed) _) _ (pre .1 .0) (pre .1 .1) _ (omega (arith, loop .inv .1)) (loop .inv .2))
 

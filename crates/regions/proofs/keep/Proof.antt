@@ -24,7 +24,7 @@ same-length c = search needs
 
 returns-2 : tie.Need-returns-2
 returns-2 c =
-    let pre = c .before .before .before .before .before .before .before .before .before .pre in
+    let pre = c .before .before .before .before .before .before .before .before .before .before .pre in
     let if1 = c .before .before .before .before .before .if1 in
     let insert = c .before .before .insert in
     kept-least

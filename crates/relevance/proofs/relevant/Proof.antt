@@ -18,7 +18,7 @@ returns c =
     let found = c .before .reached .ensures in
     let count = c .before .before .credentials .ensures .same in
     let pre = c .before .before .before .before .before .pre in
-    relevant-found _ _ _ pre _ _ _ (found .0) (found .1) count (c .at-places .ensures)
+    relevant-found _ _ _ (pre .0) (pre .1 .0) (pre .1 .1) _ _ _ (found .0) (found .1) count (c .at-places .ensures)
 
 pub relevant-spec : {M : Type 1} → statement M
 relevant-spec =

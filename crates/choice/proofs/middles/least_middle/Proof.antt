@@ -12,18 +12,18 @@ use Rattle.choice.proofs.middles.least_middle.Statement.{statement}
 use Rattle.choice.proofs.middles.least_middle.Tie as tie
 
 abbrev Inv-loop : tie.InvT-loop
-Inv-loop table index rows terms person i levels states above row left₀ left =
+Inv-loop table index arcs rows terms person i levels states above row left₀ left =
     MiddlesLeft table (leads table index (terms .allowed) (terms .constraints) levels above states person i) left
 
 abbrev μ-loop : tie.MeasureT-loop
-μ-loop table index rows terms person i levels states above row left₀ left = left
+μ-loop table index arcs rows terms person i levels states above row left₀ left = left
 
 row-of-requires : tie.Need-row-of-requires Inv-loop μ-loop
 row-of-requires c κs = search needs
 
 listed-middles-requires : tie.Need-listed-middles-requires Inv-loop μ-loop
 listed-middles-requires c κs =
-    let pre = c .before .before .before .before .pre in (
+    let pre = c .before .before .before .before .before .pre in (
       pre .0 .wellFormed,
       (
         pre .0 .indexed,
@@ -33,24 +33,24 @@ listed-middles-requires c κs =
 
 loop-holds : tie.Need-loop-holds Inv-loop μ-loop
 loop-holds c =
-    let pre = c .before .before .before .before .before .pre in
+    let pre = c .before .before .before .before .before .before .pre in
     left-first (pre .0) (pre .1 .0 .0) (pre .1 .0 .1) _ _ _ _ _ (c .before .row-of .ensures) (c .listed-middles .ensures)
 
 sub-loop : tie.Need-sub-loop Inv-loop μ-loop
 sub-loop c =
-    let pre = c .before .before .before .before .before .before .pre in
+    let pre = c .before .before .before .before .before .before .before .pre in
     let some = some-leads (pre .0) (pre .1 .0 .0) (pre .1 .0 .1) _ _ _ _ (pre .1 .1) in
     some-least _ (left-some _ _ _ (c .loop .inv) some)
 
 least-named-requires : tie.Need-least-named-requires Inv-loop μ-loop
 least-named-requires c κs =
-    let pre = c .before .before .before .before .before .before .before .pre in
+    let pre = c .before .before .before .before .before .before .before .before .pre in
     let some = some-leads (pre .0) (pre .1 .0 .0) (pre .1 .0 .1) _ _ _ _ (pre .1 .1) in
     (pre .0 .wellFormed, (c .before .loop .inv .few, left-some _ _ _ (c .before .loop .inv) some))
 
 leads-on-requires : tie.Need-leads-on-requires Inv-loop μ-loop
 leads-on-requires c κs =
-    let pre = c .before .before .before .before .before .before .before .before .pre in
+    let pre = c .before .before .before .before .before .before .before .before .before .pre in
     let named = c .least-named .ensures in
     (pre .0, (pre .1 .0, (named .there, c .before .before .loop .inv .people _ (named .member))))
 
@@ -78,13 +78,13 @@ loop-again c =
 
 least-named-requires-2 : tie.Need-least-named-requires-2 Inv-loop μ-loop
 least-named-requires-2 c κs =
-    let pre = c .before .before .before .before .before .before .before .pre in
+    let pre = c .before .before .before .before .before .before .before .before .pre in
     let some = some-leads (pre .0) (pre .1 .0 .0) (pre .1 .0 .1) _ _ _ _ (pre .1 .1) in
     (pre .0 .wellFormed, (c .before .loop .inv .few, left-some _ _ _ (c .before .loop .inv) some))
 
 returns-2 : tie.Need-returns-2 Inv-loop μ-loop
 returns-2 c =
-    let pre = c .before .before .before .before .before .before .before .before .pre in
+    let pre = c .before .before .before .before .before .before .before .before .before .pre in
     let some = some-leads (pre .0) (pre .1 .0 .0) (pre .1 .0 .1) _ _ _ _ (pre .1 .1) in
     only-leads _ _ _ (c .before .before .loop .inv) _ (c .least-named2 .ensures) some (c .before .loop-test .left)
 
