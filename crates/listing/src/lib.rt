@@ -4,6 +4,7 @@
 // this is the list that the definition means.
 use checks::QueryCheck;
 use sets::CredentialSet;
+use sets::StateSet;
 use table::Number;
 use table::Query;
 use table::Reason;
@@ -48,7 +49,7 @@ pub fn list_with(table: &[Number], query: Query, room: usize, sets: &mut [Creden
     }
 }
 
-// Row 9, or what follows it: where all that bears on the query is not admitted, nothing is.
+// Rows 9 and 10, or the list: first the index of the table and the query is made, and what bears on it is found.
 fn list_checked(table: &[Number], query: Query, room: usize, sets: &mut [CredentialSet]) -> Listing
     requires { ⌜ WellFormed (now table) ⌝ }
     requires { ⌜ Valid query ⌝ }
@@ -56,12 +57,29 @@ fn list_checked(table: &[Number], query: Query, room: usize, sets: &mut [Credent
 {
     let index = members::index(table, query);
     let usable = relevance::relevant(table, query, &index);
-    if !search::admits(table, query, &index, usable) {
+    list_over(table, query, &index, &table[..0], usable, room, sets)
+}
+
+// Row 9, or what follows it: where all that bears on the query is not admitted, nothing is.
+fn list_over(
+    table: &[Number],
+    query: Query,
+    index: &[u8],
+    arcs: &[StateSet],
+    usable: CredentialSet,
+    room: usize,
+    sets: &mut [CredentialSet],
+) -> Listing
+    requires { ⌜ Prepared (now table) query (now index) (now arcs) ⌝ }
+    requires { ⌜ Relevant (now table) query usable ⌝ }
+    ensures { λ r. ⌜ Tells (now (table .entry)) query (now (sets .entry)) (now (sets .exit)) (listingTold r) ⌝ }
+{
+    if !search::admits(table, query, index, arcs, usable) {
         return refused(Reason::NoMinimalSet);
     }
     let mut cuts = [0; MOST_CUTS];
     let few = if room < MOST_CUTS { room } else { MOST_CUTS };
-    list_admitted(table, query, &index, usable, &mut cuts[..few], sets)
+    list_admitted(table, query, index, arcs, usable, &mut cuts[..few], sets)
 }
 
 // Row 10, or the list, where there is a minimal set.
@@ -69,11 +87,12 @@ fn list_admitted(
     table: &[Number],
     query: Query,
     index: &[u8],
+    arcs: &[StateSet],
     usable: CredentialSet,
     cuts: &mut [CredentialSet],
     sets: &mut [CredentialSet],
 ) -> Listing
-    requires { ⌜ Prepared (now table) query (now index) ⌝ }
+    requires { ⌜ Prepared (now table) query (now index) (now arcs) ⌝ }
     requires { ⌜ Relevant (now table) query usable ⌝ }
     requires { ⌜ admits (now table) query usable ≡ true ⌝ }
     ensures { λ r. ⌜ Tells (now (table .entry)) query (now (sets .entry)) (now (sets .exit)) (listingTold r) ⌝ }
@@ -85,6 +104,7 @@ fn list_admitted(
         table,
         query,
         index,
+        arcs,
         usable,
         0,
         usable, // all of it is free

@@ -22,7 +22,7 @@ use Rattle.writing.specs.First.{firstForest}
 use Rattle.writing.specs.Walked.{Walked}
 use Rattle.writing.proofs.Nodes.{place-there}
 
-module _ {t : List ℕ} {q : Query} {index rows : List ℕ} {S last : ℕ} (prepared : Prepared t q index)
+module _ {t : List ℕ} {q : Query} {index arcs rows : List ℕ} {S last : ℕ} (prepared : Prepared t q index arcs)
     (members : Members t S (q .depth) last rows) (A : ℕ) (proved : provable t q S A ≡ true) {person place : ℕ}
     (who : person ≡ getD index goalPerson 0) (role-at : place ≡ getD index goalRole 0) where
   named : person < credentials t

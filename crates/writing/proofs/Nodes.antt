@@ -42,9 +42,9 @@ nodeAsks t S A levels above s g =
     asked (premises t g c (leastMiddle t one word g c))
 
 -- a goal whose node is to be chosen: it is proved, and branch and state sets are one role on
-pub record Entered (t index rows : List ℕ) (S A levels last : ℕ) (above deeper : Above) (s below : StateSets)
+pub record Entered (t index arcs rows : List ℕ) (S A levels last : ℕ) (above deeper : Above) (s below : StateSets)
     (person place : ℕ) : Type 0 where
-  pub searched : Searched t index rows S levels last
+  pub searched : Searched t index arcs rows S levels last
   pub stands : Stands t person place
   pub proved : provesAt t S A levels above s person place ≡ true
   pub moved : below ≡ stepped t A (credential t (suc place) .role) s
@@ -74,8 +74,8 @@ unfolding written
 first-written t S A levels above s g =
     rw (first-node t S A levels above s g [], first-end t S A (suc levels) above s, append-nil)
 
-module _ {t index rows : List ℕ} {S A levels last : ℕ} {above deeper : Above} {s below : StateSets} {person place : ℕ}
-    (entered : Entered t index rows S A levels last above deeper s below person place) where
+module _ {t index arcs rows : List ℕ} {S A levels last : ℕ} {above deeper : Above} {s below : StateSets} {person place : ℕ}
+    (entered : Entered t index arcs rows S A levels last above deeper s below person place) where
   abbrev g : Goal
   g = goalAt t person place
 

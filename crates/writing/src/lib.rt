@@ -6,6 +6,7 @@ mod walk; // walk.rt: the nodes of the record, in preorder
 use checks::QueryCheck;
 use search::Terms;
 use sets::CredentialSet;
+use sets::StateSet;
 use table::Number;
 use table::Query;
 use table::Reason;
@@ -39,31 +40,52 @@ pub fn write(table: &[Number], query: Query, set: CredentialSet, rec: &mut [Numb
     }
 }
 
-// Row 15, or what follows it.
+// Rows 15 and 16, or the record: first the index of the table and the query is made.
 fn write_checked(table: &[Number], query: Query, set: CredentialSet, rec: &mut [Number]) -> Written
     requires { ⌜ WellFormed (now table) ⌝ }
     requires { ⌜ Valid query ⌝ }
     ensures { λ r. ⌜ Tells (now (table .entry)) query set (now (rec .entry)) (now (rec .exit)) (writtenTold r) ⌝ }
 {
     let index = members::index(table, query);
-    if !is_listed(table, query, &index, set) {
+    write_over(table, query, &index, &table[..0], set, rec)
+}
+
+// Row 15, or what follows it.
+fn write_over(
+    table: &[Number],
+    query: Query,
+    index: &[u8],
+    arcs: &[StateSet],
+    set: CredentialSet,
+    rec: &mut [Number],
+) -> Written
+    requires { ⌜ Prepared (now table) query (now index) (now arcs) ⌝ }
+    ensures { λ r. ⌜ Tells (now (table .entry)) query set (now (rec .entry)) (now (rec .exit)) (writtenTold r) ⌝ }
+{
+    if !is_listed(table, query, index, arcs, set) {
         return refused(Reason::NotListed);
     }
-    write_listed(table, query, &index, set, rec)
+    write_listed(table, query, index, arcs, set, rec)
 }
 
 // Whether the set is on the list: it is admitted, and not without any one of its credentials. No list is made.
-fn is_listed(table: &[Number], query: Query, index: &[u8], set: CredentialSet) -> bool
-    requires { ⌜ Prepared (now table) query (now index) ⌝ }
+fn is_listed(
+    table: &[Number],
+    query: Query,
+    index: &[u8],
+    arcs: &[StateSet],
+    set: CredentialSet,
+) -> bool
+    requires { ⌜ Prepared (now table) query (now index) (now arcs) ⌝ }
     ensures { λ r. ⌜ r ≡ isMinimal (now (table .entry)) query set ⌝ }
 {
     if set >> layout::credentials(table) != 0 {
         return false;
     }
-    if !search::admits(table, query, index, set) {
+    if !search::admits(table, query, index, arcs, set) {
         return false;
     }
-    regions::is_minimal(table, query, index, set)
+    regions::is_minimal(table, query, index, arcs, set)
 }
 
 // Row 16, or the record. The length is known before the first cell is written: the record is walked without cells first, up to
@@ -72,10 +94,11 @@ fn write_listed(
     table: &[Number],
     query: Query,
     index: &[u8],
+    arcs: &[StateSet],
     set: CredentialSet,
     rec: &mut [Number],
 ) -> Written
-    requires { ⌜ Prepared (now table) query (now index) ⌝ }
+    requires { ⌜ Prepared (now table) query (now index) (now arcs) ⌝ }
     requires { ⌜ isMinimal (now table) query set ≡ true ⌝ }
     ensures { λ r. ⌜ Tells (now (table .entry)) query set (now (rec .entry)) (now (rec .exit)) (writtenTold r) ⌝ }
 {
@@ -87,11 +110,20 @@ fn write_listed(
         last: last,
     };
     let cells = rec.len();
-    let len = walk::from_goal(table, query, index, &rows, terms, cells, &mut rec[..0]);
+    let len = walk::from_goal(
+        table,
+        query,
+        index,
+        arcs,
+        &rows,
+        terms,
+        cells,
+        &mut rec[..0],
+    );
     if cells < len {
         return refused(Reason::LongerRecord);
     }
-    walk::from_goal(table, query, index, &rows, terms, cells, rec);
+    walk::from_goal(table, query, index, arcs, &rows, terms, cells, rec);
     Written::Length(len)
 }
 

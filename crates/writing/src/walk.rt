@@ -4,6 +4,7 @@ use automata::StateSets;
 use members::Above;
 use search::Terms;
 use sets::CredentialSet;
+use sets::StateSet;
 use table::Number;
 use table::Query;
 use table::layout;
@@ -25,12 +26,13 @@ pub fn from_goal(
     table: &[Number],
     query: Query,
     index: &[u8],
+    arcs: &[StateSet],
     rows: &[CredentialSet],
     terms: Terms,
     most: usize,
     rec: &mut [Number],
 ) -> usize
-    requires { ⌜ Prepared (now table) query (now index) ⌝ }
+    requires { ⌜ Prepared (now table) query (now index) (now arcs) ⌝ }
     requires { ⌜ Members (now table) (terms .allowed) (query .depth) (terms .last) (now rows) ⌝ }
     requires { ⌜ provable (now table) query (terms .allowed) (terms .constraints) ≡ true ⌝ }
     requires { ⌜ most < 2 ^ 63 ⌝ }
@@ -40,6 +42,7 @@ pub fn from_goal(
     walk(
         table,
         index,
+        arcs,
         rows,
         terms,
         members::goal_person(index),
@@ -58,6 +61,7 @@ pub fn from_goal(
 fn walk(
     table: &[Number],
     index: &[u8],
+    arcs: &[StateSet],
     rows: &[CredentialSet],
     terms: Terms,
     person: usize,
@@ -69,19 +73,19 @@ fn walk(
     at: usize,
     rec: &mut [Number],
 ) -> usize
-    requires { ⌜ Searched (now table) (now index) (now rows) (terms .allowed) levels (terms .last) ⌝ }
+    requires { ⌜ Searched (now table) (now index) (now arcs) (now rows) (terms .allowed) levels (terms .last) ⌝ }
     requires { ⌜ Stands (now table) person place ⌝ }
     requires { ⌜ provesAt (now table) (terms .allowed) (terms .constraints) levels above states person place ≡ true ⌝ }
     requires { ⌜ (at ≤ most) × (most < 2 ^ 63) ⌝ }
     ensures { λ r. ⌜ Walked at most (written (firstForest (now (table .entry)) (terms .allowed) (terms .constraints) levels above states
         (goalAt (now (table .entry)) person place ∷ []))) (now (rec .entry)) (now (rec .exit)) r ⌝ }
 {
-    let role = search::role_of(table, place);
-    let below = search::stepped(table, terms.constraints, role, states);
+    let below = search::stepped(table, arcs, terms.constraints, place, states);
     let deeper = above.with(person, place);
     let node = choice::choose(
         table,
         index,
+        arcs,
         rows,
         terms,
         person,
@@ -103,6 +107,7 @@ fn walk(
         next = walk(
             table,
             index,
+            arcs,
             rows,
             terms,
             persons[k],

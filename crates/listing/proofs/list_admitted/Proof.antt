@@ -10,11 +10,11 @@ use Rattle.listing.proofs.list_admitted.Tie as tie
 
 -- where the sets have been searched, and what was asked
 abbrev asked : tie.After-below → tie.Start
-asked at = at .before .before .before .before .before .before .before .before .before
+asked at = at .before .before .before .before .before .before .before .before .before .before
 
 below-requires : tie.Need-below-requires
 below-requires c κs =
-    let pre = c .before .before .before .before .before .before .before .before .pre in
+    let pre = c .before .before .before .before .before .before .before .before .before .pre in
     let bears = relevant-admits _ (pre .0 .wellFormed) _ _ (pre .1 .0) in
     (pre .0, (bears, (start-ready _ _ _ (pre .1 .0 .fits) _, start-held _ _ _)))
 

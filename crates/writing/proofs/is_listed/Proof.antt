@@ -19,7 +19,7 @@ shr-if1 c = search needs
 
 returns : tie.Need-returns
 returns c =
-    let pre = c .before .before .before .before .pre in
+    let pre = c .before .before .before .before .before .pre in
     sym (beyond-unlisted _ (pre .wellFormed) _ (pre .valid) _ _ (c .before .credentials .ensures .same) (c .if1 .taken))
 
 admits-requires : tie.Need-admits-requires
@@ -31,7 +31,7 @@ returns-2 c = sym (least-not _ _ (failed (c .before .admits .ensures) (c .if2 .t
 is-minimal-requires : tie.Need-is-minimal-requires
 is-minimal-requires c κs =
     let at = c .before .before .before in
-    let start = at .before .before .before in
+    let start = at .before .before .before .before in
     let few = below-all (now (start .args .table)) _ _ (at .credentials .ensures .same) (c .before .before .if1 .left) in
     (start .pre, (few, passed (c .before .admits .ensures) (c .if2 .left)))
 

@@ -1,9 +1,8 @@
--- `writing::write_checked` meets its contract: 15 where the set is not on the list. Assumes nothing.
-use mathlib.Core.Path.{refl}
-use Rattle.sets.proofs.Tests.{failed, passed}
-use Rattle.table.specs.Checks.{numberOf}
-use Rattle.writing.proofs.Fitting.{tells-unlisted}
-use Rattle.writing.proofs.Passes.{tells-instead}
+-- `writing::write_checked` meets its contract: the record is written with the index of the table and the query, and with no index
+-- of arcs. Assumes nothing.
+use native.Mathlib.Omega.{arith}
+use lib.ListN.{length-take}
+use Rattle.automata.proofs.Arcs.{no-arcs}
 use borrow.Author.Needs.{needs}
 use Rattle.writing.proofs.write_checked.Statement.{statement}
 use Rattle.writing.proofs.write_checked.Tie as tie
@@ -11,48 +10,37 @@ use Rattle.writing.proofs.write_checked.Tie as tie
 index-requires : tie.Need-index-requires
 index-requires c κs = search needs
 
-slice-aggregate-is-listed : tie.Need-slice-aggregate-is-listed
-slice-aggregate-is-listed c = search needs
+slice-aggregate-write-over : tie.Need-slice-aggregate-write-over
+slice-aggregate-write-over c = search needs
 
-is-listed-requires : tie.Need-is-listed-requires
-is-listed-requires c κs = search needs
+slice-aggregate-write-over-2 : tie.Need-slice-aggregate-write-over-2
+slice-aggregate-write-over-2 c = search needs
 
-refused-requires : tie.Need-refused-requires
-refused-requires c κs = search needs
-
-returns : tie.Need-returns
-unfolding numberOf
-returns c =
-    let off = failed (c .before .before .is-listed .ensures) (c .before .if1 .taken) in
-    tells-instead _ _ _ _ (c .refused .ensures) refl (tells-unlisted _ _ _ _ off)
-
-slice-aggregate-write-listed : tie.Need-slice-aggregate-write-listed
-slice-aggregate-write-listed c = search needs
-
-write-listed-requires : tie.Need-write-listed-requires
-write-listed-requires c κs =
-    let pre = c .before .before .before .before .before .before .before .before .pre in
-    let index = c .before .before .before .before .before .index .ensures in (
-      record { wellFormed = pre .0; valid = pre .1; indexed = index .0; aimed = index .1 },
-      passed (c .before .before .before .is-listed .ensures) (c .before .before .if1 .left),
-    )
+write-over-requires : tie.Need-write-over-requires
+write-over-requires c κs =
+    let index = c .before .before .before in
+    let pre = index .before .before .before .pre in
+    record {
+      wellFormed = pre .0;
+      valid = pre .1;
+      indexed = index .index .ensures .0;
+      aimed = index .index .ensures .1;
+      moving = no-arcs _ _ (simp length-take (omega arith));
+    }
 
 same-length : tie.Need-same-length
 same-length c = search needs
 
-returns-2 : tie.Need-returns-2
-returns-2 c = search needs
+returns : tie.Need-returns
+returns c = search needs
 
 pub write-checked-spec : {M : Type 1} → statement M
 write-checked-spec =
     tie.close
     (tie.spec
     index-requires
-    slice-aggregate-is-listed
-    is-listed-requires
-    refused-requires
-    returns
-    slice-aggregate-write-listed
-    write-listed-requires
+    slice-aggregate-write-over
+    slice-aggregate-write-over-2
+    write-over-requires
     same-length
-    returns-2)
+    returns)

@@ -25,7 +25,7 @@ slice-aggregate-fill c = search needs
 
 fill-requires : tie.Need-fill-requires
 fill-requires c κs =
-    let pre = c .before .before .before .before .before .pre in
+    let pre = c .before .before .before .before .before .before .pre in
     let wide = c .before .wide .ensures .0 in (
       pre .0 .wellFormed,
       (
@@ -51,7 +51,7 @@ abbrev Ready : Type 0
 Ready = tie.After-from-goal-arg
 
 abbrev asked : Ready → tie.Start
-asked at = at .before .before .before .before .before .before .before .before .before .before
+asked at = at .before .before .before .before .before .before .before .before .before .before .before
 
 abbrev cells : Ready → List ℕ
 cells at = now (asked at .args .rec)

@@ -21,37 +21,34 @@ use Rattle.writing.proofs.walk.walk.Reads as walk
 use Rattle.writing.proofs.walk.walk.Kinds as walk-kinds
 use Rattle.writing.proofs.walk.+walk.Lts-walk as walk-lts
 use Rattle.choice.proofs.choose.Reads as choose-reads
-use Rattle.search.proofs.role_of.Reads as role-of-reads
 use Rattle.search.proofs.stepped.Reads as stepped-reads
 use Rattle.members.proofs.above.Above.with.Reads as with-reads
 use Rattle.writing.proofs.walk.put.Reads as put-reads
 use Rattle.writing.proofs.walk.+walk.{statement}
 use Rattle.writing.proofs.walk.+walk.Tie.{close}
 
-abbrev μ-walk : Measures 4 walk-kinds.ps ℕ
-μ-walk κs a = a .1 .1 .1 .1 .1 .1 .0
+abbrev μ-walk : Measures 5 walk-kinds.ps ℕ
+μ-walk κs a = a .1 .1 .1 .1 .1 .1 .1 .0
 
-abbrev walk-at : ℕ → In 4 walk-kinds.ps
-walk-at t = and 4 walk-kinds.ps (is 4 walk-kinds.ps μ-walk t) walk.Pre
+abbrev walk-at : ℕ → In 5 walk-kinds.ps
+walk-at t = and 5 walk-kinds.ps (is 5 walk-kinds.ps μ-walk t) walk.Pre
 
-abbrev walk-below : ℕ → In 4 walk-kinds.ps
-walk-below t = and 4 walk-kinds.ps (falls 4 walk-kinds.ps _<_ μ-walk t) walk.Pre
+abbrev walk-below : ℕ → In 5 walk-kinds.ps
+walk-below t = and 5 walk-kinds.ps (falls 5 walk-kinds.ps _<_ μ-walk t) walk.Pre
 
 abbrev walk-Inv-loop : walk-lts.InvT-loop
-walk-Inv-loop table index rows terms person place levels most at rec₀ below deeper len persons places next₀ k₀ rec next k =
+walk-Inv-loop table index arcs rows terms person place levels most at rec₀ below deeper len persons places next₀ k₀ rec next k =
     let S = terms .allowed in
     let A = terms .constraints in
     let asks = nodeAsks table S A (levels - 1) deeper (below .states) (goalAt table person place) in
     (k ≤ len) × Walked next₀ most (written (firstForest table S A (levels - 1) deeper (below .states) (take k asks))) rec₀ rec next
 
 abbrev walk-μ-loop : walk-lts.MeasureT-loop
-walk-μ-loop table index rows terms person place levels most at rec₀ below deeper len persons places next₀ k₀ rec next k =
+walk-μ-loop table index arcs rows terms person place levels most at rec₀ below deeper len persons places next₀ k₀ rec next k =
     len - k
 
 abbrev walk-claims : ℕ → walk-lts.Claims
 walk-claims t = (
-  role-of-reads.Asked,
-  role-of-reads.Learnt,
   stepped-reads.Asked,
   stepped-reads.Learnt,
   with-reads.Asked,
@@ -67,7 +64,7 @@ walk-claims t = (
 -- a place of `walk`, or a need, where its measure is t; and what it needs, whatever its measure is
 abbrev walk-Place : Type 1
 walk-Place =
-    walk-lts.Claims → In 4 walk-kinds.ps → Out 4 walk-kinds.ps walk-kinds.r → walk-lts.InvT-loop → walk-lts.MeasureT-loop → Type 0
+    walk-lts.Claims → In 5 walk-kinds.ps → Out 5 walk-kinds.ps walk-kinds.r → walk-lts.InvT-loop → walk-lts.MeasureT-loop → Type 0
 
 abbrev walk-place : walk-Place → ℕ → Type 0
 walk-place place t = place (walk-claims t) (walk-at t) walk.Post walk-Inv-loop walk-μ-loop
@@ -81,16 +78,16 @@ module _ (t : ℕ) where
   walk-from at = at .before .before .before .before .before .before .before
 
   walk-entered : (at : walk-place walk-lts.After-with t) → let from = walk-from at .args in
-      Entered (now (from .table)) (now (from .index)) (now (from .rows)) (from .terms .allowed) (from .terms .constraints)
-      (from .levels) (from .terms .last) (from .above) (at .with .result) (from .states) (at .before .stepped .result .states)
-      (from .person) (from .place)
+      Entered (now (from .table)) (now (from .index)) (now (from .arcs)) (now (from .rows)) (from .terms .allowed)
+      (from .terms .constraints) (from .levels) (from .terms .last) (from .above) (at .with .result) (from .states)
+      (at .before .stepped .result .states) (from .person) (from .place)
   walk-entered at =
       let pre = walk-from at .pre .1 in
       record {
         searched = pre .0;
         stands = pre .1 .0;
         proved = pre .1 .1 .0;
-        moved = rw (at .before .before .role-of .ensures) at (steps _ _ _ _ (at .before .stepped .ensures));
+        moved = steps _ _ _ _ (at .before .stepped .ensures);
         deeper-is = at .with .ensures;
       }
 
@@ -101,13 +98,10 @@ module _ (t : ℕ) where
   walk-left : (at : walk-place walk-lts.After-places t) → 1 ≤ walk-from (walk-with at) .args .levels
   walk-left at = level-left _ _ _ _ _ _ _ _ (walk-entered (walk-with at) .proved)
 
-walk-role-of-requires : walk-needs walk-lts.Need-role-of-requires
-walk-role-of-requires t c κs =
-    let pre = c .before .before .before .before .pre .1 in
-    (pre .0 .wellFormed, place-there _ _ _ _ _ _ _ _ (pre .1 .1 .0))
-
 walk-stepped-requires : walk-needs walk-lts.Need-stepped-requires
-walk-stepped-requires t c κs = search needs
+walk-stepped-requires t c κs =
+    let pre = c .before .before .before .before .before .pre .1 in
+    (pre .0 .wellFormed, (pre .0 .moving, place-there _ _ _ _ _ _ _ _ (pre .1 .1 .0)))
 
 walk-with-requires : walk-needs walk-lts.Need-with-requires
 walk-with-requires t c κs =
@@ -218,7 +212,6 @@ pub +walk-spec : {M : Type 1} → statement M
     walk.Post
     walk-Inv-loop
     walk-μ-loop
-    (walk-role-of-requires t)
     (walk-stepped-requires t)
     (walk-with-requires t)
     (walk-sub-choose t)

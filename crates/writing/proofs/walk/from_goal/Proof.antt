@@ -26,7 +26,7 @@ abbrev Ready : Type 0
 Ready = tie.After-start
 
 abbrev asked : Ready → tie.Start
-asked at = at .before .before .before .before .before .before .before .before
+asked at = at .before .before .before .before .before .before .before .before .before
 
 walk-requires : tie.Need-walk-requires
 walk-requires c κs =
