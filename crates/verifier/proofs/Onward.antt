@@ -8,11 +8,13 @@ use lib.ListN.{drop, getD, length, take, drop-of-length-le, length-drop}
 use lib.Seq.{drop-cons, getD-take, length-take-le, take-all}
 use lib.Bits.{bitOr}
 use Rattle.table.specs.Limits.{mostCredentials, mostParts}
-use Rattle.table.specs.Layout.{Numbered}
+use Rattle.table.specs.Layout.{Numbered, credential, credentials}
 use Rattle.table.specs.Holding.{WellFormed}
 use Rattle.table.specs.declared.Goal.{Goal}
-use Rattle.automata.specs.Together.{movedSets}
+use Rattle.automata.specs.Together.{movedOn, movedSets}
+use Rattle.automata.specs.declared.Moved.{Moved}
 use Rattle.automata.specs.declared.StateSets.{StateSets}
+use Rattle.automata.proofs.Together.{states-moved}
 use Rattle.verifier.specs.Reading.{entry}
 use Rattle.verifier.specs.Reading.Entry.{ask}
 use Rattle.derivation.specs.Held.{Room, above, noGoal}
@@ -21,7 +23,7 @@ use Rattle.verifier.specs.Tally.{ReadOn, Told, tallyOn}
 use Rattle.verifier.specs.Tally.Told.{passed, stopped}
 use Rattle.derivation.specs.declared.branches.Branch.{Branch}
 use Rattle.verifier.specs.declared.reader.Step.{Step}
-use Rattle.derivation.proofs.Applying.{applies-numbered}
+use Rattle.derivation.proofs.Applying.{applies-numbered, applies-role}
 use Rattle.verifier.proofs.Entering.{step-asks, step-halts}
 use Rattle.verifier.proofs.Keeping.{Asks, afterNode, entry-asked, first-passed, first-stopped}
 use Rattle.verifier.proofs.Keeping.{node-asks, node-stops, passed-told, reads-none, stopped-told}
@@ -114,9 +116,9 @@ pub record Node (t : List ℕ) (levels : ℕ) (branch : Branch) (g : Goal) (rec 
   pub goes : step .refusal ≡ 0
 
 -- what the code keeps for its children
-pub record Down (t : List ℕ) (branch : Branch) (g : Goal) (s : StateSets) (step : Step) (used every : ℕ) (deeper : Branch)
+pub record Down (t : List ℕ) (branch : Branch) (g : Goal) (s : StateSets) (step : Step) (used every : ℕ) (deeper : List Goal)
     (below : StateSets) (used₀ every₀ : ℕ) : Type 0 where
-  pub branches : above deeper ≡ g ∷ above branch
+  pub branches : deeper ≡ g ∷ above branch
   pub moves : below ≡ movedSets t (g .role) s
   pub uses : used₀ ≡ bitOr used (2 ^ (step .credential - 1))
   pub keeps : every₀ ≡ afterNode t every below (step .len)
@@ -136,20 +138,31 @@ module _ {t : List ℕ} {levels : ℕ} {branch : Branch} {g : Goal} {rec : List 
   pub node-long : 2 ≤ length rec
   node-long = node-facts .long
 
+  node-numbered : Numbered (credentials t) (step .credential)
+  node-numbered = applies-numbered t g _ _ _ (node-facts .own)
+
   pub node-credential : Numbered mostCredentials (step .credential)
-  node-credential =
-      let there = applies-numbered t g _ _ _ (node-facts .own) in
-      let few = n .table .sized .counted .fewCredentials in
-      omega arith
+  node-credential = omega (arith, node-numbered, n .table .sized .counted .fewCredentials)
+
+  -- its credential as the code counts it, from 0 on, defines the goal's role
+  module _ {c : ℕ} (is : c ≡ step .credential) where
+    pub node-place : c - 1 < credentials t
+    node-place = omega (arith, node-numbered)
+
+    pub node-moves : (s : StateSets) {x : Moved} → x ≡ movedOn t (credential t (suc (c - 1)) .role) s
+        → x .states ≡ movedSets t (g .role) s
+    node-moves s moves =
+        let own : suc (c - 1) ≡ step .credential = omega (arith, node-numbered) in
+        rw (← applies-role t g _ _ _ (node-facts .own), ← own) (states-moved t _ s moves)
 
 module _ {t : List ℕ} {levels : ℕ} {branch : Branch} {g : Goal} {s : StateSets} {rec : List ℕ} {step : Step} {used every : ℕ}
-    {deeper : Branch} {below : StateSets} {used₀ every₀ : ℕ} (n : Node t levels branch g rec step)
+    {deeper : List Goal} {below : StateSets} {used₀ every₀ : ℕ} (n : Node t levels branch g rec step)
     (d : Down t branch g s step used every deeper below used₀ every₀) (nodes : ℕ) where
   abbrev behind : List ℕ
   behind = take (length rec - 2) (drop 2 rec)
 
   -- its children, read from what the code keeps by then, are the whole
-  node-whole : tallyOn t (levels - 1) (above deeper) (take (step .len) (step .goals)) below behind used₀ (nodes + 1) every₀
+  node-whole : tallyOn t (levels - 1) deeper (take (step .len) (step .goals)) below behind used₀ (nodes + 1) every₀
       ≡ tallyOn t levels (above branch) (g ∷ []) s rec used nodes every
   node-whole =
       let one-less : levels ≡ suc (levels - 1) = omega (arith, node-level n) in
@@ -159,7 +172,7 @@ module _ {t : List ℕ} {levels : ℕ} {branch : Branch} {g : Goal} {s : StateSe
       rw (d .branches, part-behind rec 2 (node-long n), d .uses, d .keeps, d .moves, add-one nodes) (rw size at told)
 
   module _ {rest : List ℕ} {used′ nodes′ every′ refusal i : ℕ}
-      (o : Onward t (levels - 1) (above deeper) (step .goals) (step .len) below behind used₀ (nodes + 1) every₀
+      (o : Onward t (levels - 1) deeper (step .goals) (step .len) below behind used₀ (nodes + 1) every₀
       rest used′ nodes′ every′ refusal i) where
     left : nodes′ + length rest ≤ nodes + length rec
     left = room-kept rec rest nodes′ nodes (node-long n) (o .room)
@@ -178,7 +191,7 @@ module _ {t : List ℕ} {levels : ℕ} {branch : Branch} {g : Goal} {s : StateSe
         }
 
     pub child-stops : {rest″ : List ℕ} {used″ nodes″ every″ refusal″ : ℕ} → i < step .len
-        → ReadOn t (levels - 1) (above deeper) (getD (step .goals) i noGoal) below rest used′ nodes′ every′
+        → ReadOn t (levels - 1) deeper (getD (step .goals) i noGoal) below rest used′ nodes′ every′
         rest″ used″ nodes″ every″ refusal″
         → (refusal″ ≡ 0 → ⊥) → ReadOn t levels (above branch) g s rec used nodes every rec used″ nodes″ every″ refusal″
     child-stops less child stops =

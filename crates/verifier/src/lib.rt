@@ -8,6 +8,7 @@ use automata::StateSets;
 use checks::QueryCheck;
 use derivation::Branch;
 use sets::CredentialSet;
+use sets::StateSet;
 use table::Number;
 use table::Query;
 use table::Reason;
@@ -19,6 +20,7 @@ ghost use Prim.Native.Nat.{_≤_};
 ghost use Rattle.table.specs.Outcome.{Outcome};
 ghost use Rattle.table.specs.Holding.{WellFormed};
 ghost use Rattle.table.specs.Checks.{Valid, numberOf};
+ghost use Rattle.automata.specs.Arcs.{Arcs};
 ghost use Rattle.derivation.specs.Rules.{goalOf};
 ghost use Rattle.verifier.specs.Reading.{reader};
 ghost use Rattle.verifier.specs.Verdict.{judged, verdict, verdictTold};
@@ -28,6 +30,9 @@ pub enum Verdict {
     Accepted(CredentialSet),
     Refused(Refusal),
 }
+
+// So many numbers make a record long.
+const LONG: usize = 64;
 
 // Whether the record derives the queried membership and complies: rows 1 to 8, then 11 to 14, for any three inputs.
 pub fn verify(table: &[Number], query: Query, rec: &[Number]) -> Verdict
@@ -39,10 +44,27 @@ pub fn verify(table: &[Number], query: Query, rec: &[Number]) -> Verdict
     }
 }
 
-// Rows 11 to 14. The goal is at level 1, with nothing above it.
+// Rows 11 to 14. A short record is read without an index of arcs, which would take longer to make than it saves.
 fn judge(table: &[Number], query: Query, rec: &[Number]) -> Verdict
     requires { ⌜ WellFormed (now table) ⌝ }
     requires { ⌜ Valid query ⌝ }
+    ensures { λ r. ⌜ verdictTold r
+        ≡ judged (now (table .entry)) (reader (now (table .entry)) (query .depth) [] (goalOf query ∷ []) (now (rec .entry)) 1) ⌝ }
+{
+    if rec.len() < LONG {
+        let mut none = [0; 1];
+        return judge_by(table, query, rec, &mut none[..0]);
+    }
+    let mut arcs = [0; automata::INDEX_CELLS];
+    arcs::begin(table, &mut arcs);
+    judge_by(table, query, rec, &mut arcs)
+}
+
+// The same with an index of arcs. The goal is at level 1, with nothing above it.
+fn judge_by(table: &[Number], query: Query, rec: &[Number], arcs: &mut [StateSet]) -> Verdict
+    requires { ⌜ WellFormed (now table) ⌝ }
+    requires { ⌜ Valid query ⌝ }
+    requires { ⌜ Arcs (now table) (now arcs) ⌝ }
     ensures { λ r. ⌜ verdictTold r
         ≡ judged (now (table .entry)) (reader (now (table .entry)) (query .depth) [] (goalOf query ∷ []) (now (rec .entry)) 1) ⌝ }
 {
@@ -60,6 +82,7 @@ fn judge(table: &[Number], query: Query, rec: &[Number]) -> Verdict
         levels,
         start,
         Branch::empty(),
+        arcs,
         &mut used,
         &mut nodes,
         &mut every,

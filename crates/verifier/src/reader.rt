@@ -5,6 +5,7 @@ use derivation::Branch;
 use derivation::rules;
 use sets::AutomatonSet;
 use sets::CredentialSet;
+use sets::StateSet;
 use table::Goal;
 use table::Number;
 use table::layout;
@@ -17,6 +18,7 @@ ghost use Rattle.sets.specs.Logic.{pick};
 ghost use Rattle.table.specs.Limits.{mostCredentials, mostDepth, mostParts};
 ghost use Rattle.table.specs.Layout.{Numbered};
 ghost use Rattle.table.specs.Holding.{WellFormed};
+ghost use Rattle.automata.specs.Arcs.{Arcs};
 ghost use Rattle.automata.specs.Together.{acceptingSet};
 ghost use Rattle.verifier.specs.Reading.{entry};
 ghost use Rattle.derivation.specs.Held.{Room, above};
@@ -84,12 +86,19 @@ fn with_credential(used: CredentialSet, c: Number) -> CredentialSet
 }
 
 // The automata that have accepted every word, once a node is entered: a node that asks nothing ends a word.
-fn after_node(table: &[Number], every: AutomatonSet, states: StateSets, len: usize) -> AutomatonSet
+fn after_node(
+    table: &[Number],
+    arcs: &[StateSet],
+    every: AutomatonSet,
+    states: StateSets,
+    len: usize,
+) -> AutomatonSet
     requires { ⌜ WellFormed (now table) ⌝ }
+    requires { ⌜ Arcs (now table) (now arcs) ⌝ }
     ensures { λ r. ⌜ r ≡ pick (eqb len 0) (bitAnd every (acceptingSet (now (table .entry)) states)) every ⌝ }
 {
     if len == 0 {
-        return every & states.accepting(table);
+        return every & states.accepting(table, arcs);
     }
     every
 }
@@ -103,6 +112,7 @@ pub fn read<'a>(
     levels: usize,
     states: StateSets,
     branch: Branch,
+    arcs: &mut [StateSet],
     used: &mut CredentialSet,
     nodes: &mut usize,
     every: &mut AutomatonSet,
@@ -112,9 +122,11 @@ pub fn read<'a>(
     requires { ⌜ Room mostDepth (branch .len) (branch .goals) × (branch .len + levels ≤ mostDepth) ⌝ }
     requires { ⌜ now nodes + length (now rec) < 2 ^ 63 ⌝ }
     requires { ⌜ now refusal ≡ 0 ⌝ }
+    requires { ⌜ Arcs (now table) (now arcs) ⌝ }
     ensures { λ r. ⌜ ReadOn (now (table .entry)) levels (above branch) goal states
         (now (rec .entry)) (now (used .entry)) (now (nodes .entry)) (now (every .entry))
-        (now r) (now (used .exit)) (now (nodes .exit)) (now (every .exit)) (now (refusal .exit)) ⌝ }
+        (now r) (now (used .exit)) (now (nodes .exit)) (now (every .exit)) (now (refusal .exit))
+        × Arcs (now (table .entry)) (now (arcs .exit)) ⌝ }
 {
     *nodes += 1;
     let step = enter(table, rec, goal, levels, branch);
@@ -124,13 +136,18 @@ pub fn read<'a>(
         return rec;
     }
     // a dead automaton stops nothing: it may belong to no used credential, and 11 to 13 of a later node come before 14
-    let below = states.moved(table, goal.role);
+    let place = layout::wide(step.credential) - 1;
+    arcs::ask(table, arcs, place);
+    let below = states.moved(table, arcs, place);
     let len = step.len;
     let goals = step.goals;
     *used = with_credential(*used, step.credential);
-    *every = after_node(table, *every, below.states, len);
-    let deeper = branch.with(goal);
+    *every = after_node(table, arcs, *every, below.states, len);
     let mut rest = &rec[2..];
+    if len == 0 {
+        return rest;
+    }
+    let deeper = branch.with(goal);
     let mut i = 0;
     while i < len {
         let next = read(
@@ -140,6 +157,7 @@ pub fn read<'a>(
             levels - 1,
             below.states,
             deeper,
+            arcs,
             used,
             nodes,
             every,
