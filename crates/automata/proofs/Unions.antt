@@ -84,8 +84,11 @@ dead-alike f g k (yes less) =
     rw (together-at (λ j. bitOr (setFor (together f) j) (setFor (together g) j)) k less, sub-one (suc k))
     (empty-alike (getD (together f .sets) k 0) (getD (together g .sets) k 0))
 dead-alike f g k (no beyond) =
-    rw (together-beyond (λ j. bitOr (setFor (together f) j) (setFor (together g) j)) k beyond,
-    together-beyond f k beyond, together-beyond g k beyond)
+    rw (
+      together-beyond (λ j. bitOr (setFor (together f) j) (setFor (together g) j)) k beyond,
+      together-beyond f k beyond,
+      together-beyond g k beyond,
+    )
 
 -- both tests below n, or neither
 and-apart : (a b c : Bool) → (a and b and c) ≡ ((a and b) and (a and c))

@@ -69,10 +69,13 @@ impl Branch {
     }
 }
 
-// The same pair of principal and role.
+// The same pair of principal and role. On a branch the names of roles differ most, so they are compared first.
 fn same_goal(one: Goal, other: Goal) -> bool
     ensures { λ r. ⌜ r ≡ sameGoal one other ⌝ }
 {
+    if one.role.name.0 != other.role.name.0 {
+        return false;
+    }
     if one.principal.0 != other.principal.0 {
         return false;
     }

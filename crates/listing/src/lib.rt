@@ -57,10 +57,18 @@ fn list_checked(table: &[Number], query: Query, room: usize, sets: &mut [Credent
 {
     let index = members::index(table, query);
     let usable = relevance::relevant(table, query, &index);
-    list_over(table, query, &index, &table[..0], usable, room, sets)
+    if !search::admits(table, query, &index, &table[..0], usable) {
+        return refused(Reason::NoMinimalSet);
+    }
+    if derivation::automata_of(table, usable) == 0 {
+        return list_over(table, query, &index, &table[..0], usable, room, sets);
+    }
+    let mut arcs = [0; automata::INDEX_CELLS];
+    relevance::make_arcs(table, &index, usable, &mut arcs);
+    list_over(table, query, &index, &arcs, usable, room, sets)
 }
 
-// Row 9, or what follows it: where all that bears on the query is not admitted, nothing is.
+// Row 10, or the list, where there is a minimal set, with room for so many cuts.
 fn list_over(
     table: &[Number],
     query: Query,
@@ -72,17 +80,15 @@ fn list_over(
 ) -> Listing
     requires { ⌜ Prepared (now table) query (now index) (now arcs) ⌝ }
     requires { ⌜ Relevant (now table) query usable ⌝ }
+    requires { ⌜ admits (now table) query usable ≡ true ⌝ }
     ensures { λ r. ⌜ Tells (now (table .entry)) query (now (sets .entry)) (now (sets .exit)) (listingTold r) ⌝ }
 {
-    if !search::admits(table, query, index, arcs, usable) {
-        return refused(Reason::NoMinimalSet);
-    }
     let mut cuts = [0; MOST_CUTS];
     let few = if room < MOST_CUTS { room } else { MOST_CUTS };
     list_admitted(table, query, index, arcs, usable, &mut cuts[..few], sets)
 }
 
-// Row 10, or the list, where there is a minimal set.
+// The same with cells for the cuts.
 fn list_admitted(
     table: &[Number],
     query: Query,

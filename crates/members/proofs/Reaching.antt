@@ -60,7 +60,7 @@ module _ (t : List ℕ) (S : ℕ) where
         eqb-false (credential t (suc i) .kind) 1 (not-true _ (and-second (inSet S i) _ passes)),
       )
 
-same-self : (r : Role) → sameRole r r ≡ true
+pub same-self : (r : Role) → sameRole r r ≡ true
 unfolding sameRole
 same-self r = and-both (eq-eqb (r .owner .0) _ refl) (eq-eqb (r .name .0) _ refl)
 

@@ -2,6 +2,7 @@
 // Without this a wallet of mostly unrelated credentials would cost two to their number. A set of roles is the set of their places
 // (crate members): the role at place r counts 2^r.
 use sets::CredentialSet;
+use sets::StateSet;
 use table::LINKING_CONTAINMENT;
 use table::Number;
 use table::Query;
@@ -10,11 +11,12 @@ use table::layout;
 ghost use mathlib.Core.Path.{_≡_};
 ghost use mathlib.Core.Bool.{not, true};
 ghost use Prim.Native.Nat.{_<_, _≤_};
-ghost use lib.ListN.{getD};
+ghost use lib.ListN.{getD, replicate};
 ghost use Rattle.sets.specs.Logic.{_and_};
 ghost use Rattle.sets.specs.Sets.{inSet};
 ghost use Rattle.table.specs.Layout.{credentials};
 ghost use Rattle.table.specs.Holding.{WellFormed};
+ghost use Rattle.automata.specs.Arcs.{Arcs, indexCells};
 ghost use Rattle.members.specs.Members.{Aimed, Indexed, Placed, goalRole};
 ghost use Rattle.relevance.specs.Relevance.{Relevant, Round, WithAsked, WithLinks, WithRoles, definedAt};
 
@@ -27,6 +29,24 @@ pub fn relevant(table: &[Number], query: Query, index: &[u8]) -> CredentialSet
     ensures { λ r. ⌜ Relevant (now (table .entry)) query r ⌝ }
 {
     at_places(index, layout::credentials(table), reached(table, index))
+}
+
+// The index of arcs for a set of credentials: the rows of all roles that they define.
+pub fn make_arcs(table: &[Number], index: &[u8], set: CredentialSet, arcs: &mut [StateSet])
+    requires { ⌜ WellFormed (now table) ⌝ }
+    requires { ⌜ Indexed (now table) (now index) ⌝ }
+    requires { ⌜ now arcs ≡ replicate indexCells 0 ⌝ }
+    ensures { λ r. ⌜ Arcs (now (table .entry)) (now (arcs .exit)) ⌝ }
+{
+    arcs::begin(table, arcs);
+    let n = layout::credentials(table);
+    let mut i = 0;
+    while i < n {
+        if sets::has(set, i) {
+            arcs::make(table, arcs, members::role_cell(index, i));
+        }
+        i += 1;
+    }
 }
 
 // The places of the roles that can be reached from the query's role, round by round until nothing is new.

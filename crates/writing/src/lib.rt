@@ -47,7 +47,12 @@ fn write_checked(table: &[Number], query: Query, set: CredentialSet, rec: &mut [
     ensures { λ r. ⌜ Tells (now (table .entry)) query set (now (rec .entry)) (now (rec .exit)) (writtenTold r) ⌝ }
 {
     let index = members::index(table, query);
-    write_over(table, query, &index, &table[..0], set, rec)
+    if derivation::automata_of(table, set) == 0 {
+        return write_over(table, query, &index, &table[..0], set, rec);
+    }
+    let mut arcs = [0; automata::INDEX_CELLS];
+    relevance::make_arcs(table, &index, set, &mut arcs);
+    write_over(table, query, &index, &arcs, set, rec)
 }
 
 // Row 15, or what follows it.

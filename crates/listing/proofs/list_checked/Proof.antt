@@ -1,8 +1,13 @@
--- `listing::list_checked` meets its contract: the sets are listed with the index of the table and the query, with what bears on
--- the query, and with no index of arcs. Assumes nothing.
+-- `listing::list_checked` meets its contract: where what bears on the query is not admitted there is no minimal set; otherwise the
+-- sets are listed, with an index of arcs where automata are attached. Assumes nothing.
+use mathlib.Core.Path.{refl}
 use native.Mathlib.Omega.{arith}
 use lib.ListN.{length-take}
+use Rattle.sets.proofs.Tests.{failed, passed}
+use Rattle.table.specs.Checks.{numberOf}
 use Rattle.automata.proofs.Arcs.{no-arcs}
+use Rattle.relevance.proofs.Narrowing.{relevant-admits}
+use Rattle.listing.proofs.Whole.{none-told, start-none, told-instead}
 use borrow.Author.Needs.{needs}
 use Rattle.listing.proofs.list_checked.Statement.{statement}
 use Rattle.listing.proofs.list_checked.Tie as tie
@@ -16,6 +21,37 @@ slice-aggregate-relevant c = search needs
 relevant-requires : tie.Need-relevant-requires
 relevant-requires c κs = search needs
 
+slice-aggregate-admits : tie.Need-slice-aggregate-admits
+slice-aggregate-admits c = search needs
+
+slice-aggregate-admits-2 : tie.Need-slice-aggregate-admits-2
+slice-aggregate-admits-2 c = search needs
+
+admits-requires : tie.Need-admits-requires
+admits-requires c κs =
+    record {
+      wellFormed = c .before .before .before .before .before .before .before .pre .0;
+      valid = c .before .before .before .before .before .before .before .pre .1;
+      indexed = c .before .before .before .before .index .ensures .0;
+      aimed = c .before .before .before .before .index .ensures .1;
+      moving = no-arcs _ _ (simp length-take (omega arith));
+    }
+
+refused-requires : tie.Need-refused-requires
+refused-requires c κs = search needs
+
+returns : tie.Need-returns
+unfolding numberOf
+returns c =
+    let relevant = c .before .before .before .before .before .relevant .ensures in
+    let bears = relevant-admits _ (c .before .before .before .before .before .before .before .before .before .before .pre .0) _ _ relevant in
+    let unproved = failed (c .before .before .admits .ensures) (c .before .if1 .taken) in
+    told-instead (c .refused .ensures)
+    (none-told _ _ _ _ _ (start-none _ _ _ (relevant .fits) bears (c .before .before .before .before .before .before .before .before .before .before .pre .0) unproved _) refl)
+
+automata-of-requires : tie.Need-automata-of-requires
+automata-of-requires c κs = search needs
+
 slice-aggregate-list-over : tie.Need-slice-aggregate-list-over
 slice-aggregate-list-over c = search needs
 
@@ -23,25 +59,55 @@ slice-aggregate-list-over-2 : tie.Need-slice-aggregate-list-over-2
 slice-aggregate-list-over-2 c = search needs
 
 list-over-requires : tie.Need-list-over-requires
-list-over-requires c κs =
-    let relevant = c .before .before .before in
-    let index = relevant .before .before in
-    let pre = index .before .before .before .pre in (
-      record {
-        wellFormed = pre .0;
-        valid = pre .1;
-        indexed = index .index .ensures .0;
-        aimed = index .index .ensures .1;
-        moving = no-arcs _ _ (simp length-take (omega arith));
-      },
-      relevant .relevant .ensures,
-    )
+list-over-requires c κs = (
+  record {
+    wellFormed = c .before .before .before .before .before .before .before .before .before .before .before .before .before .before .pre .0;
+    valid = c .before .before .before .before .before .before .before .before .before .before .before .before .before .before .pre .1;
+    indexed = c .before .before .before .before .before .before .before .before .before .before .before .index .ensures .0;
+    aimed = c .before .before .before .before .before .before .before .before .before .before .before .index .ensures .1;
+    moving = no-arcs _ _ (simp length-take (omega arith));
+  },
+  (c .before .before .before .before .before .before .before .before .before .relevant .ensures, passed (c .before .before .before .before .before .before .admits .ensures) (c .before .before .before .before .before .if1 .left)),
+)
 
 same-length : tie.Need-same-length
 same-length c = search needs
 
-returns : tie.Need-returns
-returns c = search needs
+returns-2 : tie.Need-returns-2
+returns-2 c = search needs
+
+slice-aggregate-make-arcs : tie.Need-slice-aggregate-make-arcs
+slice-aggregate-make-arcs c = search needs
+
+slice-aggregate-make-arcs-2 : tie.Need-slice-aggregate-make-arcs-2
+slice-aggregate-make-arcs-2 c = search needs
+
+make-arcs-requires : tie.Need-make-arcs-requires
+make-arcs-requires c κs = search needs
+
+slice-aggregate-list-over-3 : tie.Need-slice-aggregate-list-over-3
+slice-aggregate-list-over-3 c = search needs
+
+slice-aggregate-list-over-4 : tie.Need-slice-aggregate-list-over-4
+slice-aggregate-list-over-4 c = search needs
+
+list-over-requires-2 : tie.Need-list-over-requires-2
+list-over-requires-2 c κs = (
+  record {
+    wellFormed = c .before .before .before .before .before .before .before .before .before .before .before .before .before .before .before .before .before .before .pre .0;
+    valid = c .before .before .before .before .before .before .before .before .before .before .before .before .before .before .before .before .before .before .pre .1;
+    indexed = c .before .before .before .before .before .before .before .before .before .before .before .before .before .before .before .index .ensures .0;
+    aimed = c .before .before .before .before .before .before .before .before .before .before .before .before .before .before .before .index .ensures .1;
+    moving = c .before .before .before .before .make-arcs .ensures;
+  },
+  (c .before .before .before .before .before .before .before .before .before .before .before .before .before .relevant .ensures, passed (c .before .before .before .before .before .before .before .before .before .before .admits .ensures) (c .before .before .before .before .before .before .before .before .before .if1 .left)),
+)
+
+same-length-2 : tie.Need-same-length-2
+same-length-2 c = search needs
+
+returns-3 : tie.Need-returns-3
+returns-3 c = search needs
 
 pub list-checked-spec : {M : Type 1} → statement M
 list-checked-spec =
@@ -50,8 +116,22 @@ list-checked-spec =
     index-requires
     slice-aggregate-relevant
     relevant-requires
+    slice-aggregate-admits
+    slice-aggregate-admits-2
+    admits-requires
+    refused-requires
+    returns
+    automata-of-requires
     slice-aggregate-list-over
     slice-aggregate-list-over-2
     list-over-requires
     same-length
-    returns)
+    returns-2
+    slice-aggregate-make-arcs
+    slice-aggregate-make-arcs-2
+    make-arcs-requires
+    slice-aggregate-list-over-3
+    slice-aggregate-list-over-4
+    list-over-requires-2
+    same-length-2
+    returns-3)

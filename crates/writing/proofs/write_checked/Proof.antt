@@ -1,5 +1,5 @@
--- `writing::write_checked` meets its contract: the record is written with the index of the table and the query, and with no index
--- of arcs. Assumes nothing.
+-- `writing::write_checked` meets its contract: the record is written with the index of the table and the query, and with an index of
+-- arcs where automata are attached. Assumes nothing.
 use native.Mathlib.Omega.{arith}
 use lib.ListN.{length-take}
 use Rattle.automata.proofs.Arcs.{no-arcs}
@@ -10,6 +10,9 @@ use Rattle.writing.proofs.write_checked.Tie as tie
 index-requires : tie.Need-index-requires
 index-requires c κs = search needs
 
+automata-of-requires : tie.Need-automata-of-requires
+automata-of-requires c κs = search needs
+
 slice-aggregate-write-over : tie.Need-slice-aggregate-write-over
 slice-aggregate-write-over c = search needs
 
@@ -18,13 +21,11 @@ slice-aggregate-write-over-2 c = search needs
 
 write-over-requires : tie.Need-write-over-requires
 write-over-requires c κs =
-    let index = c .before .before .before in
-    let pre = index .before .before .before .pre in
     record {
-      wellFormed = pre .0;
-      valid = pre .1;
-      indexed = index .index .ensures .0;
-      aimed = index .index .ensures .1;
+      wellFormed = c .before .before .before .before .before .before .before .before .pre .0;
+      valid = c .before .before .before .before .before .before .before .before .pre .1;
+      indexed = c .before .before .before .before .before .index .ensures .0;
+      aimed = c .before .before .before .before .before .index .ensures .1;
       moving = no-arcs _ _ (simp length-take (omega arith));
     }
 
@@ -34,13 +35,53 @@ same-length c = search needs
 returns : tie.Need-returns
 returns c = search needs
 
+slice-aggregate-make-arcs : tie.Need-slice-aggregate-make-arcs
+slice-aggregate-make-arcs c = search needs
+
+slice-aggregate-make-arcs-2 : tie.Need-slice-aggregate-make-arcs-2
+slice-aggregate-make-arcs-2 c = search needs
+
+make-arcs-requires : tie.Need-make-arcs-requires
+make-arcs-requires c κs = search needs
+
+slice-aggregate-write-over-3 : tie.Need-slice-aggregate-write-over-3
+slice-aggregate-write-over-3 c = search needs
+
+slice-aggregate-write-over-4 : tie.Need-slice-aggregate-write-over-4
+slice-aggregate-write-over-4 c = search needs
+
+write-over-requires-2 : tie.Need-write-over-requires-2
+write-over-requires-2 c κs =
+    record {
+      wellFormed = c .before .before .before .before .before .before .before .before .before .before .before .before .pre .0;
+      valid = c .before .before .before .before .before .before .before .before .before .before .before .before .pre .1;
+      indexed = c .before .before .before .before .before .before .before .before .before .index .ensures .0;
+      aimed = c .before .before .before .before .before .before .before .before .before .index .ensures .1;
+      moving = c .before .before .before .before .make-arcs .ensures;
+    }
+
+same-length-2 : tie.Need-same-length-2
+same-length-2 c = search needs
+
+returns-2 : tie.Need-returns-2
+returns-2 c = search needs
+
 pub write-checked-spec : {M : Type 1} → statement M
 write-checked-spec =
     tie.close
     (tie.spec
     index-requires
+    automata-of-requires
     slice-aggregate-write-over
     slice-aggregate-write-over-2
     write-over-requires
     same-length
-    returns)
+    returns
+    slice-aggregate-make-arcs
+    slice-aggregate-make-arcs-2
+    make-arcs-requires
+    slice-aggregate-write-over-3
+    slice-aggregate-write-over-4
+    write-over-requires-2
+    same-length-2
+    returns-2)
