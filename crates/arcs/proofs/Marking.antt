@@ -5,15 +5,14 @@ use mathlib.Core.Logic.{_⊎_, inl, inr, ⊎-elim}
 use Prim.Native.Nat.{ℕ, zero, suc, _+_, _*_, _<_, _≤_}
 use native.Mathlib.Omega.{arith}
 use native.Mathlib.Decide.{decLt, ℕ-discrete}
-use native.Mathlib.Nat.{eq-or-lt-of-le}
 use lib.ListN.{getD, length, set, length-set}
 use lib.Seq.{getD-set-same, getD-set-other}
 use Rattle.table.specs.Limits.{mostAutomata, mostCredentials}
 use Rattle.table.specs.Layout.{credential, credentials}
 use Rattle.table.specs.declared.Role.{Role}
-use Rattle.automata.specs.Arcs.{Arcs, Ended, Row, acceptingCell, firstRow, fromCell, indexCells, led, made, madeCell, mostArcs}
-use Rattle.automata.specs.Arcs.{rowCells, toCell}
+use Rattle.automata.specs.Arcs.{Arcs, Row, arcCells, firstRow, fromCell, indexCells, led, made, madeCell, mostArcs, rowCells}
 use Rattle.arcs.specs.Filling.{Elsewhere, rowCell}
+use Rattle.arcs.proofs.Cells.{arc-in-row}
 
 -- the same cells of a row
 abbrev pub SameRow : ℕ → List ℕ → List ℕ → Type 0
@@ -21,15 +20,14 @@ SameRow q before after = (x : ℕ) → x < rowCells → getD after (rowCell q x)
 
 module _ (q : ℕ) (before after : List ℕ) (same : SameRow q before after) where
   from-same : (l k : ℕ) → l < mostArcs → k ≤ mostAutomata → getD after (fromCell q l k) 0 ≡ getD before (fromCell q l k) 0
-  from-same l k less few =
-      let cell : fromCell q l k ≡ rowCell q (9 * l + k) = omega arith in
-      rw cell (same (9 * l + k) (omega arith))
+  from-same l k less few = rw (arc-in-row q l k) (same (arcCells * l + k) (omega arith))
 
   led-same : (k x n : ℕ) → k < mostAutomata → n ≤ mostArcs → led after q k x n ≡ led before q k x n
   unfolding led
   led-same k x zero less few = refl
   led-same k x (suc n) less few =
-      rw (from-same n k (omega arith) (omega arith), from-same n mostAutomata (omega arith) (omega arith), led-same k x n less (omega arith))
+      let to = from-same n mostAutomata (omega arith) (omega arith) in
+      rw (from-same n k (omega arith) (omega arith), to, led-same k x n less (omega arith))
 
   pub row-same : {t : List ℕ} {r : Role} → Row t r before q → Row t r after q
   row-same row =
@@ -41,7 +39,7 @@ module _ (q : ℕ) (before after : List ℕ) (same : SameRow q before after) whe
       }
 
 -- cells of the row of credential p + 1 have changed, which has not been made
-module _ {t : List ℕ} {p : ℕ} {before after : List ℕ} (a : Arcs t before) (e : Elsewhere p before after) where
+module _ {p : ℕ} {before after : List ℕ} (e : Elsewhere p before after) where
   other-row : (q : ℕ) → (q ≡ p → ⊥) → SameRow q before after
   other-row q other x less = e .others (rowCell q x) (side (decLt q p))
     where
@@ -52,8 +50,9 @@ module _ {t : List ℕ} {p : ℕ} {before after : List ℕ} (a : Arcs t before) 
   head-same : (x : ℕ) → x < firstRow → getD after x 0 ≡ getD before x 0
   head-same x less = e .others x (inl (omega arith))
 
-  pub arcs-elsewhere : (credentials t ≤ mostCredentials) → (getD before (madeCell p) 0 ≡ made → ⊥) → Arcs t after
-  arcs-elsewhere few unmade =
+  pub arcs-elsewhere : {t : List ℕ} → credentials t ≤ mostCredentials → Arcs t before → (getD before (madeCell p) 0 ≡ made → ⊥)
+      → Arcs t after
+  arcs-elsewhere {t} few a unmade =
       record {
         room = ⊎-elim (λ none. inl (e .room ∙ none)) (λ full. inr (e .room ∙ full)) (a .room);
         accepts = λ k less full. head-same k (omega arith) ∙ a .accepts k less (sym (e .room) ∙ full);

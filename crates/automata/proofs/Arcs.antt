@@ -1,5 +1,5 @@
--- The index of arcs: where there is none nothing is claimed; arc by arc the sets of all eight automata move on together, and by all
--- arcs of a row as by the edges.
+-- The index of arcs: where there is none nothing is claimed; arc by arc the sets of all eight automata move on together, and by
+-- all arcs of a row as by the edges.
 use mathlib.Core.Path.{_≡_, refl, sym, ap, _∙_}
 use mathlib.Core.List.{List}
 use mathlib.Core.Bool.{Bool, true, false}
@@ -8,30 +8,30 @@ use Prim.Native.Nat.{ℕ, zero, suc, _+_, _-_, _*_, _<_, _≤_}
 use native.Mathlib.Omega.{arith}
 use native.Mathlib.Nat.{eq-or-lt-of-le}
 use native.Mathlib.Numerals.{add-one, sub-one}
-use native.Mathlib.Decide.{decLt, ℕ-discrete}
-use lib.ListN.{getD, length, replicate, set, getD-replicate, length-set, List·getD-eq-default}
-use lib.Seq.{getD-set-same, getD-set-other}
-use lib.Bits.{bitAnd, bitOr, and-zero-r, or-zero-r}
+use native.Mathlib.Decide.{decLt}
+use lib.ListN.{getD, length, replicate, set, getD-replicate, List·getD-eq-default}
+use lib.Bits.{bitOr, and-zero-r, or-zero-r}
 use lib.Dec.{eqb, ltb}
-use borrow.Author.Tests.{lt-ltb, le-leb, le-ltb, ne-eqb}
+use borrow.Author.Tests.{eqb-true, lt-ltb, le-ltb}
 use Rattle.sets.specs.Logic.{_and_, pick}
 use Rattle.sets.specs.Sets.{meets, setOf}
 use Rattle.sets.proofs.Tests.{pick-same}
-use Rattle.sets.proofs.Members.{ltb-next, meets-not, meets-some, same-members, setOf-members}
+use Rattle.sets.proofs.Members.{meets-not, same-members, setOf-members}
 use Rattle.table.specs.Limits.{mostAutomata}
-use Rattle.table.specs.Layout.{automata, automaton}
+use Rattle.table.specs.Layout.{automata, automaton, credential, credentials}
 use Rattle.table.specs.Holding.{WellFormed}
-use Rattle.table.specs.Checks.{within}
 use Rattle.table.specs.declared.Role.{Role}
-use Rattle.automata.specs.Automata.{acceptsFrom, moved}
-use Rattle.automata.specs.Arcs.{Arcs, Ended, Row, accepting, acceptingCell, arcCells, firstRow, fromCell, indexCells, led, ledSets, made, madeCell}
-use Rattle.automata.specs.Arcs.{mostArcs, rowCells, toCell, withArc}
-use Rattle.automata.specs.Together.{acceptingSet, each, movedSets, setFor, together}
+use Rattle.automata.specs.Automata.{acceptsFrom}
+use Rattle.automata.specs.Arcs.{Arcs, Ended, Row, accepting, acceptingCell, arcCells, firstRow, fromCell, indexCells}
+use Rattle.automata.specs.Arcs.{led, ledSets, made, madeCell, mostArcs, rowCells, toCell, withArc}
+use Rattle.automata.specs.Together.{acceptingSet, movedSets, setFor}
 use Rattle.automata.specs.declared.StateSets.{StateSets}
-use Rattle.automata.proofs.Each.{each-at, each-ext, each-length}
+use Rattle.automata.proofs.Each.{together-at, together-is, together-same}
+use Rattle.automata.proofs.Together.{acceptsAt, within-first}
+use Rattle.automata.proofs.Written.{Written, unwritten, written, written-more, written-none}
 
 -- where there is no cell no row has been made
-unmade : (arcs : List ℕ) (p : ℕ) → length arcs ≡ 0 → getD arcs (madeCell p) 0 ≡ made → ⊥
+pub unmade : (arcs : List ℕ) (p : ℕ) → length arcs ≡ 0 → getD arcs (madeCell p) 0 ≡ made → ⊥
 unmade arcs p none is = omega (arith, is, List·getD-eq-default arcs 0 {n = madeCell p} (omega (arith, none)))
 
 -- no cells are an index of every table
@@ -43,83 +43,52 @@ no-arcs t arcs none =
       rows = λ p there is. absurd (unmade arcs p none is);
     }
 
-pub none-made : (arcs : List ℕ) (p : ℕ) → length arcs ≡ 0 → false ≡ eqb (getD arcs (madeCell p) 0) made
-none-made arcs p none = sym (ne-eqb _ _ (λ is. unmade arcs p none is))
-
 -- an index that has a cell has them all
-pub index-whole : {t : List ℕ} {arcs : List ℕ} → Arcs t arcs → (length arcs ≡ 0 → ⊥) → length arcs ≡ indexCells
-index-whole a some = ⊎-elim (λ none. absurd (some none)) (λ full. full) (a .room)
+pub index-whole : {cells : ℕ} → (cells ≡ 0) ⊎ (cells ≡ indexCells) → (cells ≡ 0 → ⊥) → cells ≡ indexCells
+index-whole room some = ⊎-elim (λ none. absurd (some none)) (λ full. full) room
 
--- and so has one in which a row has been made
-pub made-whole : {t : List ℕ} {arcs : List ℕ} (p : ℕ) → Arcs t arcs → getD arcs (madeCell p) 0 ≡ made → length arcs ≡ indexCells
-made-whole {t} {arcs} p a is = index-whole a (λ none. unmade arcs p none is)
+-- and so has one in which the code has found a row made, which then has the arcs of its credential's role
+pub row-made : {t : List ℕ} {arcs : List ℕ} (p : ℕ) {flag : Bool} → Arcs t arcs → p < credentials t
+    → flag ≡ eqb (getD arcs (madeCell p) 0) made → flag ≡ true
+    → (length arcs ≡ indexCells) × Row t (credential t (suc p) .role) arcs p
+row-made {t} {arcs} p a there test on =
+    let is = eqb-true _ _ (sym test ∙ on) in
+    (index-whole (a .room) (λ none. unmade arcs p none is), a .rows p there is)
 
--- the sets of all eight, place by place
-pub together-at : (f : ℕ → ℕ) (k : ℕ) → k < mostAutomata → getD (together f .sets) k 0 ≡ f (suc k)
-unfolding together
-together-at f k less = each-at f mostAutomata k less
-
-pub together-is : (f : ℕ → ℕ) (l : List ℕ) → length l ≡ mostAutomata → ((k : ℕ) → k < mostAutomata → getD l k 0 ≡ f (suc k))
-    → record { sets = l } ≡ together f
-unfolding together
-together-is f l size at = ap (λ (x : List ℕ). record { sets = x }) (each-ext f mostAutomata l size at)
-
-pub together-same : (f g : ℕ → ℕ) → ((k : ℕ) → k < mostAutomata → f (suc k) ≡ g (suc k)) → together f ≡ together g
-unfolding together
-together-same f g same =
-    together-is g (each f mostAutomata) (each-length f mostAutomata) (λ k less. each-at f mostAutomata k less ∙ same k less)
-
--- the set meets the `from` states, or it does not
-pub gives-to : (x from to : ℕ) → (bitAnd x from ≡ 0 → ⊥) → pick (meets x from) to 0 ≡ to
-unfolding pick
-gives-to x from to some = rw (meets-some x from some)
-
-pub gives-none : (x from to : ℕ) → bitAnd x from ≡ 0 → pick (meets x from) to 0 ≡ 0
-unfolding pick
-gives-none x from to none = rw (meets-not x from none)
-
--- what one arc adds to the sets `old`, of which the code has done the first k
+-- the sets `old` with what the arc at a cell gives, which leads to `to`: the code has done the first k
 abbrev gives : List ℕ → ℕ → StateSets → List ℕ → ℕ → ℕ → ℕ
-gives arcs at from old to j = bitOr (getD old j 0) (pick (meets (getD (from .sets) j 0) (getD arcs (at + j) 0)) to 0)
+gives arcs at from old to k = bitOr (getD old (k - 1) 0) (pick (meets (setFor from k) (getD arcs (at + (k - 1)) 0)) to 0)
 
 pub record Giving (arcs : List ℕ) (at : ℕ) (from : StateSets) (old : List ℕ) (to k : ℕ) (l : List ℕ) : Type 0 where
-  pub size : length l ≡ mostAutomata
   pub few : k ≤ mostAutomata
-  pub here : (j : ℕ) → j < mostAutomata → getD l j 0 ≡ pick (ltb j k) (gives arcs at from old to j) (getD old j 0)
+  pub eight : length old ≡ mostAutomata
+  pub places : Written (gives arcs at from old to) old k l
 
-module _ (arcs : List ℕ) (at : ℕ) (from : StateSets) (old : List ℕ) (to : ℕ) where
-  pub giving-none : length old ≡ mostAutomata → Giving arcs at from old to 0 old
-  unfolding pick
-  giving-none size = record { size = size; few = omega arith; here = λ j less. rw (le-ltb j 0 (omega arith)) }
+pub giving-none : (arcs : List ℕ) (at : ℕ) (from : StateSets) (old : List ℕ) (to : ℕ) → length old ≡ mostAutomata
+    → Giving arcs at from old to 0 old
+giving-none arcs at from old to size = record { few = omega arith; eight = size; places = written-none _ old }
 
-  pub giving-more : (k : ℕ) (l : List ℕ) {given : ℕ} → k < mostAutomata → Giving arcs at from old to k l
-      → given ≡ pick (meets (getD (from .sets) k 0) (getD arcs (at + k) 0)) to 0
-      → Giving arcs at from old to (k + 1) (set l k (bitOr (getD l k 0) given))
-  unfolding pick
-  giving-more k l {given} less g is =
-      rw (add-one k)
-      (record { size = simp length-set (g .size); few = omega arith; here = λ j there. one j there (ℕ-discrete k j) })
-    where
-      own : getD l k 0 ≡ getD old k 0
-      own = g .here k less ∙ rw (le-ltb k k (omega arith))
+pub giving-more : {arcs : List ℕ} {at : ℕ} {from : StateSets} {old : List ℕ} {to k : ℕ} {l : List ℕ} {given : ℕ}
+    → k < mostAutomata → Giving arcs at from old to k l
+    → given ≡ pick (meets (getD (from .sets) k 0) (getD arcs (at + k) 0)) to 0
+    → Giving arcs at from old to (k + 1) (set l k (bitOr (getD l k 0) given))
+giving-more {old = old} {k = k} less g is =
+    let room : k < length old = omega (arith, less, g .eight) in
+    let place : k + 1 - 1 ≡ k = omega arith in
+    record {
+      few = omega arith;
+      eight = g .eight;
+      places = written-more _ old (g .places) room (rw (place, is, unwritten _ old (g .places) room (omega arith)));
+    }
 
-      one : (j : ℕ) → j < mostAutomata → Dec (k ≡ j)
-          → getD (set l k (bitOr (getD l k 0) given)) j 0 ≡ pick (ltb j (suc k)) (gives arcs at from old to j) (getD old j 0)
-      one j there (yes same) =
-          rw (← same, lt-ltb k (suc k) (omega arith), is, own) (getD-set-same l k _ 0 (omega (arith, g .size)))
-      one j there (no other) = rw (← ltb-next j k other) (getD-set-other l k j _ 0 (λ e. other (sym e)) ∙ g .here j there)
-
-pub giving-all : (arcs : List ℕ) (at : ℕ) (from next : StateSets) (k : ℕ) (l : List ℕ) {to : ℕ} → mostAutomata ≤ k
+pub giving-all : {arcs : List ℕ} {at : ℕ} {from : StateSets} (next : StateSets) {to k : ℕ} {l : List ℕ} → mostAutomata ≤ k
     → to ≡ getD arcs (at + mostAutomata) 0 → Giving arcs at from (next .sets) to k l
     → record { sets = l } ≡ withArc arcs at from next
-unfolding withArc pick
-giving-all arcs at from next k l all leads g = together-is _ l (g .size) one
-  where
-    one : (j : ℕ) → j < mostAutomata
-        → getD l j 0
-        ≡ bitOr (setFor next (suc j))
-        (pick (meets (setFor from (suc j)) (getD arcs (at + (suc j - 1)) 0)) (getD arcs (at + mostAutomata) 0) 0)
-    one j less = rw (sub-one (suc j), ← leads) (g .here j less ∙ rw (lt-ltb j k (omega arith)))
+unfolding withArc
+giving-all {arcs} {at} {from} next {l = l} all leads g =
+    together-is _ l (g .places .size ∙ g .eight) (λ j less.
+    written _ (next .sets) (g .places) (omega (arith, less, g .eight)) (omega (arith, less, all))
+    ∙ ap (λ (x : ℕ). gives arcs at from (next .sets) x (suc j)) leads)
 
 -- by no arc nothing is reached
 pub led-none : (arcs : List ℕ) (p : ℕ) (from : StateSets) → record { sets = replicate mostAutomata 0 } ≡ ledSets arcs p from 0
@@ -136,13 +105,12 @@ led-more arcs p l from {next} is = together-same _ _ one
     so-far k less = rw (is, sub-one (suc k)) (together-at _ k less ∙ rw (sub-one (suc k)))
 
     one : (k : ℕ) → k < mostAutomata
-        → bitOr (setFor next (suc k)) (pick (meets (setFor from (suc k))
-        (getD arcs (firstRow + rowCells * p + arcCells * l + (suc k - 1)) 0)) (getD arcs (toCell p l) 0) 0)
+        → gives arcs (firstRow + rowCells * p + arcCells * l) from (next .sets) (getD arcs (toCell p l) 0) (suc k)
         ≡ led arcs p (suc k - 1) (setFor from (suc k)) (l + 1)
     one k less = rw (add-one l, so-far k less, sub-one (suc k))
 
 -- and where one leads nowhere, those behind it give no more
-led-ended : (arcs : List ℕ) (p k x l n : ℕ) → Ended arcs p → l ≤ n → n ≤ mostArcs → getD arcs (toCell p l) 0 ≡ 0
+pub led-ended : (arcs : List ℕ) (p k x l n : ℕ) → Ended arcs p → l ≤ n → n ≤ mostArcs → getD arcs (toCell p l) 0 ≡ 0
     → led arcs p k x l ≡ led arcs p k x n
 unfolding led
 led-ended arcs p k x l zero ended below few none = let first : l ≡ 0 = omega arith in rw first
@@ -168,33 +136,36 @@ pub row-moves : (t : List ℕ) (r : Role) (arcs : List ℕ) (p : ℕ) (from : St
 unfolding ledSets movedSets
 row-moves t r arcs p from row = together-same _ _ (λ k less. rw (sub-one (suc k)) (row .moves k _ less))
 
+-- no set meets the empty one
+pub meets-zero : (x : ℕ) → meets x 0 ≡ false
+meets-zero x = meets-not x 0 (and-zero-r x)
+
 -- the automata that accept, by the accepting sets of the index
-module _ (t : List ℕ) (arcs : List ℕ) (s : StateSets) where
-  abbrev pub acceptsIn : ℕ → Bool
-  acceptsIn k = meets (getD (s .sets) k 0) (getD arcs (acceptingCell k) 0)
+abbrev pub acceptsIn : List ℕ → StateSets → ℕ → Bool
+acceptsIn arcs s k = meets (getD (s .sets) k 0) (getD arcs (acceptingCell k) 0)
 
+module _ {t arcs : List ℕ} (s : StateSets) (wf : WellFormed t) (a : Arcs t arcs) (full : length arcs ≡ indexCells) where
   -- automaton k + 1 accepts alike, and beyond the table's automata the index has no accepting state
-  cell-is : Arcs t arcs → length arcs ≡ indexCells → (k : ℕ) → k < mostAutomata
-      → acceptsIn k ≡ meets (getD (s .sets) k 0) (pick (ltb k (automata t)) (automaton t (suc k) .accepting) 0)
-  unfolding accepting within _and_
-  cell-is a full k less = rw (a .accepts k less full, le-leb 1 (suc k) (omega arith))
+  cell-is : (k : ℕ) → k < mostAutomata
+      → acceptsIn arcs s k ≡ meets (getD (s .sets) k 0) (pick (ltb k (automata t)) (automaton t (suc k) .accepting) 0)
+  unfolding accepting
+  cell-is k less = rw (a .accepts k less full, within-first (automata t) k)
 
-  same-accepts : WellFormed t → Arcs t arcs → length arcs ≡ indexCells → (k : ℕ) → Dec (k < automata t) → Dec (k < mostAutomata)
-      → (ltb k mostAutomata and acceptsIn k) ≡ (ltb k (automata t) and acceptsFrom t (suc k) (getD (s .sets) k 0))
+  same-accepts : (k : ℕ) → Dec (k < automata t) → Dec (k < mostAutomata)
+      → (ltb k mostAutomata and acceptsIn arcs s k) ≡ (ltb k (automata t) and acceptsAt t s k)
   unfolding acceptsFrom pick _and_
-  same-accepts wf a full k (yes there) few =
+  same-accepts k (yes there) few =
       let less : k < mostAutomata = omega (arith, wf .sized .counted .fewAutomata) in
-      rw (lt-ltb k mostAutomata less, lt-ltb k (automata t) there) (cell-is a full k less ∙ rw (lt-ltb k (automata t) there))
-  same-accepts wf a full k (no beyond) (yes less) =
-      rw (le-ltb k (automata t) (omega arith), lt-ltb k mostAutomata less)
-      (cell-is a full k less ∙ rw (le-ltb k (automata t) (omega arith)) (let x = getD (s .sets) k 0 in meets-not x 0 (and-zero-r x)))
-  same-accepts wf a full k (no beyond) (no more) =
+      rw (lt-ltb k mostAutomata less, lt-ltb k (automata t) there) (cell-is k less ∙ rw (lt-ltb k (automata t) there))
+  same-accepts k (no beyond) (yes less) =
+      let none = le-ltb k (automata t) (omega arith) in
+      rw (none, lt-ltb k mostAutomata less) (cell-is k less ∙ rw none (meets-zero (getD (s .sets) k 0)))
+  same-accepts k (no beyond) (no more) =
       rw (le-ltb k (automata t) (omega arith), le-ltb k mostAutomata (omega arith))
 
-  pub accepting-in : WellFormed t → Arcs t arcs → length arcs ≡ indexCells → (n : ℕ) → n ≡ mostAutomata
-      → setOf acceptsIn n ≡ acceptingSet t s
+  pub accepting-in : (n : ℕ) → n ≡ mostAutomata → setOf (acceptsIn arcs s) n ≡ acceptingSet t s
   unfolding acceptingSet
-  accepting-in wf a full n all =
+  accepting-in n all =
       rw all (same-members _ _ (λ k.
-      setOf-members acceptsIn mostAutomata k ∙ same-accepts wf a full k (decLt k (automata t)) (decLt k mostAutomata)
-      ∙ sym (setOf-members (λ j. acceptsFrom t (suc j) (getD (s .sets) j 0)) (automata t) k)))
+      setOf-members (acceptsIn arcs s) mostAutomata k ∙ same-accepts k (decLt k (automata t)) (decLt k mostAutomata)
+      ∙ sym (setOf-members (acceptsAt t s) (automata t) k)))

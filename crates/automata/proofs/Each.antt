@@ -1,14 +1,15 @@
 -- The list f 1, f 2, up to f n: how long it is, what stands at each place, and that a list of that length with the same
--- at each place is that list.
-use mathlib.Core.Path.{_≡_, refl, sym, _∙_}
+-- at each place is that list. So it is with the sets of all eight automata, which are such a list.
+use mathlib.Core.Path.{_≡_, refl, sym, ap, _∙_}
 use mathlib.Core.List.{List, []}
 use mathlib.Core.Logic.{⊎-elim}
 use Prim.Native.Nat.{ℕ, zero, suc, _<_}
 use native.Mathlib.Omega.{arith}
 use native.Mathlib.Nat.{eq-or-lt-of-le}
-use lib.ListN.{length, getD, length-append, List·getD-append}
+use lib.ListN.{length, getD, length-append, List·getD-append, List·getD-eq-default}
 use lib.Seq.{getD-at, ext-getD}
-use Rattle.automata.specs.Together.{each}
+use Rattle.table.specs.Limits.{mostAutomata}
+use Rattle.automata.specs.Together.{each, together}
 
 module _ (f : ℕ → ℕ) where
   pub each-length : (n : ℕ) → length (each f n) ≡ n
@@ -29,3 +30,22 @@ module _ (f : ℕ → ℕ) where
   each-ext n l len at =
       ext-getD 0 l (each f n) (len ∙ sym (each-length n))
       (λ k h. let less : k < n = omega arith in at k less ∙ sym (each-at n k less))
+
+  pub together-at : (k : ℕ) → k < mostAutomata → getD (together f .sets) k 0 ≡ f (suc k)
+  unfolding together
+  together-at k less = each-at mostAutomata k less
+
+  -- beyond the eight there is no set
+  pub together-beyond : (k : ℕ) → (k < mostAutomata → ⊥) → getD (together f .sets) k 0 ≡ 0
+  unfolding together
+  together-beyond k beyond = List·getD-eq-default (each f mostAutomata) 0 (omega (arith, each-length mostAutomata))
+
+  pub together-is : (l : List ℕ) → length l ≡ mostAutomata → ((k : ℕ) → k < mostAutomata → getD l k 0 ≡ f (suc k))
+      → record { sets = l } ≡ together f
+  unfolding together
+  together-is l size at = ap (λ (x : List ℕ). record { sets = x }) (each-ext mostAutomata l size at)
+
+pub together-same : (f g : ℕ → ℕ) → ((k : ℕ) → k < mostAutomata → f (suc k) ≡ g (suc k)) → together f ≡ together g
+unfolding together
+together-same f g same =
+    together-is g (each f mostAutomata) (each-length f mostAutomata) (λ k less. each-at f mostAutomata k less ∙ same k less)

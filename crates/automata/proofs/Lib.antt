@@ -6,3 +6,4 @@ pub mod Promised
 pub mod Labels
 pub mod Together
 pub mod Unions
+pub mod Written

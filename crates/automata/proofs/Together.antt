@@ -7,59 +7,47 @@ use Prim.Native.Nat.{ℕ, suc, _+_, _-_, _^_, _≤_, _<_}
 use native.Mathlib.Omega.{arith}
 use native.Mathlib.Numerals.{add-one, sub-one}
 use native.Mathlib.Decide.{decLt, ℕ-discrete}
-use lib.ListN.{length, getD, set, replicate, length-set, getD-replicate, List·getD-eq-default}
+use lib.ListN.{length, getD, set, replicate, length-set, getD-replicate}
 use lib.Seq.{getD-set-same, getD-set-other}
 use lib.Bits.{bitAnd, bitOr}
 use lib.Dec.{eqb, ltb}
-use borrow.Author.Tests.{ne-eqb, lt-ltb, le-ltb, le-leb}
+use borrow.Author.Tests.{ne-eqb, le-leb}
 use Rattle.sets.specs.Logic.{_and_, pick}
+use Rattle.sets.specs.Sets.{setOf}
+use Rattle.sets.proofs.Tests.{pick-apart, pick-same}
+use Rattle.sets.proofs.Members.{meets-not, meets-some, set-more, set-not}
 use Rattle.table.specs.Limits.{lastState, mostAutomata}
 use Rattle.table.specs.Layout.{Numbered, automata, automaton, credential, edge, edges}
 use Rattle.table.specs.Holding.{WellFormed}
 use Rattle.table.specs.Checks.{within}
-use Rattle.sets.proofs.Tests.{pick-apart, pick-same}
-use Rattle.table.proofs.WellFormed.{wf-edge}
 use Rattle.table.specs.declared.Role.{Role}
 use Rattle.table.specs.declared.Credential.{Credential}
 use Rattle.table.specs.declared.Automaton.{Automaton}
 use Rattle.table.specs.declared.Edge.{Edge}
-use Rattle.sets.specs.Sets.{setOf}
-use Rattle.automata.specs.Automata.{acceptsFrom, leads, moved, movedBy}
-use Rattle.automata.specs.Together.{acceptingSet, deadSet, movedOn, movedSets, withEdge}
-use Rattle.automata.specs.Automata.{starting}
-use Rattle.automata.specs.Together.{each, startingSets, together}
+use Rattle.table.proofs.WellFormed.{wf-edge}
+use Rattle.automata.specs.Automata.{acceptsFrom, leads, moved, movedBy, starting}
+use Rattle.automata.specs.Together.{acceptingSet, deadSet, movedOn, movedSets, startingSets, together, withEdge}
 use Rattle.automata.specs.declared.Moved.{Moved}
 use Rattle.automata.specs.declared.StateSets.{StateSets}
-use Rattle.automata.proofs.Each.{each-at, each-ext, each-length}
+use Rattle.automata.proofs.Each.{together-at, together-beyond, together-is}
 use Rattle.automata.proofs.Moves.{moved-empty}
-use Rattle.sets.proofs.Members.{ltb-next, meets-not, meets-some, set-more, set-not}
+use Rattle.automata.proofs.Written.{Written}
+
+-- automaton j + 1 is one of n where j is below n
+pub within-first : (n j : ℕ) → within 1 n (suc j) ≡ ltb j n
+unfolding within _and_
+within-first n j = rw (le-leb 1 (suc j) (omega arith))
 
 -- the sets of the first k automata are their starting sets, and the others are empty
-pub record Started (t : List ℕ) (k : ℕ) (l : List ℕ) : Type 0 where
-  pub size : length l ≡ mostAutomata
-  pub here : (j : ℕ) → j < mostAutomata → getD l j 0 ≡ pick (ltb j k) (automaton t (suc j) .starting) 0
-
-pub started-none : (t : List ℕ) → Started t 0 (replicate mostAutomata 0)
-unfolding pick
-started-none t =
-    record { size = refl; here = λ j h. rw (le-ltb j 0 (omega arith)) (getD-replicate mostAutomata j 0 0 h) }
-
-pub started-more : (t : List ℕ) (k : ℕ) (l : List ℕ) → k < mostAutomata → Started t k l
-    → Started t (k + 1) (set l k (automaton t (k + 1) .starting))
-unfolding pick
-started-more t k l room s = rw (add-one k) (record { size = simp length-set (s .size); here = λ j h. at j h (ℕ-discrete k j) })
-  where
-    at : (j : ℕ) → j < mostAutomata → Dec (k ≡ j)
-        → getD (set l k (automaton t (suc k) .starting)) j 0 ≡ pick (ltb j (suc k)) (automaton t (suc j) .starting) 0
-    at j h (yes same) = rw (← same, lt-ltb k (suc k) (omega arith)) (getD-set-same l k _ 0 (omega (arith, s .size)))
-    at j h (no other) = rw (← ltb-next j k other) (getD-set-other l k j _ 0 (λ e. other (sym e)) ∙ s .here j h)
+abbrev pub Started : List ℕ → ℕ → List ℕ → Type 0
+Started t = Written (λ j. automaton t j .starting) (replicate mostAutomata 0)
 
 pub started-all : (t : List ℕ) (k : ℕ) (l : List ℕ) → k ≡ automata t → Started t k l → record { sets = l } ≡ startingSets t
-unfolding startingSets together starting within _and_
-started-all t k l all s = ap (λ (x : List ℕ). record { sets = x }) (each-ext (starting t) mostAutomata l (s .size) at)
+unfolding startingSets starting
+started-all t k l all s = together-is (starting t) l (s .size) at
   where
     at : (j : ℕ) → j < mostAutomata → getD l j 0 ≡ starting t (suc j)
-    at j h = rw (← all, le-leb 1 (suc j) (omega arith)) (s .here j h)
+    at j h = rw (within-first (automata t) j, ← all) (s .here j h ∙ rw (getD-replicate {A = ℕ} mostAutomata j 0 0 h))
 
 -- the sets moved along the first n edges: at place j stands the set of automaton j + 1
 abbrev movedAt : List ℕ → Role → StateSets → ℕ → ℕ → ℕ
@@ -166,8 +154,8 @@ module _ (t : List ℕ) (r : Role) (from : StateSets) (n : ℕ) (next : StateSet
 
 pub moving-all : (t : List ℕ) (r : Role) (from : StateSets) (n : ℕ) (next : StateSets) → n ≡ edges t → Moving t r from n next
     → next ≡ movedSets t r from
-unfolding movedSets together moved
-moving-all t r from n next all m = ap (λ (x : List ℕ). record { sets = x }) (each-ext _ mostAutomata (next .sets) (m .size) at)
+unfolding movedSets moved
+moving-all t r from n next all m = together-is _ (next .sets) (m .size) at
   where
     at : (j : ℕ) → j < mostAutomata → getD (next .sets) j 0 ≡ movedBy t (suc j) r (getD (from .sets) (suc j - 1) 0) (edges t)
     at j h = rw (sub-one, ← all) (m .here j h)
@@ -190,17 +178,16 @@ states-moved t r s told = ap (λ (y : Moved). y .states) told
 -- a set that is empty stays empty, and beyond the eight there is none
 pub empty-moved : (t : List ℕ) (r : Role) (s : StateSets) (k : ℕ) → getD (s .sets) k 0 ≡ 0
     → getD (movedSets t r s .sets) k 0 ≡ 0
-unfolding movedSets together
+unfolding movedSets
 empty-moved t r s k empty = go (decLt k mostAutomata)
   where
     one : ℕ → ℕ
     one j = moved t j r (getD (s .sets) (j - 1) 0)
 
-    go : Dec (k < mostAutomata) → getD (each one mostAutomata) k 0 ≡ 0
+    go : Dec (k < mostAutomata) → getD (together one .sets) k 0 ≡ 0
     go (yes there) =
-        each-at one mostAutomata k there ∙ ap (moved t (suc k) r) (rw (sub-one (suc k)) empty) ∙ moved-empty t (suc k) r
-    go (no beyond) =
-        List·getD-eq-default (each one mostAutomata) 0 (omega (arith, each-length one mostAutomata))
+        together-at one k there ∙ ap (moved t (suc k) r) (rw (sub-one (suc k)) empty) ∙ moved-empty t (suc k) r
+    go (no beyond) = together-beyond one k beyond
 
 -- automaton k + 1 has no state
 abbrev pub isEmpty : StateSets → ℕ → Bool

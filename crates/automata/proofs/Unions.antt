@@ -1,30 +1,28 @@
 -- Ticket 4, as far as unions go, proved sentence by sentence.
-use mathlib.Core.Path.{_≡_, refl, sym, ap, _∙_}
+use mathlib.Core.Path.{_≡_, refl}
 use mathlib.Core.List.{List}
 use mathlib.Core.Bool.{Bool, true, false}
-use mathlib.Core.Logic.{_↔_}
-use Prim.Native.Nat.{ℕ, suc, _-_, _<_}
-use native.Mathlib.Omega.{arith}
+use Prim.Native.Nat.{ℕ, suc, _<_}
 use native.Mathlib.Numerals.{sub-one}
 use native.Mathlib.Decide.{decLt}
-use lib.ListN.{getD, List·getD-eq-default}
+use lib.ListN.{getD}
 use lib.Bits.{bitAnd, bitOr, or-zero-l}
 use lib.Dec.{eqb, ltb}
 use borrow.Author.Tests.{eq-eqb, eqb-true}
 use Rattle.sets.specs.Logic.{_and_}
-use Rattle.sets.specs.Sets.{inSet, setOf}
-use Rattle.sets.proofs.Tests.{and-both, and-first, and-second, false-true, or-first, or-second, refuted, same-test}
-use Rattle.sets.proofs.Members.{inSet-and, inSet-or, inSet-zero, same-members, setOf-members}
+use Rattle.sets.specs.Sets.{setOf}
+use Rattle.sets.proofs.Tests.{and-both, and-parts, same-test}
+use Rattle.sets.proofs.Members.{inSet-and, part-antisym, part-or-left, part-or-right, part-zero, same-members, setOf-members}
 use Rattle.table.specs.Limits.{mostAutomata}
 use Rattle.table.specs.Layout.{automata}
 use Rattle.table.specs.declared.Role.{Role}
 use Rattle.automata.specs.Automata.{moved}
 use Rattle.automata.specs.Promised.{DeadUnion, EmptyUnion, MovesUnion, MovesUnions}
-use Rattle.automata.specs.Together.{deadSet, each, movedOn, movedSets, setFor, together, union}
+use Rattle.automata.specs.Together.{deadSet, movedOn, movedSets, setFor, together, union}
 use Rattle.automata.specs.declared.StateSets.{StateSets}
-use Rattle.automata.proofs.Arcs.{together-at, together-same}
-use Rattle.automata.proofs.Each.{each-length}
+use Rattle.automata.proofs.Each.{together-at, together-beyond, together-same}
 use Rattle.automata.proofs.Moves.{moved-union}
+use Rattle.automata.proofs.Together.{isEmpty}
 
 pub moves-union : MovesUnion
 moves-union t k r x y = moved-union t k r x y
@@ -34,7 +32,8 @@ unfolding movedSets union
 moves-unions t r s u = together-same _ _ one
   where
     one : (k : ℕ) → k < mostAutomata
-        → moved t (suc k) r (setFor (union s u) (suc k)) ≡ bitOr (setFor (movedSets t r s) (suc k)) (setFor (movedSets t r u) (suc k))
+        → moved t (suc k) r (setFor (union s u) (suc k))
+        ≡ bitOr (setFor (movedSets t r s) (suc k)) (setFor (movedSets t r u) (suc k))
     one k less =
         rw (sub-one (suc k), together-at (λ j. bitOr (setFor s j) (setFor u j)) k less)
         (rw (together-at (λ j. moved t j r (setFor s j)) k less, together-at (λ j. moved t j r (setFor u j)) k less)
@@ -42,14 +41,10 @@ moves-unions t r s u = together-same _ _ one
 
 -- a union is empty exactly where both parts are
 left-empty : (x y : ℕ) → bitOr x y ≡ 0 → x ≡ 0
-left-empty x y none =
-    same-members x 0 (λ s.
-    refuted (inSet x s) (λ inside.
-    false-true (sym (inSet-zero s) ∙ ap (λ z. inSet z s) (sym none) ∙ inSet-or x y s ∙ or-first (inSet y s) inside))
-    ∙ sym (inSet-zero s))
+left-empty x y none = part-antisym x 0 (rw none at (part-or-left x y)) (part-zero x)
 
 right-empty : (x y : ℕ) → bitOr x y ≡ 0 → y ≡ 0
-right-empty x y none = sym (or-zero-l y) ∙ ap (λ z. bitOr z y) (sym (left-empty x y none)) ∙ none
+right-empty x y none = part-antisym y 0 (rw none at (part-or-right x y)) (part-zero y)
 
 both-empty : (x y : ℕ) → x ≡ 0 → y ≡ 0 → bitOr x y ≡ 0
 both-empty x y one two = rw (one, two) (or-zero-l 0)
@@ -67,18 +62,12 @@ empty-alike x y =
     let is = eqb-true (bitOr x y) 0 none in
     and-both (eq-eqb x 0 (left-empty x y is)) (eq-eqb y 0 (right-empty x y is)))
     (λ both.
-    eq-eqb (bitOr x y) 0
-    (both-empty x y (eqb-true x 0 (and-first (eqb x 0) _ both)) (eqb-true y 0 (and-second (eqb x 0) _ both))))
+    let (one, two) = and-parts (eqb-true x 0) (eqb-true y 0) both in
+    eq-eqb (bitOr x y) 0 (both-empty x y one two))
 
--- beyond the eight there is no set
-together-beyond : (f : ℕ → ℕ) (k : ℕ) → (k < mostAutomata → ⊥) → getD (together f .sets) k 0 ≡ 0
-unfolding together
-together-beyond f k beyond = List·getD-eq-default (each f mostAutomata) 0 (omega (arith, each-length f mostAutomata))
-
--- automaton k + 1 has no state in the union of moved sets where it has none in both
+-- automaton k + 1 has no state in a union of sets where it has none in both; so it is with moved sets
 dead-alike : (f g : ℕ → ℕ) (k : ℕ) → Dec (k < mostAutomata)
-    → eqb (getD (union (together f) (together g) .sets) k 0) 0
-    ≡ (eqb (getD (together f .sets) k 0) 0 and eqb (getD (together g .sets) k 0) 0)
+    → isEmpty (union (together f) (together g)) k ≡ (isEmpty (together f) k and isEmpty (together g) k)
 unfolding union _and_
 dead-alike f g k (yes less) =
     rw (together-at (λ j. bitOr (setFor (together f) j) (setFor (together g) j)) k less, sub-one (suc k))
@@ -90,7 +79,12 @@ dead-alike f g k (no beyond) =
       together-beyond g k beyond,
     )
 
--- both tests below n, or neither
+moved-alike : (t : List ℕ) (r : Role) (s u : StateSets) (k : ℕ)
+    → isEmpty (union (movedSets t r s) (movedSets t r u)) k ≡ (isEmpty (movedSets t r s) k and isEmpty (movedSets t r u) k)
+unfolding movedSets
+moved-alike t r s u k = dead-alike (λ j. moved t j r (setFor s j)) (λ j. moved t j r (setFor u j)) k (decLt k mostAutomata)
+
+-- a test and two others, each for itself
 and-apart : (a b c : Bool) → (a and b and c) ≡ ((a and b) and (a and c))
 unfolding _and_
 and-apart true b c = refl
@@ -103,18 +97,9 @@ setOf-both p q both n alike =
     rw (inSet-and (setOf p n) (setOf q n) k, setOf-members both n k, setOf-members p n k, setOf-members q n k, alike k)
     (and-apart (ltb k n) (p k) (q k)))
 
--- of moved sets
-abbrev emptyAt : StateSets → ℕ → Bool
-emptyAt s k = eqb (getD (s .sets) k 0) 0
-
-moved-alike : (t : List ℕ) (r : Role) (s u : StateSets) (k : ℕ)
-    → emptyAt (union (movedSets t r s) (movedSets t r u)) k ≡ (emptyAt (movedSets t r s) k and emptyAt (movedSets t r u) k)
-unfolding movedSets
-moved-alike t r s u k = dead-alike (λ j. moved t j r (setFor s j)) (λ j. moved t j r (setFor u j)) k (decLt k mostAutomata)
-
 pub dead-union : DeadUnion
 unfolding movedOn deadSet
 dead-union t r s u =
     rw (moves-unions t r s u)
-    (setOf-both (emptyAt (movedSets t r s)) (emptyAt (movedSets t r u)) (emptyAt (union (movedSets t r s) (movedSets t r u)))
+    (setOf-both (isEmpty (movedSets t r s)) (isEmpty (movedSets t r u)) (isEmpty (union (movedSets t r s) (movedSets t r u)))
     (automata t) (moved-alike t r s u))

@@ -1,9 +1,20 @@
 -- `arcs::ask` meets its contract: a row that is asked for the first or the second time is not made yet. Assumes nothing.
+use Prim.Native.Nat.{_<_}
+use lib.ListN.{length}
+use borrow.Author.Needs.{needs}
+use denote.Ref.{now}
+use Rattle.automata.specs.Arcs.{madeCell}
 use Rattle.automata.proofs.Arcs.{index-whole}
 use Rattle.arcs.proofs.Making.{asked-again, made-cell}
-use borrow.Author.Needs.{needs}
 use Rattle.arcs.proofs.ask.Statement.{statement}
 use Rattle.arcs.proofs.ask.Tie as tie
+
+-- where there is an index, which has a mark for the row
+abbrev start : tie.Else1 → tie.Start
+start at = at .before .before .before
+
+mark : (at : tie.Else1) → let from = start at .args in madeCell (from .place) < length (now (from .arcs))
+mark at = let (wf, (index, there)) = start at .pre in made-cell wf index there (at .if1 .left)
 
 returns : tie.Need-returns
 returns c = search needs
@@ -15,7 +26,7 @@ mul-asked : tie.Need-mul-asked
 mul-asked c = search needs
 
 slice-read-asked : tie.Need-slice-read-asked
-slice-read-asked c = made-cell (c .before .before .before .before .pre .0) (c .before .before .before .before .pre .1 .0) (c .before .before .before .before .pre .1 .1) (c .before .if1 .left)
+slice-read-asked c = mark (c .before)
 
 returns-2 : tie.Need-returns-2
 returns-2 c = search needs
@@ -33,18 +44,22 @@ mul-arcs : tie.Need-mul-arcs
 mul-arcs c = search needs
 
 slice-write-arcs : tie.Need-slice-write-arcs
-slice-write-arcs c = made-cell (c .before .before .before .before .before .before .pre .0) (c .before .before .before .before .before .before .pre .1 .0) (c .before .before .before .before .before .before .pre .1 .1) (c .before .before .before .if1 .left)
+slice-write-arcs c = mark (c .before .before .before)
 
 same-length : tie.Need-same-length
 same-length c = search needs
 
 returns-3 : tie.Need-returns-3
-returns-3 c = asked-again (c .before .before .before .before .before .before .pre .0) (c .before .before .before .before .before .before .pre .1 .0) (c .before .before .before .before .before .before .pre .1 .1) (c .before .before .before .if1 .left) (c .if3 .taken)
+returns-3 c =
+    let at = c .before .before .before in
+    let (wf, (index, there)) = start at .pre in
+    asked-again wf index there (at .if1 .left) (c .if3 .taken)
 
 fill-requires : tie.Need-fill-requires
 fill-requires c κs =
-    let pre = c .before .before .before .before .before .before .before .pre in
-    (pre .0, (pre .1 .0, (pre .1 .1, (index-whole (pre .1 .0) (c .before .before .before .before .if1 .left), c .before .before .if2 .left))))
+    let at = c .before .before .before .before in
+    let (wf, (index, there)) = start at .pre in
+    (wf, (index, (there, (index-whole (index .room) (at .if1 .left), c .before .before .if2 .left))))
 
 same-length-2 : tie.Need-same-length-2
 same-length-2 c = search needs

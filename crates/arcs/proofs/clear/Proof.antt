@@ -1,9 +1,9 @@
 -- `arcs::clear` meets its contract: the first x cells of the row are 0. Assumes nothing.
 use Prim.Native.Nat.{_-_}
 use native.Mathlib.Omega.{arith}
-use Rattle.automata.specs.Arcs.{rowCells}
-use Rattle.arcs.proofs.Filling.{Clearing, clearing-all, clearing-more, clearing-none}
 use borrow.Author.Needs.{needs}
+use Rattle.automata.specs.Arcs.{rowCells}
+use Rattle.arcs.proofs.Clearing.{Clearing, clearing-all, clearing-more, clearing-none}
 use Rattle.arcs.proofs.clear.Statement.{statement}
 use Rattle.arcs.proofs.clear.Tie as tie
 
@@ -38,7 +38,9 @@ loop-less : tie.Need-loop-less Inv-loop μ-loop
 loop-less c = search needs
 
 loop-again : tie.Need-loop-again Inv-loop μ-loop
-loop-again c = clearing-more _ _ _ _ (c .before .loop .inv) (omega arith) (omega (arith, c .before .loop .inv .elsewhere .room))
+loop-again c =
+    let so-far = c .before .loop .inv in
+    clearing-more _ _ _ _ so-far (omega arith) (omega (arith, so-far .elsewhere .room))
 
 same-length : tie.Need-same-length Inv-loop μ-loop
 same-length c = c .before .loop .inv .elsewhere .room

@@ -1,11 +1,14 @@
 -- `arcs::fill` meets its contract: the row has the arcs of the first k edges. Assumes nothing.
 use mathlib.Core.Path.{sym, _∙_}
-use Prim.Native.Nat.{_-_, _≤_}
+use Prim.Native.Nat.{_-_, _<_, _≤_}
 use native.Mathlib.Omega.{arith}
-use Rattle.sets.proofs.Members.{one-bit}
-use Rattle.automata.proofs.Together.{edge-there}
-use Rattle.arcs.proofs.Making.{Making, making-all, making-length, making-more, making-none, making-past}
 use borrow.Author.Needs.{needs}
+use Rattle.sets.proofs.Members.{one-bit}
+use Rattle.table.specs.Limits.{lastState, mostAutomata}
+use Rattle.table.specs.Layout.{Numbered}
+use Rattle.automata.specs.Arcs.{mostArcs}
+use Rattle.automata.proofs.Together.{edge-there}
+use Rattle.arcs.proofs.Making.{Making, making-all, making-length, making-more, making-none, making-past, making-room}
 use Rattle.arcs.proofs.fill.Statement.{statement}
 use Rattle.arcs.proofs.fill.Tie as tie
 
@@ -14,6 +17,23 @@ Inv-loop table arcs₀ place role e k₀ arcs k = (k ≤ e) × Making table role
 
 abbrev μ-loop : tie.MeasureT-loop
 μ-loop table arcs₀ place role e k₀ arcs k = e - k
+
+-- where the edges have been counted, where one has been read, and where it matches and its arc is to be looked for
+abbrev start : tie.After-edges Inv-loop μ-loop → tie.Start Inv-loop μ-loop
+start at = at .before .before .before .before .before .before .before .before .before
+
+abbrev loop : tie.After-edge Inv-loop μ-loop → tie.At-loop Inv-loop μ-loop
+loop at = at .before .before
+
+abbrev matched : tie.After-struct-known Inv-loop μ-loop → tie.Then1 Inv-loop μ-loop
+matched at = at .before .before
+
+abbrev read : tie.After-struct-known Inv-loop μ-loop → tie.After-edge Inv-loop μ-loop
+read at = matched at .before .before
+
+in-range : (at : tie.After-edge Inv-loop μ-loop) → let e = at .edge .result in
+    Numbered mostAutomata (e .automaton) × ((e .from ≤ lastState) × (e .to ≤ lastState))
+in-range at = edge-there _ (start (loop at .before) .pre .0) _ (omega arith) (at .edge .ensures)
 
 clear-requires : tie.Need-clear-requires Inv-loop μ-loop
 clear-requires c κs = search needs
@@ -29,9 +49,8 @@ edges-requires c κs = search needs
 
 loop-holds : tie.Need-loop-holds Inv-loop μ-loop
 loop-holds c =
-    let pre = c .before .before .before .before .before .before .before .before .before .pre in
-    let few = pre .0 .sized .counted .fewCredentials in
-    (omega arith, making-none _ few (pre .1 .1 .0) (pre .1 .1 .1 .0) (pre .1 .0) (pre .1 .1 .1 .1) (c .before .before .before .before .before .clear .ensures))
+    let (wf, (index, (there, (full, unmade)))) = start c .pre in
+    (omega arith, making-none _ wf index there full unmade (c .before .before .before .before .before .clear .ensures))
 
 add-k : tie.Need-add-k Inv-loop μ-loop
 add-k c = search needs
@@ -43,40 +62,50 @@ edge-matches-requires : tie.Need-edge-matches-requires Inv-loop μ-loop
 edge-matches-requires c κs = search needs
 
 shl-find : tie.Need-shl-find Inv-loop μ-loop
-shl-find c = omega (arith, edge-there _ (c .before .before .before .before .before .before .before .before .before .before .before .before .before .before .before .before .pre .0) _ (omega arith) (c .before .before .before .before .edge .ensures) .1 .1)
+shl-find c = omega (arith, in-range (read c) .1 .1)
 
 find-requires : tie.Need-find-requires Inv-loop μ-loop
-find-requires c κs = let m = c .before .before .before .before .before .before .loop .inv .1 in (m .full, omega (arith, m .there, m .few))
+find-requires c κs = making-room (loop (read c) .loop .inv .1)
 
 same-length : tie.Need-same-length Inv-loop μ-loop
-same-length c = c .before .before .before .before .before .before .before .before .loop .inv .1 .full ∙ sym (c .before .before .before .before .before .before .before .before .before .before .before .before .before .before .before .before .before .before .pre .1 .1 .1 .0)
+same-length c =
+    let at = loop (read (c .before .before)) in
+    at .loop .inv .1 .full ∙ sym (start (at .before) .pre .1 .1 .1 .0)
 
 returns : tie.Need-returns Inv-loop μ-loop
-returns c = c .before .before .before .before .before .before .before .before .loop .inv .1 .index
+returns c = loop (read (c .before .before)) .loop .inv .1 .index
 
 put-requires : tie.Need-put-requires Inv-loop μ-loop
 put-requires c κs =
-    let m = c .before .before .before .before .before .before .before .before .before .loop .inv .1 in
-    let there = edge-there _ (c .before .before .before .before .before .before .before .before .before .before .before .before .before .before .before .before .before .before .before .pre .0) _ (omega arith) (c .before .before .before .before .before .before .before .edge .ensures) in
-    ((m .full, omega (arith, m .there, m .few)), (omega (arith, c .before .before .find .ensures .few, c .before .if2 .left), there))
+    let found = c .before .before in
+    let less : found .find .result < mostArcs = omega (arith, found .find .ensures .few, c .before .if2 .left) in
+    let at = read (found .before) in
+    (making-room (loop at .loop .inv .1), (less, in-range at))
 
 loop-less : tie.Need-loop-less Inv-loop μ-loop
 loop-less c = search needs
 
 loop-again : tie.Need-loop-again Inv-loop μ-loop
 loop-again c =
-    let m = c .before .before .before .before .before .before .before .before .before .before .before .before .loop .inv .1 in
-    let there = edge-there _ (c .before .before .before .before .before .before .before .before .before .before .before .before .before .before .before .before .before .before .before .before .before .before .pre .0) _ (omega arith) (c .before .before .before .before .before .before .before .before .before .before .edge .ensures) in
-    let on = sym (c .before .before .before .before .before .before .before .before .before .edge-matches .ensures) ∙ c .before .before .before .before .before .before .before .before .if1 .taken in
-    (omega arith, making-more m _ (c .before .before .before .before .before .before .before .before .before .before .edge .ensures) _ (c .before .before .before .before .if2 .left) (there .0) (one-bit 16 _ (omega arith)) (c .before .before .before .before .before .find .ensures) on (c .before .before .put .ensures))
+    let found = c .before .before .before .before .before in
+    let match = matched (found .before) in
+    let at = read (found .before) in
+    let (own, (from, to)) = in-range at in
+    let on = sym (match .before .edge-matches .ensures) ∙ match .if1 .taken in
+    let room = c .before .before .before .before .if2 .left in (
+      omega arith,
+      making-more (loop at .loop .inv .1) _ (at .edge .ensures) _ room own (one-bit 16 _ (omega (arith, to)))
+          (found .find .ensures) on (c .before .before .put .ensures),
+    )
 
 loop-less-2 : tie.Need-loop-less-2 Inv-loop μ-loop
 loop-less-2 c = search needs
 
 loop-again-2 : tie.Need-loop-again-2 Inv-loop μ-loop
 loop-again-2 c =
+    let at = c .before .before in
     let off = sym (c .before .edge-matches .ensures) ∙ c .if1 .left in
-    (omega arith, making-past (c .before .before .before .before .loop .inv .1) _ (c .before .before .edge .ensures) off)
+    (omega arith, making-past (loop at .loop .inv .1) _ (at .edge .ensures) off)
 
 add-arcs : tie.Need-add-arcs Inv-loop μ-loop
 add-arcs c = search needs
@@ -85,10 +114,10 @@ mul-arcs : tie.Need-mul-arcs Inv-loop μ-loop
 mul-arcs c = search needs
 
 slice-write-arcs : tie.Need-slice-write-arcs Inv-loop μ-loop
-slice-write-arcs c = let m = c .before .loop .inv .1 in omega (arith, m .full, m .there, m .few)
+slice-write-arcs c = let room = making-room (c .before .loop .inv .1) in omega (arith, room .0, room .1)
 
 same-length-2 : tie.Need-same-length-2 Inv-loop μ-loop
-same-length-2 c = making-length (c .before .loop .inv .1) _ ∙ sym (c .before .before .before .before .before .before .before .before .before .before .before .pre .1 .1 .1 .0)
+same-length-2 c = making-length (c .before .loop .inv .1) _ ∙ sym (start (c .before .before) .pre .1 .1 .1 .0)
 
 returns-2 : tie.Need-returns-2 Inv-loop μ-loop
 returns-2 c = making-all _ (c .before .before .before .before .credential .ensures) (c .before .loop .inv .1) (omega arith)

@@ -2,9 +2,9 @@
 use mathlib.Core.Logic.{inl, inr}
 use Prim.Native.Nat.{_-_}
 use native.Mathlib.Omega.{arith}
-use Rattle.automata.specs.Arcs.{mostArcs}
-use Rattle.arcs.proofs.Filling.{Looking, found-here, looking-more, looking-none}
 use borrow.Author.Needs.{needs}
+use Rattle.automata.specs.Arcs.{mostArcs}
+use Rattle.arcs.proofs.Looking.{Looking, found-here, looking-more, looking-none}
 use Rattle.arcs.proofs.find.Statement.{statement}
 use Rattle.arcs.proofs.find.Tie as tie
 

@@ -1,9 +1,20 @@
 -- `arcs::make` meets its contract: a row that has been made stays. Assumes nothing.
+use Prim.Native.Nat.{_<_}
+use lib.ListN.{length}
+use borrow.Author.Needs.{needs}
+use denote.Ref.{now}
+use Rattle.automata.specs.Arcs.{madeCell}
 use Rattle.automata.proofs.Arcs.{index-whole}
 use Rattle.arcs.proofs.Making.{made-cell}
-use borrow.Author.Needs.{needs}
 use Rattle.arcs.proofs.make.Statement.{statement}
 use Rattle.arcs.proofs.make.Tie as tie
+
+-- where there is an index, which has a mark for the row
+abbrev start : tie.Else1 → tie.Start
+start at = at .before .before .before
+
+mark : (at : tie.Else1) → let from = start at .args in madeCell (from .place) < length (now (from .arcs))
+mark at = let (wf, (index, there)) = start at .pre in made-cell wf index there (at .if1 .left)
 
 returns : tie.Need-returns
 returns c = search needs
@@ -15,15 +26,16 @@ mul-if2 : tie.Need-mul-if2
 mul-if2 c = search needs
 
 slice-read-if2 : tie.Need-slice-read-if2
-slice-read-if2 c = made-cell (c .before .before .before .before .pre .0) (c .before .before .before .before .pre .1 .0) (c .before .before .before .before .pre .1 .1) (c .before .if1 .left)
+slice-read-if2 c = mark (c .before)
 
 returns-2 : tie.Need-returns-2
 returns-2 c = search needs
 
 fill-requires : tie.Need-fill-requires
 fill-requires c κs =
-    let pre = c .before .before .before .before .before .before .pre in
-    (pre .0, (pre .1 .0, (pre .1 .1, (index-whole (pre .1 .0) (c .before .before .before .if1 .left), c .before .if2 .left))))
+    let at = c .before .before .before in
+    let (wf, (index, there)) = start at .pre in
+    (wf, (index, (there, (index-whole (index .room) (at .if1 .left), c .before .if2 .left))))
 
 same-length : tie.Need-same-length
 same-length c = search needs

@@ -1,11 +1,23 @@
 -- `arcs::put` meets its contract: two cells change. Assumes nothing.
 use native.Mathlib.Omega.{arith}
-use Rattle.sets.proofs.Members.{one-bit}
-use Rattle.arcs.proofs.Filling.{put-is, put-room}
 use borrow.Author.Needs.{needs}
 use denote.Ref.{now}
+use Rattle.sets.proofs.Members.{one-bit}
+use Rattle.arcs.proofs.Putting.{Fits, put-is, put-room}
 use Rattle.arcs.proofs.put.Statement.{statement}
 use Rattle.arcs.proofs.put.Tie as tie
+
+-- where the two cells are written, and before that where the automaton has been read
+abbrev automaton : tie.After-struct-known2 → tie.After-wide
+automaton at = at .before .before .before
+
+abbrev start : tie.After-struct-known2 → tie.Start
+start at = automaton at .before .before
+
+fits : (at : tie.After-struct-known2) → let from = start at .args in Fits (now (from .arcs)) (from .place) (from .l) (from .edge)
+fits at =
+    let ((size, there), (less, (own, states))) = start at .pre in
+    record { size = size; there = there; less = less; own = own }
 
 mul-at : tie.Need-mul-at
 mul-at c = search needs
@@ -53,15 +65,13 @@ mul-arcs-2 : tie.Need-mul-arcs-2
 mul-arcs-2 c = search needs
 
 slice-write-arcs-2 : tie.Need-slice-write-arcs-2
-slice-write-arcs-2 c =
-    let args = c .before .before .before .before .before .args in
-    put-room (now (args .arcs)) (args .place) (args .l) (args .edge) _ (c .before .before .before .before .before .pre .0 .0) (c .before .before .before .before .before .pre .0 .1) (c .before .before .before .before .before .pre .1 .0) (c .before .before .before .before .before .pre .1 .1 .0) (c .before .before .before .wide .ensures .0)
+slice-write-arcs-2 c = put-room (fits c) _ (automaton c .wide .ensures .0)
 
 same-length : tie.Need-same-length
 same-length c = search needs
 
 returns : tie.Need-returns
-returns c = put-is _ _ _ _ (c .before .before .before .wide .ensures .0) (one-bit 16 _ (omega arith)) (one-bit 16 _ (omega arith))
+returns c = put-is _ _ _ _ (automaton c .wide .ensures .0) (one-bit 16 _ (omega arith)) (one-bit 16 _ (omega arith))
 
 pub put-spec : {M : Type 1} → statement M
 put-spec =

@@ -1,23 +1,32 @@
 -- `automata::StateSets::accepting` meets its contract: the mask has those of the first k automata that accept, by the index's
 -- accepting sets. Assumes nothing.
+use mathlib.Core.Path.{_≡_, refl, _∙_}
 use mathlib.Core.Logic.{⊎-elim}
-use mathlib.Core.Path.{_∙_, _≡_, refl}
 use Prim.Native.Nat.{_-_, _≤_}
 use native.Mathlib.Omega.{arith}
+use lib.ListN.{length}
 use borrow.Author.Needs.{needs}
 use denote.Ref.{now}
 use Rattle.sets.specs.Sets.{setOf}
 use Rattle.sets.proofs.Members.{meets-not, meets-some, set-more, set-not}
 use Rattle.table.specs.Limits.{mostAutomata}
+use Rattle.automata.specs.Arcs.{indexCells}
 use Rattle.automata.proofs.Arcs.{accepting-in, acceptsIn, index-whole}
 use Rattle.automata.proofs.StateSets.accepting.Statement.{statement}
 use Rattle.automata.proofs.StateSets.accepting.Tie as tie
 
 abbrev Inv-loop : tie.InvT-loop
-Inv-loop table arcs self mask₀ k₀ mask k = (k ≤ mostAutomata) × (mask ≡ setOf (acceptsIn table arcs self) k)
+Inv-loop table arcs self mask₀ k₀ mask k = (k ≤ mostAutomata) × (mask ≡ setOf (acceptsIn arcs self) k)
 
 abbrev μ-loop : tie.MeasureT-loop
 μ-loop table arcs self mask₀ k₀ mask k = mostAutomata - k
+
+-- where there is an index
+abbrev start : tie.Else1 Inv-loop μ-loop → tie.Start Inv-loop μ-loop
+start at = at .before .before .before
+
+whole : (at : tie.Else1 Inv-loop μ-loop) → length (now (start at .args .arcs)) ≡ indexCells
+whole at = index-whole (start at .pre .1 .room) (at .if1 .left)
 
 accepting-by-table-requires : tie.Need-accepting-by-table-requires Inv-loop μ-loop
 accepting-by-table-requires c κs = search needs
@@ -39,7 +48,7 @@ mul-if2-2 : tie.Need-mul-if2-2 Inv-loop μ-loop
 mul-if2-2 c = search needs
 
 shared-slice-read-if2 : tie.Need-shared-slice-read-if2 Inv-loop μ-loop
-shared-slice-read-if2 c = omega (arith, index-whole (c .before .before .before .before .before .before .before .pre .1) (c .before .before .before .before .if1 .left))
+shared-slice-read-if2 c = omega (arith, whole (c .before .before .before .before))
 
 with-16-requires : tie.Need-with-16-requires Inv-loop μ-loop
 with-16-requires c κs = search needs
@@ -59,10 +68,9 @@ loop-again c =
 
 returns-2 : tie.Need-returns-2 Inv-loop μ-loop
 returns-2 c =
-    let pre = c .before .before .before .before .before .pre in
-    let whole = index-whole (pre .1) (c .before .before .if1 .left) in
-    let args = c .before .before .before .before .before .args in
-    c .before .loop .inv .1 ∙ accepting-in (now (args .table)) (now (args .arcs)) (args .t1) (pre .0) (pre .1) whole _ (omega arith)
+    let at = c .before .before in
+    let pre = start at .pre in
+    c .before .loop .inv .1 ∙ accepting-in _ (pre .0) (pre .1) (whole at) _ (omega arith)
 
 pub accepting-spec : {M : Type 1} → statement M
 accepting-spec =

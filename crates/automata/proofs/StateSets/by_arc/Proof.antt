@@ -62,10 +62,10 @@ loop-less : tie.Need-loop-less Inv-loop μ-loop
 loop-less c = search needs
 
 loop-again : tie.Need-loop-again Inv-loop μ-loop
-loop-again c = giving-more _ _ _ _ _ _ _ (omega arith) (c .before .before .before .before .loop .inv) (c .given .ensures)
+loop-again c = giving-more (omega arith) (c .before .before .before .before .loop .inv) (c .given .ensures)
 
 returns : tie.Need-returns Inv-loop μ-loop
-returns c = giving-all _ _ _ _ _ _ (omega arith) (search needs) (c .before .loop .inv)
+returns c = giving-all _ (omega arith) (search needs) (c .before .loop .inv)
 
 pub by-arc-spec : {M : Type 1} → statement M
 by-arc-spec =

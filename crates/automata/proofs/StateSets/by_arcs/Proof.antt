@@ -1,10 +1,12 @@
 -- `automata::StateSets::by_arcs` meets its contract: the sets have what the first l arcs give. Assumes nothing.
 use mathlib.Core.Path.{_≡_, _∙_}
-use mathlib.Core.Logic.{inl, inr}
+use mathlib.Core.Logic.{_⊎_, inl, inr}
 use Prim.Native.Nat.{_-_, _≤_}
 use native.Mathlib.Omega.{arith}
+use lib.ListN.{getD}
 use borrow.Author.Needs.{needs}
-use Rattle.automata.specs.Arcs.{ledSets, mostArcs}
+use denote.Ref.{now}
+use Rattle.automata.specs.Arcs.{ledSets, mostArcs, toCell}
 use Rattle.automata.proofs.Arcs.{led-all, led-more, led-none}
 use Rattle.automata.proofs.StateSets.by_arcs.Statement.{statement}
 use Rattle.automata.proofs.StateSets.by_arcs.Tie as tie
@@ -14,6 +16,12 @@ Inv-loop self arcs place next₀ row l₀ next l = (l ≤ mostArcs) × (next ≡
 
 abbrev μ-loop : tie.MeasureT-loop
 μ-loop self arcs place next₀ row l₀ next l = mostArcs - l
+
+-- the row ends after arc l, which is the last or leads nowhere: the other arcs give no more
+ended : (at : tie.At-loop Inv-loop μ-loop) → let from = at .before .before .args in
+    (at .loop .l ≡ mostArcs) ⊎ (getD (now (from .arcs)) (toCell (from .place) (at .loop .l)) 0 ≡ 0)
+    → at .loop .next ≡ ledSets (now (from .arcs)) (from .place) (from .self) mostArcs
+ended at last = at .loop .inv .1 ∙ led-all _ _ _ _ (at .before .before .pre .1) (at .loop .inv .0) last
 
 mul-row : tie.Need-mul-row Inv-loop μ-loop
 mul-row c = search needs
@@ -40,7 +48,7 @@ shared-slice-read-if1 : tie.Need-shared-slice-read-if1 Inv-loop μ-loop
 shared-slice-read-if1 c = search needs
 
 returns : tie.Need-returns Inv-loop μ-loop
-returns c = c .before .before .before .loop .inv .1 ∙ led-all _ _ _ _ (c .before .before .before .before .before .pre .1) (c .before .before .before .loop .inv .0) (inr (c .if1 .taken))
+returns c = ended (c .before .before .before) (inr (c .if1 .taken))
 
 by-arc-requires : tie.Need-by-arc-requires Inv-loop μ-loop
 by-arc-requires c κs = search needs
@@ -55,7 +63,7 @@ loop-again : tie.Need-loop-again Inv-loop μ-loop
 loop-again c = (omega arith, c .by-arc .ensures ∙ led-more _ _ _ _ (c .before .before .before .before .loop .inv .1))
 
 returns-2 : tie.Need-returns-2 Inv-loop μ-loop
-returns-2 c = c .before .loop .inv .1 ∙ led-all _ _ _ _ (c .before .before .before .pre .1) (c .before .loop .inv .0) (inl (omega arith))
+returns-2 c = ended (c .before) (inl (omega arith))
 
 pub by-arcs-spec : {M : Type 1} → statement M
 by-arcs-spec =

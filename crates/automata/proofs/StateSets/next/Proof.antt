@@ -1,28 +1,32 @@
 -- `automata::StateSets::next` meets its contract: a row that has been made has the arcs of the credential's role; else the edges
 -- tell. Assumes nothing.
-use mathlib.Core.Path.{_∙_, sym}
+use mathlib.Core.Path.{_∙_}
 use native.Mathlib.Omega.{arith}
 use borrow.Author.Needs.{needs}
-use borrow.Author.Tests.{eqb-true}
-use Rattle.automata.proofs.Arcs.{made-whole, row-moves}
+use Rattle.automata.proofs.Arcs.{row-made, row-moves}
 use Rattle.automata.proofs.Together.{role-moves}
 use Rattle.automata.proofs.StateSets.next.Statement.{statement}
 use Rattle.automata.proofs.StateSets.next.Tie as tie
+
+-- where the row has been made
+abbrev start : tie.Then1 → tie.Start
+start at = at .before .before .before .before
 
 is-made-requires : tie.Need-is-made-requires
 is-made-requires c κs = search needs
 
 by-arcs-requires : tie.Need-by-arcs-requires
 by-arcs-requires c κs =
-    let pre = c .before .before .before .before .pre in
-    let is = eqb-true _ _ (sym (c .before .is-made .ensures) ∙ c .if1 .taken) in
-    ((made-whole _ (pre .1 .0) is, omega arith), pre .1 .0 .rows _ (pre .1 .1) is .ended)
+    let index = start c .pre .1 in
+    let (whole, row) = row-made _ (index .0) (index .1) (c .before .is-made .ensures) (c .if1 .taken) in
+    ((whole, omega arith), row .ended)
 
 returns : tie.Need-returns
 returns c =
-    let pre = c .before .before .before .before .before .pre in
-    let is = eqb-true _ _ (sym (c .before .before .is-made .ensures) ∙ c .before .if1 .taken) in
-    c .by-arcs .ensures ∙ row-moves _ _ _ _ _ (pre .1 .0 .rows _ (pre .1 .1) is)
+    let at = c .before in
+    let index = start at .pre .1 in
+    let (whole, row) = row-made _ (index .0) (index .1) (at .before .is-made .ensures) (at .if1 .taken) in
+    c .by-arcs .ensures ∙ row-moves _ _ _ _ _ row
 
 add-credential : tie.Need-add-credential
 add-credential c = search needs

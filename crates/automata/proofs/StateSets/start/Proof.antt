@@ -3,7 +3,8 @@
 use Prim.Native.Nat.{_-_, _≤_}
 use native.Mathlib.Omega.{arith}
 use borrow.Author.Needs.{needs}
-use Rattle.automata.proofs.Together.{Started, started-all, started-more, started-none}
+use Rattle.automata.proofs.Together.{Started, started-all}
+use Rattle.automata.proofs.Written.{written-more, written-none}
 use Rattle.automata.proofs.StateSets.start.Statement.{statement}
 use Rattle.automata.proofs.StateSets.start.Tie as tie
 
@@ -17,8 +18,7 @@ automata-requires : tie.Need-automata-requires Inv-loop μ-loop
 automata-requires c κs = search needs
 
 loop-holds : tie.Need-loop-holds Inv-loop μ-loop
-loop-holds c =
-    (omega arith, started-none _)
+loop-holds c = (omega arith, written-none _ _)
 
 add-automaton : tie.Need-add-automaton Inv-loop μ-loop
 add-automaton c = search needs
@@ -41,7 +41,7 @@ loop-less c = search needs
 loop-again : tie.Need-loop-again Inv-loop μ-loop
 loop-again c =
     let (in-range, so-far) = c .before .before .loop .inv in
-    rw (c .automaton .ensures) (omega arith, started-more _ _ _ (omega arith) so-far)
+    (omega arith, written-more _ _ so-far (omega arith) (rw (c .automaton .ensures)))
 
 returns : tie.Need-returns Inv-loop μ-loop
 returns c = started-all _ _ _ (omega arith) (c .before .loop .inv .1)
