@@ -86,8 +86,8 @@ impl StateSets {
         }
     }
 
-    // Every automaton's set moved along the role that credential `place` + 1 defines: by its arcs where its row has been made, else
-    // by the edges.
+    // Every automaton's set moved along the role that credential `place` + 1 defines: by its arcs where its row has been made,
+    // else by the edges.
     fn next(self, table: &[Number], arcs: &[StateSet], place: usize) -> StateSets
         requires { ⌜ WellFormed (now table) ⌝ }
         requires { ⌜ Arcs (now table) (now arcs) ⌝ }

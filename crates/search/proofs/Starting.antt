@@ -8,20 +8,29 @@ use lib.ListN.{getD}
 use borrow.Author.Tests.{lt-ltb}
 use Rattle.sets.proofs.Tests.{and-both, and-second, failed, passed}
 use Rattle.table.specs.Layout.{credentials, principal}
+use Rattle.table.specs.Holding.{WellFormed}
+use Rattle.table.specs.Checks.{Valid}
 use Rattle.table.specs.declared.Query.{Query}
+use Rattle.automata.specs.Arcs.{Arcs}
 use Rattle.automata.specs.Together.{startingSets}
 use Rattle.automata.specs.declared.StateSets.{StateSets}
 use Rattle.derivation.specs.Rules.{goal, goalOf}
 use Rattle.derivation.proofs.Above.{depth-fits}
 use Rattle.members.specs.Places.{personAt, roleAt}
 use Rattle.members.specs.Above.{nothingAbove}
-use Rattle.members.specs.Members.{Members, goalPerson, goalRole, listed}
+use Rattle.members.specs.Members.{Aimed, Indexed, Members, goalPerson, goalRole, listed}
 use Rattle.members.proofs.Places.{person-is, person-stands}
 use Rattle.search.specs.Search.{Prepared, Searched, Stands, proves, provable, provesAt}
 use Rattle.search.specs.Failing.{mayBeProved}
 use Rattle.search.proofs.Below.{goal-unlisted}
 use Rattle.search.proofs.Exact.{members-exact}
 use Rattle.search.proofs.Placing.{proves-at, stands-at, unnamed-unproved}
+
+-- with the indexes of an accepted table and a valid query a search may be asked
+pub prepared-by : {t : List ℕ} {q : Query} {index arcs : List ℕ} → WellFormed t × Valid q → Indexed t index × Aimed t q index
+    → Arcs t arcs → Prepared t q index arcs
+prepared-by (wf, valid) (indexed, aimed) moving =
+    record { wellFormed = wf; valid = valid; indexed = indexed; aimed = aimed; moving = moving }
 
 -- the search may be asked with the members within the query's depth
 pub goal-searched : {t : List ℕ} {q : Query} {index arcs : List ℕ} → Prepared t q index arcs → {S depth last : ℕ} {rows : List ℕ}

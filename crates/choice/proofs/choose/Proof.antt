@@ -1,6 +1,6 @@
 -- `choice::choose` meets its contract: the node of the least credential, with the least middle where it is of kind 3. Assumes
 -- nothing.
-use mathlib.Core.Path.{_≡_, sym, ap, _∙_}
+use mathlib.Core.Path.{sym, ap, _∙_}
 use native.Mathlib.Numerals.{add-one}
 use native.Mathlib.Omega.{arith}
 use Rattle.table.specs.declared.Credential.{Credential}

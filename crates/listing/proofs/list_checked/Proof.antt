@@ -6,11 +6,22 @@ use lib.ListN.{length-take}
 use Rattle.sets.proofs.Tests.{failed, passed}
 use Rattle.table.specs.Checks.{numberOf}
 use Rattle.automata.proofs.Arcs.{no-arcs}
+use Rattle.search.proofs.Starting.{prepared-by}
 use Rattle.relevance.proofs.Narrowing.{relevant-admits}
 use Rattle.listing.proofs.Whole.{none-told, start-none, told-instead}
 use borrow.Author.Needs.{needs}
 use Rattle.listing.proofs.list_checked.Statement.{statement}
 use Rattle.listing.proofs.list_checked.Tie as tie
+
+-- where the query was asked, where its index is made, and where what bears on it is found and admitted
+abbrev indexed : tie.After-relevant → tie.After-index
+indexed at = at .before .before
+
+abbrev start : tie.After-relevant → tie.Start
+start at = indexed at .before .before .before
+
+abbrev bearing : tie.Else1 → tie.After-relevant
+bearing at = at .before .before .before .before
 
 index-requires : tie.Need-index-requires
 index-requires c κs = search needs
@@ -29,13 +40,8 @@ slice-aggregate-admits-2 c = search needs
 
 admits-requires : tie.Need-admits-requires
 admits-requires c κs =
-    record {
-      wellFormed = c .before .before .before .before .before .before .before .pre .0;
-      valid = c .before .before .before .before .before .before .before .pre .1;
-      indexed = c .before .before .before .before .index .ensures .0;
-      aimed = c .before .before .before .before .index .ensures .1;
-      moving = no-arcs _ _ (simp length-take (omega arith));
-    }
+    let at = c .before .before in
+    prepared-by (start at .pre) (indexed at .index .ensures) (no-arcs _ _ (simp length-take (omega arith)))
 
 refused-requires : tie.Need-refused-requires
 refused-requires c κs = search needs
@@ -43,11 +49,12 @@ refused-requires c κs = search needs
 returns : tie.Need-returns
 unfolding numberOf
 returns c =
-    let relevant = c .before .before .before .before .before .relevant .ensures in
-    let bears = relevant-admits _ (c .before .before .before .before .before .before .before .before .before .before .pre .0) _ _ relevant in
+    let at = c .before .before .before .before .before in
+    let relevant = at .relevant .ensures in
+    let bears = relevant-admits _ (start at .pre .0) _ _ relevant in
     let unproved = failed (c .before .before .admits .ensures) (c .before .if1 .taken) in
     told-instead (c .refused .ensures)
-    (none-told _ _ _ _ _ (start-none _ _ _ (relevant .fits) bears (c .before .before .before .before .before .before .before .before .before .before .pre .0) unproved _) refl)
+    (none-told _ _ _ _ _ (start-none _ _ _ (relevant .fits) bears (start at .pre .0) unproved _) refl)
 
 automata-of-requires : tie.Need-automata-of-requires
 automata-of-requires c κs = search needs
@@ -59,16 +66,12 @@ slice-aggregate-list-over-2 : tie.Need-slice-aggregate-list-over-2
 slice-aggregate-list-over-2 c = search needs
 
 list-over-requires : tie.Need-list-over-requires
-list-over-requires c κs = (
-  record {
-    wellFormed = c .before .before .before .before .before .before .before .before .before .before .before .before .before .before .pre .0;
-    valid = c .before .before .before .before .before .before .before .before .before .before .before .before .before .before .pre .1;
-    indexed = c .before .before .before .before .before .before .before .before .before .before .before .index .ensures .0;
-    aimed = c .before .before .before .before .before .before .before .before .before .before .before .index .ensures .1;
-    moving = no-arcs _ _ (simp length-take (omega arith));
-  },
-  (c .before .before .before .before .before .before .before .before .before .relevant .ensures, passed (c .before .before .before .before .before .before .admits .ensures) (c .before .before .before .before .before .if1 .left)),
-)
+list-over-requires c κs =
+    let admitted = c .before .before .before .before .before in
+    let at = bearing admitted in (
+      prepared-by (start at .pre) (indexed at .index .ensures) (no-arcs _ _ (simp length-take (omega arith))),
+      (at .relevant .ensures, passed (admitted .before .admits .ensures) (admitted .if1 .left)),
+    )
 
 same-length : tie.Need-same-length
 same-length c = search needs
@@ -92,16 +95,13 @@ slice-aggregate-list-over-4 : tie.Need-slice-aggregate-list-over-4
 slice-aggregate-list-over-4 c = search needs
 
 list-over-requires-2 : tie.Need-list-over-requires-2
-list-over-requires-2 c κs = (
-  record {
-    wellFormed = c .before .before .before .before .before .before .before .before .before .before .before .before .before .before .before .before .before .before .pre .0;
-    valid = c .before .before .before .before .before .before .before .before .before .before .before .before .before .before .before .before .before .before .pre .1;
-    indexed = c .before .before .before .before .before .before .before .before .before .before .before .before .before .before .before .index .ensures .0;
-    aimed = c .before .before .before .before .before .before .before .before .before .before .before .before .before .before .before .index .ensures .1;
-    moving = c .before .before .before .before .make-arcs .ensures;
-  },
-  (c .before .before .before .before .before .before .before .before .before .before .before .before .before .relevant .ensures, passed (c .before .before .before .before .before .before .before .before .before .before .admits .ensures) (c .before .before .before .before .before .before .before .before .before .if1 .left)),
-)
+list-over-requires-2 c κs =
+    let made = c .before .before .before .before in
+    let admitted = made .before .before .before .before .before in
+    let at = bearing admitted in (
+      prepared-by (start at .pre) (indexed at .index .ensures) (made .make-arcs .ensures),
+      (at .relevant .ensures, passed (admitted .before .admits .ensures) (admitted .if1 .left)),
+    )
 
 same-length-2 : tie.Need-same-length-2
 same-length-2 c = search needs

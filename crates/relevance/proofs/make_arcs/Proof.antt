@@ -33,8 +33,9 @@ role-cell-requires c κs = search needs
 
 make-requires : tie.Need-make-requires Inv-loop μ-loop
 make-requires c κs =
-    let pre = c .before .before .before .before .before .before .before .before .before .before .before .before .before .before .pre in
-    (pre .0, (c .before .before .before .before .before .loop .inv .1 .0, own-place (pre .1 .0) (omega arith) (c .role-cell .ensures)))
+    let at = c .before .before .before .before .before in
+    let pre = at .before .before .before .before .before .before .before .before .before .pre in
+    (pre .0, (at .loop .inv .1 .0, own-place (pre .1 .0) (omega arith) (c .role-cell .ensures)))
 
 add-i : tie.Need-add-i Inv-loop μ-loop
 add-i c = search needs

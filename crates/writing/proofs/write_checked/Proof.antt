@@ -3,9 +3,14 @@
 use native.Mathlib.Omega.{arith}
 use lib.ListN.{length-take}
 use Rattle.automata.proofs.Arcs.{no-arcs}
+use Rattle.search.proofs.Starting.{prepared-by}
 use borrow.Author.Needs.{needs}
 use Rattle.writing.proofs.write_checked.Statement.{statement}
 use Rattle.writing.proofs.write_checked.Tie as tie
+
+-- where the record was asked for
+abbrev start : tie.After-index → tie.Start
+start at = at .before .before .before
 
 index-requires : tie.Need-index-requires
 index-requires c κs = search needs
@@ -21,13 +26,8 @@ slice-aggregate-write-over-2 c = search needs
 
 write-over-requires : tie.Need-write-over-requires
 write-over-requires c κs =
-    record {
-      wellFormed = c .before .before .before .before .before .before .before .before .pre .0;
-      valid = c .before .before .before .before .before .before .before .before .pre .1;
-      indexed = c .before .before .before .before .before .index .ensures .0;
-      aimed = c .before .before .before .before .before .index .ensures .1;
-      moving = no-arcs _ _ (simp length-take (omega arith));
-    }
+    let index = c .before .before .before .before .before in
+    prepared-by (start index .pre) (index .index .ensures) (no-arcs _ _ (simp length-take (omega arith)))
 
 same-length : tie.Need-same-length
 same-length c = search needs
@@ -52,13 +52,9 @@ slice-aggregate-write-over-4 c = search needs
 
 write-over-requires-2 : tie.Need-write-over-requires-2
 write-over-requires-2 c κs =
-    record {
-      wellFormed = c .before .before .before .before .before .before .before .before .before .before .before .before .pre .0;
-      valid = c .before .before .before .before .before .before .before .before .before .before .before .before .pre .1;
-      indexed = c .before .before .before .before .before .before .before .before .before .index .ensures .0;
-      aimed = c .before .before .before .before .before .before .before .before .before .index .ensures .1;
-      moving = c .before .before .before .before .make-arcs .ensures;
-    }
+    let made = c .before .before .before .before in
+    let index = made .before .before .before .before .before in
+    prepared-by (start index .pre) (index .index .ensures) (made .make-arcs .ensures)
 
 same-length-2 : tie.Need-same-length-2
 same-length-2 c = search needs

@@ -1,6 +1,6 @@
 -- `choice::middles::least_middle` meets its contract: every middle with which the credential proves its goal is among those
 -- that are left, so that the last one left is one. Assumes nothing.
-use mathlib.Core.Path.{_≡_, sym, _∙_}
+use mathlib.Core.Path.{sym, _∙_}
 use native.Mathlib.Omega.{arith}
 use Rattle.sets.proofs.Members.{one-bit}
 use Rattle.search.proofs.Placing.{row-fits}
