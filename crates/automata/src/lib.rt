@@ -221,7 +221,10 @@ impl StateSets {
         ensures { λ r. ⌜ r ≡ Automata.leads (edge .automaton) role (setFor self (edge .automaton)) edge ⌝ }
     {
         let at = layout::wide(edge.automaton) - 1;
-        sets::has_16(self.sets[at], layout::wide(edge.from)) && edge_matches(edge, role)
+        if self.sets[at] & (1 << edge.from) == 0 {
+            return false;
+        }
+        edge_matches(edge, role)
     }
 }
 

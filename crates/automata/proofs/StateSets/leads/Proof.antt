@@ -1,7 +1,9 @@
--- `automata::StateSets::leads` meets its contract: the edge leads on where its state is in the set and its label matches.
--- Assumes nothing.
-use mathlib.Core.Path.{_∙_, sym}
+-- `automata::StateSets::leads` meets its contract: the edge leads on where the set meets the mask of its from state and its label
+-- matches. Assumes nothing.
+use mathlib.Core.Path.{_∙_}
+use native.Mathlib.Omega.{arith}
 use borrow.Author.Needs.{needs}
+use Rattle.sets.proofs.Members.{one-bit}
 use Rattle.automata.proofs.Labels.{leads-inside, leads-outside}
 use Rattle.automata.proofs.StateSets.leads.Statement.{statement}
 use Rattle.automata.proofs.StateSets.leads.Tie as tie
@@ -12,34 +14,28 @@ wide-requires c κs = search needs
 sub-at : tie.Need-sub-at
 sub-at c = search needs
 
-mul-has-16 : tie.Need-mul-has-16
-mul-has-16 c = search needs
+mul-if1 : tie.Need-mul-if1
+mul-if1 c = search needs
 
-element-copy-out-has-16 : tie.Need-element-copy-out-has-16
-element-copy-out-has-16 c = search needs
+element-copy-out-if1 : tie.Need-element-copy-out-if1
+element-copy-out-if1 c = search needs
 
-wide-requires-2 : tie.Need-wide-requires-2
-wide-requires-2 c κs = search needs
+shl-if1 : tie.Need-shl-if1
+shl-if1 c = search needs
 
-has-16-requires : tie.Need-has-16-requires
-has-16-requires c κs = search needs
+returns : tie.Need-returns
+returns c =
+    let args = c .before .before .before .before .args in
+    leads-outside (args .t1) _ (args .edge) (c .before .before .before .wide .ensures .0) (one-bit 16 _ (omega (arith, c .before .before .before .before .pre .1))) (c .if1 .taken)
 
 edge-matches-requires : tie.Need-edge-matches-requires
 edge-matches-requires c κs = search needs
 
-returns : tie.Need-returns
-returns c =
-    let args = c .before .before .before .before .before .before .args in
-    let automaton = c .before .before .before .before .before .wide .ensures .0 in
-    let member = sym (c .before .before .has-16 .ensures) ∙ c .before .if1 .taken in
-    c .edge-matches .ensures ∙ leads-inside (args .t1) _ (args .edge) automaton (c .before .before .before .wide2 .ensures .0) member
-
 returns-2 : tie.Need-returns-2
 returns-2 c =
     let args = c .before .before .before .before .before .args in
-    let automaton = c .before .before .before .before .wide .ensures .0 in
-    let outside = sym (c .before .has-16 .ensures) ∙ c .if1 .left in
-    c .if1 .left ∙ leads-outside (args .t1) _ (args .edge) automaton (c .before .before .wide2 .ensures .0) outside
+    c .edge-matches .ensures
+    ∙ leads-inside (args .t1) _ (args .edge) (c .before .before .before .before .wide .ensures .0) (one-bit 16 _ (omega (arith, c .before .before .before .before .before .pre .1))) (c .before .if1 .left)
 
 pub leads-spec : {M : Type 1} → statement M
 leads-spec =
@@ -47,10 +43,9 @@ leads-spec =
     (tie.spec
     wide-requires
     sub-at
-    mul-has-16
-    element-copy-out-has-16
-    wide-requires-2
-    has-16-requires
-    edge-matches-requires
+    mul-if1
+    element-copy-out-if1
+    shl-if1
     returns
+    edge-matches-requires
     returns-2)
