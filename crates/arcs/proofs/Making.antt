@@ -3,7 +3,7 @@
 use mathlib.Core.Path.{_≡_, _∙_}
 use mathlib.Core.List.{List}
 use mathlib.Core.Bool.{true, false}
-use Prim.Native.Nat.{ℕ, _+_, _^_, _<_, _≤_}
+use Prim.Native.Nat.{ℕ, _+_, _-_, _^_, _<_, _≤_}
 use native.Mathlib.Omega.{arith}
 use native.Mathlib.Numerals.{add-one}
 use lib.ListN.{getD, length, set, length-set}
@@ -95,7 +95,7 @@ made-cell wf index there some = omega (arith, index-whole (index .room) some, wf
 
 -- to count how often a row was asked for does not make it
 pub asked-again : {t : List ℕ} {p asked : ℕ} {arcs : List ℕ} → WellFormed t → Arcs t arcs → p < credentials t
-    → (length arcs ≡ 0 → ⊥) → asked < 2 → Arcs t (set arcs (madeCell p) (asked + 1))
+    → (length arcs ≡ 0 → ⊥) → asked < made - 1 → Arcs t (set arcs (madeCell p) (asked + 1))
 asked-again {p = p} {asked = asked} wf index there some few =
     arcs-marked p (asked + 1) index (index-whole (index .room) some) there (wf .sized .counted .fewCredentials)
     (λ is. absurd (omega (arith, few, is)))

@@ -36,8 +36,8 @@ pub fn begin(table: &[Number], arcs: &mut [StateSet])
     }
 }
 
-// Asks for the row of credential `place` + 1. It is made when it is asked for the third time: where a role is met once or twice,
-// its edges are tested sooner than its arcs are made.
+// Asks for the row of credential `place` + 1. It is made when it is asked for the eighth time: where a role is met a few times, its
+// edges are tested sooner than its arcs are made.
 pub fn ask(table: &[Number], arcs: &mut [StateSet], place: usize)
     requires { ⌜ WellFormed (now table) ⌝ }
     requires { ⌜ Arcs (now table) (now arcs) ⌝ }

@@ -53,7 +53,7 @@ toCell p l = fromCell p l mostAutomata
 
 -- the mark of a row that has been made; what is less counts how often it was asked for before
 abbrev pub made : ℕ
-made = 3
+made = 8
 
 -- what the first n arcs of the row give for automaton k + 1 from the set x: `set & from != 0` gives `to`
 unfoldable pub led : List ℕ → ℕ → ℕ → ℕ → ℕ → ℕ

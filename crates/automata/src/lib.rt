@@ -41,7 +41,7 @@ pub const FIRST_ROW: usize = FIRST_MADE + layout::MOST_CREDENTIALS as usize;
 pub const INDEX_CELLS: usize = FIRST_ROW + ROW_CELLS * layout::MOST_CREDENTIALS as usize;
 
 // The mark of a row that has been made.
-pub const MADE: StateSet = 3;
+pub const MADE: StateSet = 8;
 
 // The state set of automaton k stands at k - 1; an automaton that is not there has the empty set.
 pub struct StateSets {
