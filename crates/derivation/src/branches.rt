@@ -69,7 +69,7 @@ impl Branch {
     }
 }
 
-// The same pair of principal and role. On a branch the names of roles differ most, so they are compared first.
+// The same pair of principal and role. Kinds 2 and 4 ask of the same principal, so names are compared first.
 fn same_goal(one: Goal, other: Goal) -> bool
     ensures { λ r. ⌜ r ≡ sameGoal one other ⌝ }
 {
