@@ -1,5 +1,5 @@
 -- Edge by edge: how the arcs of a row come to move every set as the edges do.
-use mathlib.Core.Path.{_≡_, sym, ap, _∙_}
+use mathlib.Core.Path.{_≡_, refl, sym, ap, _∙_}
 use mathlib.Core.List.{List}
 use mathlib.Core.Bool.{true, false}
 use mathlib.Core.Logic.{_⊎_, inl, inr, ⊎-elim}
@@ -22,7 +22,7 @@ use Rattle.automata.specs.Automata.{leads, matches, moved, movedBy}
 use Rattle.automata.specs.Arcs.{Ended, Row, arcCells, fromCell, led, mostArcs, toCell}
 use Rattle.automata.proofs.Arcs.{led-ended}
 use Rattle.automata.proofs.Moves.{leadsTo, moved-next}
-use Rattle.arcs.specs.Filling.{Cleared, Filling, Found, arcWith}
+use Rattle.arcs.specs.Filling.{Cleared, Filling, Found, MaskOf, arcWith}
 use Rattle.arcs.proofs.Cells.{arc-in-row}
 use Rattle.arcs.proofs.Putting.{Fits, arc-kept, to-changed}
 use Rattle.arcs.proofs.Reaching.{edgeReaches, led-changed}
@@ -44,6 +44,8 @@ module _ {p : ℕ} {before after : List ℕ} (c : Cleared p before after) where
             sym (led-ended after p k x 0 mostArcs blank-ended (omega arith) (omega arith) none);
         ended = blank-ended;
         bare = λ l k few less none. blank-cell l k few (omega arith);
+        named = λ l less some. absurd (some (blank-cell l mostAutomata less (omega arith)));
+        apart = λ l m less few some same. absurd (some (blank-cell l mostAutomata less (omega arith)));
       }
 
 -- an edge that matches the role leads on where its `from` state is in the set
@@ -63,7 +65,13 @@ module _ {t : List ℕ} {r : Role} {arcs : List ℕ} {p n : ℕ} (f : Filling t 
 
   pub filling-past : matches e r ≡ false → Filling t r arcs p (n + 1)
   filling-past off =
-      record { moves = λ k x less. f .moves k x less ∙ moves-past off (suc k) x; ended = f .ended; bare = f .bare }
+      record {
+        moves = λ k x less. f .moves k x less ∙ moves-past off (suc k) x;
+        ended = f .ended;
+        bare = f .bare;
+        named = f .named;
+        apart = f .apart;
+      }
 
   -- it matches, and goes into the arc that has been found
   module _ (l : ℕ) (fits : Fits arcs p l e) (found : Found arcs p (2 ^ (e .to)) l) (on : matches e r ≡ true) where
@@ -90,6 +98,40 @@ module _ {t : List ℕ} {r : Role} {arcs : List ℕ} {p n : ℕ} (f : Filling t 
     behind m none apart (yes before) = absurd (found .passed m before none)
     behind m none apart (no not-before) = omega arith
 
+    -- no other arc leads to the edge's `to` state
+    alone : (m : ℕ) → m < mostArcs → getD arcs (toCell p m) 0 ≡ 2 ^ (e .to) → m ≡ l
+    alone m few is = ⊎-elim there nowhere-yet (found .here (fits .less))
+      where
+        there : getD arcs (toCell p l) 0 ≡ 2 ^ (e .to) → m ≡ l
+        there same = f .apart m l few (fits .less) (λ none. omega (arith, pow-pos (e .to), sym is ∙ none)) (is ∙ sym same)
+
+        side : Dec (m < l) → (m < l) ⊎ (l ≤ m)
+        side (yes before) = inl before
+        side (no not-before) = inr (omega arith)
+
+        nowhere-yet : getD arcs (toCell p l) 0 ≡ 0 → m ≡ l
+        nowhere-yet none = ⊎-elim
+            (λ before. absurd (found .others m before is))
+            (λ behind. absurd (omega (arith, pow-pos (e .to), sym is ∙ f .ended l m behind few none)))
+            (side (decLt m l))
+
+    to-now : (m : ℕ) → (m ≡ l → ⊥) → getD more (toCell p m) 0 ≡ getD arcs (toCell p m) 0
+    to-now m apart = arc-kept fits m mostAutomata (omega arith) apart
+
+    named-now : (m : ℕ) → m < mostArcs → (getD more (toCell p m) 0 ≡ 0 → ⊥) → Dec (m ≡ l) → MaskOf mostArcs (getD more (toCell p m) 0)
+    named-now m few some (yes same) = rw (same, to-changed fits) (e .to, (fits .state, refl))
+    named-now m few some (no apart) = rw (to-now m apart) (f .named m few (λ none. some (to-now m apart ∙ none)))
+
+    apart-now : (m o : ℕ) → m < mostArcs → o < mostArcs → (getD more (toCell p m) 0 ≡ 0 → ⊥)
+        → getD more (toCell p m) 0 ≡ getD more (toCell p o) 0 → Dec (m ≡ l) → Dec (o ≡ l) → m ≡ o
+    apart-now m o few small some same (yes own) (yes too) = own ∙ sym too
+    apart-now m o few small some same (yes own) (no other) =
+        own ∙ sym (alone o small (sym (to-now o other) ∙ sym same ∙ rw own (to-changed fits)))
+    apart-now m o few small some same (no one) (yes too) =
+        alone m few (sym (to-now m one) ∙ same ∙ rw too (to-changed fits)) ∙ sym too
+    apart-now m o few small some same (no one) (no other) =
+        f .apart m o few small (λ none. some (to-now m one ∙ none)) (sym (to-now m one) ∙ same ∙ to-now o other)
+
     pub filling-more : Filling t r more p (n + 1)
     filling-more =
         record {
@@ -104,6 +146,8 @@ module _ {t : List ℕ} {r : Role} {arcs : List ℕ} {p n : ℕ} (f : Filling t 
           bare = λ m k few small none.
               let (old, apart) = nowhere m none in
               arc-kept fits m k (omega arith) apart ∙ f .bare m k few small old;
+          named = λ m few some. named-now m few some (ℕ-discrete m l);
+          apart = λ m o few small some same. apart-now m o few small some same (ℕ-discrete m l) (ℕ-discrete o l);
         }
 
 -- all edges have been taken

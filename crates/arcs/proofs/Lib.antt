@@ -2,6 +2,7 @@
 pub mod Beginning
 pub mod Cells
 pub mod Clearing
+pub mod Crowding
 pub mod Filling
 pub mod Looking
 pub mod Making
@@ -9,3 +10,4 @@ pub mod Marking
 pub mod Meeting
 pub mod Putting
 pub mod Reaching
+pub mod Rooms

@@ -1,4 +1,4 @@
--- The loop that looks for an arc: none of the first l leads nowhere.
+-- The loop that looks for an arc: none of the first l leads nowhere, nor to the state.
 use mathlib.Core.Path.{_≡_, sym}
 use mathlib.Core.List.{List}
 use mathlib.Core.Logic.{_⊎_}
@@ -9,22 +9,33 @@ use lib.ListN.{getD}
 use Rattle.automata.specs.Arcs.{mostArcs, toCell}
 use Rattle.arcs.specs.Filling.{Found}
 
-pub record Looking (arcs : List ℕ) (p l : ℕ) : Type 0 where
+pub record Looking (arcs : List ℕ) (p to l : ℕ) : Type 0 where
   pub few : l ≤ mostArcs
   pub passed : (m : ℕ) → m < l → getD arcs (toCell p m) 0 ≡ 0 → ⊥
+  pub others : (m : ℕ) → m < l → getD arcs (toCell p m) 0 ≡ to → ⊥
 
-pub looking-none : (arcs : List ℕ) (p : ℕ) → Looking arcs p 0
-looking-none arcs p = record { few = omega arith; passed = λ m less none. absurd (omega arith) }
+pub looking-none : (arcs : List ℕ) (p to : ℕ) → Looking arcs p to 0
+looking-none arcs p to =
+    record { few = omega arith; passed = λ m less none. absurd (omega arith); others = λ m less is. absurd (omega arith) }
 
-pub looking-more : (arcs : List ℕ) (p l : ℕ) → Looking arcs p l → l < mostArcs → (getD arcs (toCell p l) 0 ≡ 0 → ⊥)
-    → Looking arcs p (l + 1)
-looking-more arcs p l k less some =
-    record { few = omega arith; passed = λ m below none. split m below none (ℕ-discrete m l) }
+-- one arc more has neither
+one-more : (arcs : List ℕ) (p l x : ℕ) → (getD arcs (toCell p l) 0 ≡ x → ⊥) → ((m : ℕ) → m < l → getD arcs (toCell p m) 0 ≡ x → ⊥)
+    → (m : ℕ) → m < l + 1 → getD arcs (toCell p m) 0 ≡ x → ⊥
+one-more arcs p l x here before m below is = split (ℕ-discrete m l)
   where
-    split : (m : ℕ) → m < l + 1 → getD arcs (toCell p m) 0 ≡ 0 → Dec (m ≡ l) → ⊥
-    split m below none (yes same) = some (rw (sym same) none)
-    split m below none (no apart) = k .passed m (omega arith) none
+    split : Dec (m ≡ l) → ⊥
+    split (yes same) = here (rw (sym same) is)
+    split (no apart) = before m (omega arith) is
 
-pub found-here : {arcs : List ℕ} {p to l : ℕ} → Looking arcs p l
+pub looking-more : (arcs : List ℕ) (p to l : ℕ) → Looking arcs p to l → l < mostArcs → (getD arcs (toCell p l) 0 ≡ to → ⊥)
+    → (getD arcs (toCell p l) 0 ≡ 0 → ⊥) → Looking arcs p to (l + 1)
+looking-more arcs p to l k less other some =
+    record {
+      few = omega arith;
+      passed = one-more arcs p l 0 some (k .passed);
+      others = one-more arcs p l to other (k .others);
+    }
+
+pub found-here : {arcs : List ℕ} {p to l : ℕ} → Looking arcs p to l
     → (l < mostArcs → (getD arcs (toCell p l) 0 ≡ to) ⊎ (getD arcs (toCell p l) 0 ≡ 0)) → Found arcs p to l
-found-here k is = record { few = k .few; passed = k .passed; here = is }
+found-here k is = record { few = k .few; passed = k .passed; others = k .others; here = is }

@@ -47,7 +47,7 @@ module _ {p : ℕ} {before after : List ℕ} (e : Elsewhere p before after) wher
       side (yes below) = inl (omega arith)
       side (no above) = inr (omega arith)
 
-  head-same : (x : ℕ) → x < firstRow → getD after x 0 ≡ getD before x 0
+  pub head-same : (x : ℕ) → x < firstRow → getD after x 0 ≡ getD before x 0
   head-same x less = e .others x (inl (omega arith))
 
   pub arcs-elsewhere : {t : List ℕ} → credentials t ≤ mostCredentials → Arcs t before → (getD before (madeCell p) 0 ≡ made → ⊥)
@@ -63,9 +63,6 @@ module _ {p : ℕ} {before after : List ℕ} (e : Elsewhere p before after) wher
           → Row t (credential t (suc q) .role) after q
       rows q there is (yes own) = absurd (unmade (rw (sym own) is))
       rows q there is (no other) = row-same q before after (other-row q other) (a .rows q there is)
-
-  pub still-unmade : (getD before (madeCell p) 0 ≡ made → ⊥) → p < mostCredentials → getD after (madeCell p) 0 ≡ made → ⊥
-  still-unmade unmade few is = unmade (sym (head-same (madeCell p) (omega arith)) ∙ is)
 
 -- the mark of that row has changed
 pub arcs-marked : {t : List ℕ} {arcs : List ℕ} (p v : ℕ) → Arcs t arcs → length arcs ≡ indexCells → p < credentials t

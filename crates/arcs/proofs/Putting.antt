@@ -13,12 +13,13 @@ use Rattle.automata.specs.Arcs.{fromCell, indexCells, mostArcs, toCell}
 use Rattle.arcs.specs.Filling.{Elsewhere, arcWith}
 use Rattle.arcs.proofs.Cells.{arc-in-row, outside-row}
 
--- arc l is one of the row's, and the edge's automaton one of the eight
+-- arc l is one of the row's, and the edge's automaton and `to` state are of those that there may be
 pub record Fits (arcs : List ℕ) (p l : ℕ) (e : Edge) : Type 0 where
   pub size : length arcs ≡ indexCells
   pub there : p < mostCredentials
   pub less : l < mostArcs
   pub own : Numbered mostAutomata (e .automaton)
+  pub state : e .to < mostArcs
 
 -- the cell of the edge's automaton
 abbrev pub ownCell : ℕ → ℕ → Edge → ℕ

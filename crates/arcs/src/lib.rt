@@ -19,7 +19,7 @@ ghost use Rattle.table.specs.Limits.{lastState, mostAutomata, mostCredentials};
 ghost use Rattle.table.specs.Layout.{Numbered, credentials};
 ghost use Rattle.table.specs.Holding.{WellFormed};
 ghost use Rattle.automata.specs.Arcs.{Arcs, indexCells, made, madeCell, mostArcs};
-ghost use Rattle.arcs.specs.Filling.{Cleared, Found, arcWith};
+ghost use Rattle.arcs.specs.Filling.{Cleared, Found, RowMade, arcWith};
 
 // Begins an index: the accepting sets, and no row.
 pub fn begin(table: &[Number], arcs: &mut [StateSet])
@@ -63,25 +63,23 @@ pub fn make(table: &[Number], arcs: &mut [StateSet], place: usize)
     requires { ⌜ WellFormed (now table) ⌝ }
     requires { ⌜ Arcs (now table) (now arcs) ⌝ }
     requires { ⌜ place < credentials (now table) ⌝ }
-    ensures { λ r. ⌜ Arcs (now (table .entry)) (now (arcs .exit)) ⌝ }
+    requires { ⌜ length (now arcs) ≡ indexCells ⌝ }
+    ensures { λ r. ⌜ Arcs (now (table .entry)) (now (arcs .exit)) × RowMade place (now (arcs .entry)) (now (arcs .exit)) ⌝ }
 {
-    if arcs.len() == 0 {
-        return;
-    }
     if arcs[FIRST_MADE + place] == MADE {
         return;
     }
     fill(table, arcs, place);
 }
 
-// Makes a row, edge by edge. Sixteen arcs are enough; were they not, the row would stay unmade.
+// Makes a row, edge by edge. Sixteen states have no more than sixteen arcs, so there is room for each.
 fn fill(table: &[Number], arcs: &mut [StateSet], place: usize)
     requires { ⌜ WellFormed (now table) ⌝ }
     requires { ⌜ Arcs (now table) (now arcs) ⌝ }
     requires { ⌜ place < credentials (now table) ⌝ }
     requires { ⌜ length (now arcs) ≡ indexCells ⌝ }
     requires { ⌜ (getD (now arcs) (madeCell place) 0 ≡ made → ⊥) ⌝ }
-    ensures { λ r. ⌜ Arcs (now (table .entry)) (now (arcs .exit)) ⌝ }
+    ensures { λ r. ⌜ Arcs (now (table .entry)) (now (arcs .exit)) × RowMade place (now (arcs .entry)) (now (arcs .exit)) ⌝ }
 {
     clear(arcs, place);
     let credential = layout::credential(table, place + 1);
@@ -93,9 +91,6 @@ fn fill(table: &[Number], arcs: &mut [StateSet], place: usize)
         let edge = layout::edge(table, k);
         if automata::edge_matches(edge, role) {
             let l = find(arcs, place, 1 << edge.to);
-            if l == MOST_ARCS {
-                return;
-            }
             put(arcs, place, l, edge);
         }
     }

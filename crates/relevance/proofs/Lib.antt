@@ -2,3 +2,4 @@
 pub mod Bearing
 pub mod Reaching
 pub mod Narrowing
+pub mod RowMaking

@@ -15,13 +15,10 @@ use Rattle.sets.specs.Sets.{inSet, part}
 use Rattle.sets.proofs.Tests.{and-on, false-true}
 use Rattle.sets.proofs.Members.{inSet-zero, own-bit, part-le, part-member, part-or-left, part-or-right}
 use Rattle.sets.proofs.Members.{part-refl, part-trans, part-zero, set-more, set-not}
-use Rattle.table.specs.Limits.{mostCredentials}
 use Rattle.table.specs.Layout.{credential, credentials}
 use Rattle.table.specs.declared.Credential.{Credential}
 use Rattle.members.specs.Places.{isPerson}
-use Rattle.members.specs.Members.{Indexed, askedCell, linkCell, roleCell}
-use Rattle.members.proofs.Places.{role-first}
-use Rattle.members.proofs.Reaching.{same-self}
+use Rattle.members.specs.Members.{askedCell, linkCell, roleCell}
 use Rattle.relevance.specs.Relevance.{AsksIn, Round, WithAsked, WithLinks, WithRoles, definedAt}
 
 -- one more below n + 1
@@ -159,11 +156,3 @@ module _ (index : List ℕ) (places found i : ℕ) (so-far : found ≡ definedAt
   pub defined-not : inSet places (getD index (roleCell i) 0) ≡ false → found ≡ definedAt index places (i + 1)
   unfolding definedAt
   defined-not has = set-not _ found i so-far has
-
--- the role of a credential of the table has its place there
-pub own-place : {t index : List ℕ} {i place : ℕ} → Indexed t index → i < credentials t
-    → (place ≡ getD index (roleCell i) 0) × (place ≤ mostCredentials) → place < credentials t
-own-place {t} {index} {i} indexed there is =
-    let role = credential t (suc i) .role in
-    let first = role-first t role i there (same-self role) in
-    omega (arith, is .0, indexed .defined i there, first)

@@ -8,6 +8,7 @@ use lib.ListN.{getD}
 use Rattle.sets.specs.Sets.{inSet, part, setOf}
 use Rattle.table.specs.Layout.{credential, credentials}
 use Rattle.table.specs.declared.Query.{Query}
+use Rattle.automata.specs.Arcs.{made, madeCell}
 use Rattle.derivation.specs.Rules.{goalOf}
 use Rattle.derivation.specs.Forest.{Derives, Forest}
 use Rattle.members.specs.Places.{isPerson}
@@ -47,3 +48,7 @@ pub record Round (t index : List ℕ) (n x y : ℕ) : Type 0 where
 -- those of the first n credentials whose roles stand at places of the set
 unfoldable pub definedAt : List ℕ → ℕ → ℕ → ℕ
 definedAt index places n = setOf (λ i. inSet places (getD index (roleCell i) 0)) n
+
+-- in an index of arcs the rows of the roles have been made that credentials of the set define, of the first n
+abbrev pub RowsMade : List ℕ → ℕ → ℕ → List ℕ → Type 0
+RowsMade index S n arcs = (i : ℕ) → i < n → inSet S i ≡ true → getD arcs (madeCell (getD index (roleCell i) 0)) 0 ≡ made

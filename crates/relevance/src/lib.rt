@@ -18,7 +18,7 @@ ghost use Rattle.table.specs.Layout.{credentials};
 ghost use Rattle.table.specs.Holding.{WellFormed};
 ghost use Rattle.automata.specs.Arcs.{Arcs, indexCells};
 ghost use Rattle.members.specs.Members.{Aimed, Indexed, Placed, goalRole};
-ghost use Rattle.relevance.specs.Relevance.{Relevant, Round, WithAsked, WithLinks, WithRoles, definedAt};
+ghost use Rattle.relevance.specs.Relevance.{Relevant, Round, RowsMade, WithAsked, WithLinks, WithRoles, definedAt};
 
 // The credentials whose role can be reached from the query's role: every derivation of the queried membership uses only these. The
 // index is that of the table and the query (`members::index`).
@@ -36,7 +36,8 @@ pub fn make_arcs(table: &[Number], index: &[u8], set: CredentialSet, arcs: &mut 
     requires { ⌜ WellFormed (now table) ⌝ }
     requires { ⌜ Indexed (now table) (now index) ⌝ }
     requires { ⌜ now arcs ≡ replicate indexCells 0 ⌝ }
-    ensures { λ r. ⌜ Arcs (now (table .entry)) (now (arcs .exit)) ⌝ }
+    ensures { λ r. ⌜ Arcs (now (table .entry)) (now (arcs .exit))
+        × RowsMade (now (index .entry)) set (credentials (now (table .entry))) (now (arcs .exit)) ⌝ }
 {
     arcs::begin(table, arcs);
     let n = layout::credentials(table);

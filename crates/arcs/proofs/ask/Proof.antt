@@ -1,4 +1,4 @@
--- `arcs::ask` meets its contract: a row that is asked for the first or the second time is not made yet. Assumes nothing.
+-- `arcs::ask` meets its contract: to count how often a row is asked for does not make it. Assumes nothing.
 use Prim.Native.Nat.{_<_}
 use lib.ListN.{length}
 use borrow.Author.Needs.{needs}

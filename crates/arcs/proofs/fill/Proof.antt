@@ -1,19 +1,19 @@
 -- `arcs::fill` meets its contract: the row has the arcs of the first k edges. Assumes nothing.
 use mathlib.Core.Path.{sym, _∙_}
-use Prim.Native.Nat.{_-_, _<_, _≤_}
+use Prim.Native.Nat.{_-_, _≤_}
 use native.Mathlib.Omega.{arith}
 use borrow.Author.Needs.{needs}
 use Rattle.sets.proofs.Members.{one-bit}
 use Rattle.table.specs.Limits.{lastState, mostAutomata}
 use Rattle.table.specs.Layout.{Numbered}
-use Rattle.automata.specs.Arcs.{mostArcs}
 use Rattle.automata.proofs.Together.{edge-there}
-use Rattle.arcs.proofs.Making.{Making, making-all, making-length, making-more, making-none, making-past, making-room}
+use Rattle.arcs.proofs.Making.{Making, made-since, making-all, making-found, making-length, making-more, making-none}
+use Rattle.arcs.proofs.Making.{making-past, making-room}
 use Rattle.arcs.proofs.fill.Statement.{statement}
 use Rattle.arcs.proofs.fill.Tie as tie
 
 abbrev Inv-loop : tie.InvT-loop
-Inv-loop table arcs₀ place role e k₀ arcs k = (k ≤ e) × Making table role place k arcs
+Inv-loop table arcs₀ place role e k₀ arcs k = (k ≤ e) × Making table role place k arcs₀ arcs
 
 abbrev μ-loop : tie.MeasureT-loop
 μ-loop table arcs₀ place role e k₀ arcs k = e - k
@@ -50,7 +50,7 @@ edges-requires c κs = search needs
 loop-holds : tie.Need-loop-holds Inv-loop μ-loop
 loop-holds c =
     let (wf, (index, (there, (full, unmade)))) = start c .pre in
-    (omega arith, making-none _ wf index there full unmade (c .before .before .before .before .before .clear .ensures))
+    (omega arith, making-none (c .before .before .before .before .before .clear .ensures) _ wf index there full unmade)
 
 add-k : tie.Need-add-k Inv-loop μ-loop
 add-k c = search needs
@@ -67,35 +67,28 @@ shl-find c = omega (arith, in-range (read c) .1 .1)
 find-requires : tie.Need-find-requires Inv-loop μ-loop
 find-requires c κs = making-room (loop (read c) .loop .inv .1)
 
-same-length : tie.Need-same-length Inv-loop μ-loop
-same-length c =
-    let at = loop (read (c .before .before)) in
-    at .loop .inv .1 .full ∙ sym (start (at .before) .pre .1 .1 .1 .0)
-
-returns : tie.Need-returns Inv-loop μ-loop
-returns c = loop (read (c .before .before)) .loop .inv .1 .index
-
 put-requires : tie.Need-put-requires Inv-loop μ-loop
 put-requires c κs =
-    let found = c .before .before in
-    let less : found .find .result < mostArcs = omega (arith, found .find .ensures .few, c .before .if2 .left) in
-    let at = read (found .before) in
-    (making-room (loop at .loop .inv .1), (less, in-range at))
+    let at = read (c .before .before) in
+    let states = in-range at .1 in
+    let mask = one-bit 16 (at .edge .result .to) (omega (arith, states .1)) in
+    let m = loop at .loop .inv .1 in
+    (making-room m, (making-found m _ (at .edge .ensures) _ mask (c .before .find .ensures) (states .1), in-range at))
 
 loop-less : tie.Need-loop-less Inv-loop μ-loop
 loop-less c = search needs
 
 loop-again : tie.Need-loop-again Inv-loop μ-loop
 loop-again c =
-    let found = c .before .before .before .before .before in
+    let found = c .before .before .before .before in
     let match = matched (found .before) in
     let at = read (found .before) in
     let (own, (from, to)) = in-range at in
     let on = sym (match .before .edge-matches .ensures) ∙ match .if1 .taken in
-    let room = c .before .before .before .before .if2 .left in (
+    let mask = one-bit 16 (at .edge .result .to) (omega (arith, to)) in (
       omega arith,
-      making-more (loop at .loop .inv .1) _ (at .edge .ensures) _ room own (one-bit 16 _ (omega (arith, to)))
-          (found .find .ensures) on (c .before .before .put .ensures),
+      making-more (loop at .loop .inv .1) _ (at .edge .ensures) _ mask (found .find .ensures) to own on
+          (c .before .before .put .ensures),
     )
 
 loop-less-2 : tie.Need-loop-less-2 Inv-loop μ-loop
@@ -116,11 +109,14 @@ mul-arcs c = search needs
 slice-write-arcs : tie.Need-slice-write-arcs Inv-loop μ-loop
 slice-write-arcs c = let room = making-room (c .before .loop .inv .1) in omega (arith, room .0, room .1)
 
-same-length-2 : tie.Need-same-length-2 Inv-loop μ-loop
-same-length-2 c = making-length (c .before .loop .inv .1) _ ∙ sym (start (c .before .before) .pre .1 .1 .1 .0)
+same-length : tie.Need-same-length Inv-loop μ-loop
+same-length c = making-length (c .before .loop .inv .1) _ ∙ sym (start (c .before .before) .pre .1 .1 .1 .0)
 
-returns-2 : tie.Need-returns-2 Inv-loop μ-loop
-returns-2 c = making-all _ (c .before .before .before .before .credential .ensures) (c .before .loop .inv .1) (omega arith)
+returns : tie.Need-returns Inv-loop μ-loop
+returns c =
+    let at = c .before .before .before .before in
+    let made = making-all _ (at .credential .ensures) (c .before .loop .inv .1) (omega arith) in
+    (made .0, made-since (at .before .before .before .clear .ensures) (made .1))
 
 pub fill-spec : {M : Type 1} → statement M
 fill-spec =
@@ -138,8 +134,6 @@ fill-spec =
     edge-matches-requires
     shl-find
     find-requires
-    same-length
-    returns
     put-requires
     loop-less
     loop-again
@@ -148,5 +142,5 @@ fill-spec =
     add-arcs
     mul-arcs
     slice-write-arcs
-    same-length-2
-    returns-2)
+    same-length
+    returns)

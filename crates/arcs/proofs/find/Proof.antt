@@ -1,4 +1,4 @@
--- `arcs::find` meets its contract: none of the first l arcs leads nowhere. Assumes nothing.
+-- `arcs::find` meets its contract: none of the first l arcs leads nowhere, nor to the state. Assumes nothing.
 use mathlib.Core.Logic.{inl, inr}
 use Prim.Native.Nat.{_-_}
 use native.Mathlib.Omega.{arith}
@@ -9,7 +9,7 @@ use Rattle.arcs.proofs.find.Statement.{statement}
 use Rattle.arcs.proofs.find.Tie as tie
 
 abbrev Inv-loop : tie.InvT-loop
-Inv-loop arcs place to row l₀ l = Looking arcs place l
+Inv-loop arcs place to row l₀ l = Looking arcs place to l
 
 abbrev μ-loop : tie.MeasureT-loop
 μ-loop arcs place to row l₀ l = mostArcs - l
@@ -21,7 +21,7 @@ add-row : tie.Need-add-row Inv-loop μ-loop
 add-row c = search needs
 
 loop-holds : tie.Need-loop-holds Inv-loop μ-loop
-loop-holds c = looking-none _ _
+loop-holds c = looking-none _ _ _
 
 mul-other : tie.Need-mul-other Inv-loop μ-loop
 mul-other c = search needs
@@ -51,7 +51,8 @@ loop-less : tie.Need-loop-less Inv-loop μ-loop
 loop-less c = search needs
 
 loop-again : tie.Need-loop-again Inv-loop μ-loop
-loop-again c = looking-more _ _ _ (c .before .before .before .before .loop .inv) (omega arith) (c .if2 .left)
+loop-again c =
+    looking-more _ _ _ _ (c .before .before .before .before .loop .inv) (omega arith) (c .before .if1 .left) (c .if2 .left)
 
 returns-3 : tie.Need-returns-3 Inv-loop μ-loop
 returns-3 c = found-here (c .before .loop .inv) (λ less. absurd (omega arith))

@@ -17,7 +17,7 @@ start at = automaton at .before .before
 fits : (at : tie.After-struct-known2) → let from = start at .args in Fits (now (from .arcs)) (from .place) (from .l) (from .edge)
 fits at =
     let ((size, there), (less, (own, states))) = start at .pre in
-    record { size = size; there = there; less = less; own = own }
+    record { size = size; there = there; less = less; own = own; state = omega (arith, states .1) }
 
 mul-at : tie.Need-mul-at
 mul-at c = search needs

@@ -99,7 +99,7 @@ list-over-requires-2 c κs =
     let made = c .before .before .before .before in
     let admitted = made .before .before .before .before .before in
     let at = bearing admitted in (
-      prepared-by (start at .pre) (indexed at .index .ensures) (made .make-arcs .ensures),
+      prepared-by (start at .pre) (indexed at .index .ensures) (made .make-arcs .ensures .0),
       (at .relevant .ensures, passed (admitted .before .admits .ensures) (admitted .if1 .left)),
     )
 

@@ -54,7 +54,7 @@ write-over-requires-2 : tie.Need-write-over-requires-2
 write-over-requires-2 c κs =
     let made = c .before .before .before .before in
     let index = made .before .before .before .before .before in
-    prepared-by (start index .pre) (index .index .ensures) (made .make-arcs .ensures)
+    prepared-by (start index .pre) (index .index .ensures) (made .make-arcs .ensures .0)
 
 same-length-2 : tie.Need-same-length-2
 same-length-2 c = search needs
