@@ -1,5 +1,5 @@
--- docs/DEFINITION.md, "Where each input is stopped", rows 1 to 8, with the ranges of "The table": what each record must be, and
--- the order in which the checks are made.
+-- docs/DEFINITION.md, "Where each input is stopped", rows 1 to 7, 17 and 8, with the ranges of "The table": what each record
+-- must be, and the order in which the checks are made.
 use Prim.Native.Nat.{ℕ}
 use mathlib.Core.Path.{_≡_}
 use mathlib.Core.List.{List}
@@ -12,7 +12,7 @@ use Rattle.table.specs.Outcome.Outcome.{accepted, refused}
 use Rattle.table.specs.Limits.{mostCredentials, mostCells, mostAutomata, mostEdges}
 use Rattle.table.specs.Limits.{mostPrincipals, mostNames, lastState, leastParts, mostParts, mostDepth}
 use Rattle.table.specs.Layout.{headSize, credentials, cells, automata, edges, tableLength}
-use Rattle.table.specs.Layout.{principal, name, credential, cell, edge, chain}
+use Rattle.table.specs.Layout.{principal, name, credential, cell, automaton, edge, chain}
 use Rattle.table.specs.declared.Principal.{Principal}
 use Rattle.table.specs.declared.Name.{Name}
 use Rattle.table.specs.declared.Role.{Role}
@@ -70,6 +70,10 @@ unfoldable pub edgeOk : ℕ → Edge → Bool
 edgeOk a e =
     within 1 a (e .automaton) and leb (e .from) lastState and leb (e .to) lastState and labelOk (e .label) (e .role)
 
+-- a mark is 0, every word, or 1, at least one
+unfoldable pub markOk : ℕ → Bool
+markOk mark = leb mark 1
+
 -- row 2
 unfoldable pub countsOk : List ℕ → Bool
 countsOk t =
@@ -98,14 +102,19 @@ goodChain t i = pick (eqb (credential t i .kind) 4) (chainOk t (credential t i .
 unfoldable pub goodEdge : List ℕ → ℕ → Bool
 goodEdge t k = edgeOk (automata t) (edge t k)
 
--- the table call: rows 1 to 7
+-- row 17
+unfoldable pub goodMark : List ℕ → ℕ → Bool
+goodMark t k = markOk (automaton t k .mark)
+
+-- the table call: rows 1 to 7 and 17
 unfoldable pub tableOutcome : List ℕ → Outcome
 tableOutcome t =
     headOutcome t andThen
     demandEach (goodCredential t) (credentials t) 4 andThen
     demandEach (goodCell t) (cells t) 5 andThen
     demandEach (goodChain t) (credentials t) 6 andThen
-    demandEach (goodEdge t) (edges t) 7
+    demandEach (goodEdge t) (edges t) 7 andThen
+    demandEach (goodMark t) (automata t) 17
 
 -- a query is four numbers, in this order: a principal, a role's owner and name, and a depth limit
 abbrev pub asQuery : ℕ → ℕ → ℕ → ℕ → Query
@@ -119,7 +128,7 @@ queryOutcome q =
     demand (isName (q .name)) 8 3 andThen
     demand (within 1 mostDepth (q .depth)) 8 4
 
--- verifying and listing make the checks of rows 1 to 8 first
+-- verifying and listing make the checks of rows 1 to 7, 17 and 8 first
 unfoldable pub requestOutcome : List ℕ → Query → Outcome
 requestOutcome t q = tableOutcome t andThen queryOutcome q
 
@@ -148,6 +157,7 @@ numberOf reason.Branch = 13
 numberOf reason.Word = 14
 numberOf reason.NotListed = 15
 numberOf reason.LongerRecord = 16
+numberOf reason.Mark = 17
 
 unfoldable pub told : Refusal → Outcome
 unfolding numberOf

@@ -23,12 +23,12 @@ credentialNumbers c =
 unfoldable pub cellNumbers : Cell → List ℕ
 cellNumbers c = c .role .owner .0 ∷ c .role .name .0 ∷ c .next ∷ []
 
--- set of starting states, set of accepting states
-abbrev pub automatonOf : (starting accepting : ℕ) → Automaton
-automatonOf starting accepting = record { starting = starting; accepting = accepting }
+-- set of starting states, set of accepting states, mark
+abbrev pub automatonOf : (starting accepting mark : ℕ) → Automaton
+automatonOf starting accepting mark = record { starting = starting; accepting = accepting; mark = mark }
 
 unfoldable pub automatonNumbers : Automaton → List ℕ
-automatonNumbers a = a .starting ∷ a .accepting ∷ []
+automatonNumbers a = a .starting ∷ a .accepting ∷ a .mark ∷ []
 
 -- automaton, from state, label, owner, name, to state
 abbrev pub edgeOf : (automaton from label owner name to : ℕ) → Edge

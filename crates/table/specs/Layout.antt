@@ -26,7 +26,7 @@ abbrev pub cellSize : ℕ
 cellSize = 3
 
 abbrev pub automatonSize : ℕ
-automatonSize = 2
+automatonSize = 3
 
 abbrev pub edgeSize : ℕ
 edgeSize = 6
@@ -57,7 +57,7 @@ automataBase t = cellsBase t + cellSize * cells t
 abbrev pub edgesBase : List ℕ → ℕ
 edgesBase t = automataBase t + automatonSize * automata t
 
--- the length is exactly 4 + 6n + 3q + 2a + 6e
+-- the length is exactly 4 + 6n + 3q + 3a + 6e
 abbrev pub tableLength : List ℕ → ℕ
 tableLength t = edgesBase t + edgeSize * edges t
 
@@ -89,9 +89,9 @@ credentialAt t at =
 abbrev pub cellAt : List ℕ → ℕ → Cell
 cellAt t at = record { role = role (number t at) (number t (at + 1)); next = number t (at + 2) }
 
--- two numbers: set of starting states, set of accepting states
+-- three numbers: set of starting states, set of accepting states, mark
 abbrev pub automatonAt : List ℕ → ℕ → Automaton
-automatonAt t at = record { starting = number t at; accepting = number t (at + 1) }
+automatonAt t at = record { starting = number t at; accepting = number t (at + 1); mark = number t (at + 2) }
 
 -- six numbers: automaton, from state, label, owner, name, to state
 abbrev pub edgeAt : List ℕ → ℕ → Edge

@@ -5,3 +5,4 @@ pub mod Encoded
 pub mod Checks
 pub mod Holding
 pub mod Shop
+pub mod Upgraded

@@ -19,7 +19,7 @@ tableT = shop 0 [] []
 
 -- T with an automaton, attached to credential 3, that rejects every word that begins with Shop.discount
 unfoldable pub tableU : List ℕ
-tableU = shop 1 (automatonOf 1 2 ∷ []) (edgeOf 1 0 3 1 1 1 ∷ edgeOf 1 1 2 0 0 1 ∷ [])
+tableU = shop 1 (automatonOf 1 2 0 ∷ []) (edgeOf 1 0 3 1 1 1 ∷ edgeOf 1 1 2 0 0 1 ∷ [])
 
 -- Ann in Shop.discount within so many levels
 abbrev pub annAsks : ℕ → Query

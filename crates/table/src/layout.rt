@@ -46,7 +46,7 @@ const CREDENTIAL_SIZE: usize = 6;
 
 const CELL_SIZE: usize = 3;
 
-const AUTOMATON_SIZE: usize = 2;
+const AUTOMATON_SIZE: usize = 3;
 
 const EDGE_SIZE: usize = 6;
 
@@ -211,6 +211,7 @@ fn automaton_at(table: &[Number], at: usize) -> Automaton
     Automaton {
         starting: table[at],
         accepting: table[at + 1],
+        mark: table[at + 2],
     }
 }
 

@@ -72,11 +72,17 @@ pub struct Chain {
     pub roles: [Role; layout::MOST_PARTS],
 }
 
-// Sets of states: state s counts 2^s.
+// Sets of states: state s counts 2^s. The mark says what is demanded of a record's words: that every one is accepted, or one.
 pub struct Automaton {
     pub starting: StateSet,
     pub accepting: StateSet,
+    pub mark: Number,
 }
+
+// The marks of an automaton.
+pub const EVERY_WORD: Number = 0;
+
+pub const SOME_WORD: Number = 1;
 
 pub struct Edge {
     pub automaton: Number,
@@ -95,7 +101,8 @@ pub const OTHER_ROLES: Number = 3;
 
 pub const ROLES_OF_OWNER: Number = 4;
 
-// Why an input is stopped, in the order of docs/DEFINITION.md, "Where each input is stopped".
+// Why an input is stopped, by the numbers of docs/DEFINITION.md, "Where each input is stopped". The row of marks has the last
+// number, though it is made right behind the row of edges.
 pub enum Reason {
     ShortHead,
     CountOverLimit,
@@ -113,6 +120,7 @@ pub enum Reason {
     Word,
     NotListed,
     LongerRecord,
+    Mark,
 }
 
 impl Reason {
@@ -137,6 +145,7 @@ impl Reason {
             Reason::Word => 14,
             Reason::NotListed => 15,
             Reason::LongerRecord => 16,
+            Reason::Mark => 17,
         }
     }
 }

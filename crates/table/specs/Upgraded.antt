@@ -1,0 +1,63 @@
+-- docs/DEFINITION.md, "Automata": the base layout, in which an automaton has two numbers and no mark, and a table of it upgraded:
+-- the same records with mark 0 at each automaton. Only what differs from specs/Layout.antt and specs/Checks.antt stands here.
+use Prim.Native.Nat.{ℕ, zero, suc, _+_, _-_, _*_}
+use mathlib.Core.List.{List, [], _∷_, _++_}
+use mathlib.Core.Bool.{Bool}
+use lib.ListN.{drop, length, take}
+use lib.Dec.{eqb, leb}
+use Rattle.table.specs.Outcome.{Outcome, _andThen_, demand, demandEach}
+use Rattle.table.specs.Layout.{automata, automataBase, cells, credentials, edgeAt, edgeSize, edges, headSize, number}
+use Rattle.table.specs.Encoded.{automatonOf}
+use Rattle.table.specs.Checks.{countsOk, edgeOk, goodCell, goodChain, goodCredential}
+use Rattle.table.specs.declared.Automaton.{Automaton}
+use Rattle.table.specs.declared.Edge.{Edge}
+
+abbrev pub baseAutomatonSize : ℕ
+baseAutomatonSize = 2
+
+abbrev pub baseEdgesBase : List ℕ → ℕ
+baseEdgesBase t = automataBase t + baseAutomatonSize * automata t
+
+-- the length is exactly 4 + 6n + 3q + 2a + 6e
+abbrev pub baseLength : List ℕ → ℕ
+baseLength t = baseEdgesBase t + edgeSize * edges t
+
+-- two numbers: set of starting states, set of accepting states. It demands every word, which is mark 0
+abbrev pub baseAutomatonAt : List ℕ → ℕ → Automaton
+baseAutomatonAt t at = automatonOf (number t at) (number t (at + 1)) 0
+
+unfoldable pub baseAutomaton : List ℕ → ℕ → Automaton
+baseAutomaton t k = baseAutomatonAt t (automataBase t + baseAutomatonSize * (k - 1))
+
+unfoldable pub baseEdge : List ℕ → ℕ → Edge
+baseEdge t k = edgeAt t (baseEdgesBase t + edgeSize * (k - 1))
+
+-- rows 1, 2 and 3
+unfoldable pub baseHeadOutcome : List ℕ → Outcome
+baseHeadOutcome t =
+    demand (leb headSize (length t)) 1 0 andThen
+    demand (countsOk t) 2 0 andThen
+    demand (eqb (length t) (baseLength t)) 3 0
+
+-- row 7
+unfoldable pub goodBaseEdge : List ℕ → ℕ → Bool
+goodBaseEdge t k = edgeOk (automata t) (baseEdge t k)
+
+-- rows 1 to 7: no check looks at an automaton
+unfoldable pub baseOutcome : List ℕ → Outcome
+baseOutcome t =
+    baseHeadOutcome t andThen
+    demandEach (goodCredential t) (credentials t) 4 andThen
+    demandEach (goodCell t) (cells t) 5 andThen
+    demandEach (goodChain t) (credentials t) 6 andThen
+    demandEach (goodBaseEdge t) (edges t) 7
+
+-- the first k pairs of numbers with a 0 behind each, and then what follows them
+unfoldable pub withMarks : ℕ → List ℕ → List ℕ
+withMarks zero rest = rest
+withMarks (suc k) [] = []
+withMarks (suc k) (x ∷ []) = x ∷ []
+withMarks (suc k) (starting ∷ accepting ∷ rest) = starting ∷ accepting ∷ 0 ∷ withMarks k rest
+
+unfoldable pub upgraded : List ℕ → List ℕ
+upgraded t = take (automataBase t) t ++ withMarks (automata t) (drop (automataBase t) t)
