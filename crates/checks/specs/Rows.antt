@@ -6,8 +6,8 @@ use mathlib.Core.Bool.{Bool}
 use mathlib.Core.Path.{_≡_}
 use lib.Dec.{eqb}
 use Rattle.table.specs.Outcome.{Outcome, demand, demandEach}
-use Rattle.table.specs.Layout.{cells, credentials, edges}
-use Rattle.table.specs.Checks.{goodCell, goodCredential, goodEdge}
+use Rattle.table.specs.Layout.{automata, cells, credentials, edges}
+use Rattle.table.specs.Checks.{goodCell, goodCredential, goodEdge, goodMark}
 use Rattle.checks.specs.declared.rows.Row.{Row}
 use Rattle.checks.specs.declared.rows.Row.the-variants as row
 
@@ -15,11 +15,13 @@ unfoldable pub records : List ℕ → Row → ℕ
 records t row.Credentials = credentials t
 records t row.Cells = cells t
 records t row.Edges = edges t
+records t row.Marks = automata t
 
 unfoldable pub good : List ℕ → Row → ℕ → Bool
 good t row.Credentials = goodCredential t
 good t row.Cells = goodCell t
 good t row.Edges = goodEdge t
+good t row.Marks = goodMark t
 
 unfoldable pub rowOutcome : List ℕ → Row → ℕ → Outcome
 rowOutcome t r number = demandEach (good t r) (records t r) number

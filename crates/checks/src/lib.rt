@@ -1,5 +1,5 @@
-// The checks that stop a bad table or a bad query: rows 1 to 8 of docs/DEFINITION.md, "Where each input is stopped". Every slice
-// of every length gets "accepted" or exactly its refusal, and nothing is written. What the checks mean is in table's
+// The checks that stop a bad table or a bad query: rows 1 to 7, 17 and 8 of docs/DEFINITION.md, "Where each input is stopped".
+// Every slice of every length gets "accepted" or exactly its refusal, and nothing is written. What the checks mean is in table's
 // specs/Checks.antt.
 mod rows; // rows.rt: the rows of checks over all records
 
@@ -25,7 +25,7 @@ pub enum QueryCheck {
     Refused(Refusal),
 }
 
-// Whether the table is accepted: rows 1 to 7, for any slice.
+// Whether the table is accepted: rows 1 to 7 and 17, for any slice.
 pub fn check_table(table: &[Number]) -> TableCheck
     ensures { λ r. ⌜ tableTold r ≡ tableOutcome (now (table .entry)) ⌝ }
 {
@@ -45,18 +45,22 @@ pub fn check_table(table: &[Number]) -> TableCheck
     if chain != 0 {
         return rows::refused(Reason::Chain, chain);
     }
-    // Many tables have no edges: row 7, the last, then asks nothing, and its loop is not called.
-    if layout::edges(table) == 0 {
+    // Many tables have no automata: rows 7 and 17, the last, then ask nothing, and their loops are not called.
+    if layout::edges(table) + layout::automata(table) == 0 {
         return TableCheck::Accepted;
     }
     let edge = rows::first_bad(table, Row::Edges);
     if edge != 0 {
         return rows::refused(Reason::Edge, edge);
     }
+    let mark = rows::first_bad(table, Row::Marks);
+    if mark != 0 {
+        return rows::refused(Reason::Mark, mark);
+    }
     TableCheck::Accepted
 }
 
-// Whether the table is accepted and the query valid: rows 1 to 8, which every call with a query makes first.
+// Whether the table is accepted and the query valid: rows 1 to 7, 17 and 8, which every call with a query makes first.
 pub fn check_request(table: &[Number], query: Query) -> QueryCheck
     ensures { λ r. ⌜ queryTold r ≡ requestOutcome (now (table .entry)) query ⌝ }
 {

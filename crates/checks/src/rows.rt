@@ -26,11 +26,12 @@ ghost use Rattle.checks.specs.Rows;
 ghost use Rattle.checks.specs.Rows.{FirstBad, good, rowOutcome};
 ghost use Rattle.checks.specs.declared.rows.Row.the-variants as row;
 
-// The rows that ask every record of one kind by itself: 4, 5 and 7.
+// The rows that ask every record of one kind by itself: 4, 5, 7 and 17.
 pub enum Row {
     Credentials,
     Cells,
     Edges,
+    Marks,
 }
 
 impl Row {
@@ -42,6 +43,7 @@ impl Row {
             Row::Credentials => layout::credentials(table),
             Row::Cells => layout::cells(table),
             Row::Edges => layout::edges(table),
+            Row::Marks => layout::automata(table),
         }
     }
 
@@ -58,6 +60,7 @@ impl Row {
             ),
             Row::Cells => ranges::cell_ok(layout::cell(table, i), i, layout::cells(table)),
             Row::Edges => ranges::edge_ok(layout::edge(table, i), layout::automata(table)),
+            Row::Marks => ranges::mark_ok(layout::automaton(table, i).mark),
         }
     }
 }
@@ -87,7 +90,7 @@ fn counts_ok(table: &[Number]) -> bool
         && (table[1] <= MOST_CELLS && (table[2] <= MOST_AUTOMATA && table[3] <= MOST_EDGES))
 }
 
-// Rows 4, 5 and 7: the first record of the row that is not good, by ascending number, or 0 where every one is.
+// Rows 4, 5, 7 and 17: the first record of the row that is not good, by ascending number, or 0 where every one is.
 pub fn first_bad(table: &[Number], row: Row) -> usize
     requires { ⌜ Sized (now table) ⌝ }
     ensures { λ r. ⌜ FirstBad (good (now (table .entry)) row) (Rows.records (now (table .entry)) row) r ⌝ }

@@ -13,6 +13,7 @@ use table::ROLES_OF_OWNER;
 use table::Role;
 use table::SIMPLE_CONTAINMENT;
 use table::SIMPLE_MEMBERSHIP;
+use table::SOME_WORD;
 use table::THIS_ROLE;
 use table::layout::LAST_STATE;
 use table::layout::MOST_NAMES;
@@ -92,4 +93,10 @@ pub fn edge_ok(e: Edge, automata: usize) -> bool
 {
     within(1, automata, e.automaton)
         && (e.from <= LAST_STATE && (e.to <= LAST_STATE && label_ok(e.label, e.role)))
+}
+
+pub fn mark_ok(mark: Number) -> bool
+    ensures { λ r. ⌜ r ≡ Checks.markOk mark ⌝ }
+{
+    mark <= SOME_WORD
 }

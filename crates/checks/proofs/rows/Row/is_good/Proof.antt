@@ -1,6 +1,6 @@
 -- `checks::rows::Row::is_good` meets its contract: row by row, the record is read and tested. Assumes nothing.
 use borrow.Author.Needs.{needs}
-use Rattle.table.specs.Checks.{goodCell, goodCredential, goodEdge}
+use Rattle.table.specs.Checks.{goodCell, goodCredential, goodEdge, goodMark}
 use Rattle.checks.specs.Rows.{good, records}
 use Rattle.checks.proofs.rows.Row.is_good.Statement.{statement}
 use Rattle.checks.proofs.rows.Row.is_good.Tie as tie
@@ -47,6 +47,16 @@ automata-requires-2 c κs = search needs
 edge-ok-requires : tie.Need-edge-ok-requires
 edge-ok-requires c κs = search needs
 
+enum-told-4 : tie.Need-enum-told-4
+enum-told-4 c = search needs
+
+automaton-requires : tie.Need-automaton-requires
+unfolding records
+automaton-requires c κs = let pre = c .before .before .before .pre in (pre .0, rw (c .enum-told4 .given .1) at (pre .1))
+
+mark-ok-requires : tie.Need-mark-ok-requires
+mark-ok-requires c κs = search needs
+
 returns : tie.Need-returns
 unfolding good goodCredential
 returns c =
@@ -66,6 +76,10 @@ returns-3 c =
     let row = c .before .before .before .enum-told3 .given .1 in
     rw (row, ← c .before .before .edge .ensures, ← c .before .automata2 .ensures .same) (c .edge-ok .ensures)
 
+returns-4 : tie.Need-returns-4
+unfolding good goodMark
+returns-4 c = rw (c .before .before .enum-told4 .given .1, ← c .before .automaton .ensures) (c .mark-ok .ensures)
+
 pub is-good-spec : {M : Type 1} → statement M
 is-good-spec =
     tie.close
@@ -83,6 +97,10 @@ is-good-spec =
     edge-requires
     automata-requires-2
     edge-ok-requires
+    enum-told-4
+    automaton-requires
+    mark-ok-requires
     returns
     returns-2
-    returns-3)
+    returns-3
+    returns-4)

@@ -22,6 +22,12 @@ enum-told-3 c = search needs
 edges-requires : tie.Need-edges-requires
 edges-requires c κs = search needs
 
+enum-told-4 : tie.Need-enum-told-4
+enum-told-4 c = search needs
+
+automata-requires : tie.Need-automata-requires
+automata-requires c κs = search needs
+
 returns : tie.Need-returns
 unfolding records
 returns c = search needs
@@ -34,6 +40,10 @@ returns-3 : tie.Need-returns-3
 unfolding records
 returns-3 c = search needs
 
+returns-4 : tie.Need-returns-4
+unfolding records
+returns-4 c = search needs
+
 pub records-spec : {M : Type 1} → statement M
 records-spec =
     tie.close
@@ -44,6 +54,9 @@ records-spec =
     cells-requires
     enum-told-3
     edges-requires
+    enum-told-4
+    automata-requires
     returns
     returns-2
-    returns-3)
+    returns-3
+    returns-4)
