@@ -6,9 +6,9 @@ use Prim.Native.Nat.{ℕ, suc, _-_, _≤_}
 use native.Mathlib.Omega.{arith}
 use lib.ListN.{getD}
 use borrow.Author.Tests.{lt-ltb}
-use Rattle.sets.specs.Logic.{_and_}
+use Rattle.sets.specs.Logic.{_and_, _or_}
 use Rattle.sets.specs.Sets.{inSet}
-use Rattle.sets.proofs.Tests.{and-assoc}
+use Rattle.sets.proofs.Tests.{and-assoc, or-assoc}
 use Rattle.sets.proofs.Members.{setOf-members}
 use Rattle.table.specs.Limits.{mostAutomata}
 use Rattle.table.specs.Layout.{Numbered, automata}
@@ -17,7 +17,7 @@ use Rattle.automata.specs.Automata.{accepts, moved, run, starting}
 use Rattle.automata.specs.Together.{acceptingSet, each, movedSets, startingSets, together}
 use Rattle.automata.specs.declared.StateSets.{StateSets}
 use Rattle.automata.proofs.Each.{each-length, each-at, each-ext}
-use Rattle.derivation.specs.Words.{acceptsAll}
+use Rattle.derivation.specs.Words.{acceptsAll, acceptsSome}
 
 -- eight sets that are alike one by one
 together-ext : (f g : ℕ → ℕ) → ((k : ℕ) → Numbered mostAutomata k → f k ≡ g k) → together f ≡ together g
@@ -57,6 +57,12 @@ pub accepts-all-append : (t : List ℕ) (k : ℕ) (a b : List (List Role))
 unfolding acceptsAll _and_
 accepts-all-append t k [] b = refl
 accepts-all-append t k (word ∷ a) b = rw (accepts-all-append t k a b) (sym (and-assoc (accepts t k word) _ _))
+
+pub accepts-some-append : (t : List ℕ) (k : ℕ) (a b : List (List Role))
+    → acceptsSome t k (a ++ b) ≡ (acceptsSome t k a or acceptsSome t k b)
+unfolding acceptsSome _or_
+accepts-some-append t k [] b = refl
+accepts-some-append t k (word ∷ a) b = rw (accepts-some-append t k a b) (sym (or-assoc (accepts t k word) _ _))
 
 module _ (t : List ℕ) (k : ℕ) (own : Numbered (automata t) k) (few : automata t ≤ mostAutomata) where
   pub accepting-member : (word : List Role) → inSet (acceptingSet t (setsAfter t word)) (k - 1) ≡ accepts t k word

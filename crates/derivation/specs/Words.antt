@@ -1,11 +1,11 @@
--- docs/DEFINITION.md, "Words": the words of a derivation, and whether it complies with every used automaton.
+-- docs/DEFINITION.md, "Words": the words of a derivation, and whether every used automaton is met.
 use Prim.Native.Nat.{ℕ}
 use mathlib.Core.Path.{_≡_}
 use mathlib.Core.List.{List, [], _∷_, _++_}
 use mathlib.Core.Bool.{Bool, true, false, not}
 use lib.Dec.{eqb}
 use Rattle.sets.specs.Logic.{_and_, _or_, pick}
-use Rattle.table.specs.Layout.{credential}
+use Rattle.table.specs.Layout.{automaton, credential}
 use Rattle.table.specs.declared.Role.{Role}
 use Rattle.automata.specs.Automata.{accepts}
 use Rattle.derivation.specs.Forest.{Forest, names}
@@ -28,12 +28,20 @@ unfoldable pub acceptsAll : List ℕ → ℕ → List (List Role) → Bool
 acceptsAll t k [] = true
 acceptsAll t k (word ∷ more) = accepts t k word and acceptsAll t k more
 
--- the automaton is not used, or it accepts every word
-unfoldable pub met : List ℕ → Forest → ℕ → Bool
-met t f k = not (usesAutomaton t f k) or acceptsAll t k (words t [] f)
+unfoldable pub acceptsSome : List ℕ → ℕ → List (List Role) → Bool
+acceptsSome t k [] = false
+acceptsSome t k (word ∷ more) = accepts t k word or acceptsSome t k more
 
--- a record complies if every word is accepted by the automaton of every credential that it uses
+-- by its mark the automaton demands that it accepts some word, which is 1, or that it accepts every word
+unfoldable pub isMet : List ℕ → ℕ → List (List Role) → Bool
+isMet t k words = pick (eqb (automaton t k .mark) 1) (acceptsSome t k words) (acceptsAll t k words)
+
+-- the automaton is not used, or the words are what it demands
+unfoldable pub met : List ℕ → Forest → ℕ → Bool
+met t f k = not (usesAutomaton t f k) or isMet t k (words t [] f)
+
+-- a record complies if its words are what the automaton of every credential that it uses demands
 abbrev pub Complies : List ℕ → Forest → Type 0
 Complies t f =
     (c : ℕ) → names f c ≡ true → (credential t c .automaton ≡ 0 → ⊥)
-    → acceptsAll t (credential t c .automaton) (words t [] f) ≡ true
+    → isMet t (credential t c .automaton) (words t [] f) ≡ true
