@@ -1,4 +1,4 @@
--- A record complies exactly when every automaton of the table is met: not used, or accepting every word.
+-- A record complies exactly when every automaton of the table is met: not used, or the words are what it demands.
 use mathlib.Core.Path.{_≡_, refl}
 use mathlib.Core.List.{List, []}
 use mathlib.Core.Bool.{Bool, true, false, not}
@@ -10,7 +10,7 @@ use Rattle.table.specs.Holding.{WellFormed}
 use Rattle.table.specs.declared.Goal.{Goal}
 use Rattle.table.proofs.WellFormed.{wf-credential}
 use Rattle.derivation.specs.Forest.{Derives, Forest}
-use Rattle.derivation.specs.Words.{Complies, acceptsAll, met, usesAutomaton, words}
+use Rattle.derivation.specs.Words.{Complies, isMet, met, usesAutomaton, words}
 use Rattle.derivation.proofs.Using.{named-numbered, uses-reached, uses-shows}
 
 module _ {t : List ℕ} {l : ℕ} {b gs : List Goal} {f : Forest} (wf : WellFormed t) (d : Derives t l b gs f) where
@@ -25,7 +25,7 @@ module _ {t : List ℕ} {l : ℕ} {b gs : List Goal} {f : Forest} (wf : WellForm
   unfolding met _or_
   complies-met complies k there = go (usesAutomaton t f k) refl
     where
-      go : (x : Bool) → usesAutomaton t f k ≡ x → (not x or acceptsAll t k (words t [] f)) ≡ true
+      go : (x : Bool) → usesAutomaton t f k ≡ x → (not x or isMet t k (words t [] f)) ≡ true
       go false off = refl
       go true on =
           let by = uses-shows t k f on in

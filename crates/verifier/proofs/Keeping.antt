@@ -2,7 +2,7 @@
 use mathlib.Core.Path.{_≡_, refl, sym, ap, _∙_}
 use mathlib.Core.List.{List, [], _∷_}
 use mathlib.Core.Bool.{Bool, true, false}
-use mathlib.Core.Option.{Option, none, some}
+use mathlib.Core.Option.{Option}
 use Prim.Native.Nat.{ℕ, zero, suc, _-_, _^_, _≤_}
 use native.Mathlib.Omega.{arith}
 use lib.ListN.{length}
@@ -22,7 +22,7 @@ use Rattle.verifier.specs.Reading.{Entry, Reading, admitted, entered, en
 use Rattle.verifier.specs.Reading.Entry.{ask, halt}
 use Rattle.verifier.specs.Reading.Reading.{read, stop}
 use Rattle.verifier.specs.Steps.{may}
-use Rattle.verifier.specs.Tally.{ReadOn, Told, everyFrom, numbersTold, tally, tallyOn}
+use Rattle.verifier.specs.Tally.{ReadOn, Told, afterNode, keptFrom, numbersTold, tally, tallyOn}
 use Rattle.verifier.specs.Tally.Told.{passed, stopped}
 use Rattle.table.specs.Holding.{WellFormed}
 use Rattle.verifier.proofs.Readings.{reader-end}
@@ -35,61 +35,61 @@ count-next n f = omega (arith, count-from (suc n) f, count-from n f)
 
 -- what follows a reading is read from what is kept by then
 onward : List ℕ → StateSets → (List ℕ → ℕ → Reading) → Told → Told
-onward t s later (passed rest used nodes every) = tally t s used nodes every (later rest (suc nodes))
+onward t s later (passed rest used nodes every some) = tally t s used nodes every some (later rest (suc nodes))
 onward t s later (stopped number at) = stopped number at
 
-module _ (t : List ℕ) (s : StateSets) (used nodes every : ℕ) where
+module _ (t : List ℕ) (s : StateSets) (used nodes every some : ℕ) where
   joined-onward : (c m : ℕ) (children : Forest) (after : Reading)
-      → tally t s used nodes every (joined c m children after)
-      ≡ onward t s (λ rest later. after) (tally t s used nodes every (read [] (node c m children end)))
-  unfolding tally joined onward usedFrom countFrom everyFrom
+      → tally t s used nodes every some (joined c m children after)
+      ≡ onward t s (λ rest later. after) (tally t s used nodes every some (read [] (node c m children end)))
+  unfolding tally joined onward usedFrom countFrom keptFrom
   joined-onward c m children (read rest siblings) = refl
   joined-onward c m children (stop number at) = refl
 
   followed-onward : (c m : ℕ) (later : List ℕ → ℕ → Reading) (below : Reading)
-      → tally t s used nodes every (followed c m (suc (suc nodes)) later below)
-      ≡ onward t s later (tally t s used nodes every (followed c m (suc (suc nodes)) (λ rest at. read rest end) below))
-  unfolding tally joined followed onward usedFrom countFrom everyFrom
+      → tally t s used nodes every some (followed c m (suc (suc nodes)) later below)
+      ≡ onward t s later (tally t s used nodes every some (followed c m (suc (suc nodes)) (λ rest at. read rest end) below))
+  unfolding tally joined followed onward usedFrom countFrom keptFrom
   followed-onward c m later (stop number at) = refl
   followed-onward c m later (read rest children) =
       rw (count-next (suc nodes) children) (joined-onward c m children (later rest (suc (countFrom (suc nodes) children))))
 
   -- a node and what follows it: first the node alone, then the rest from what is kept by then
   entered-onward : (below : List Goal → List ℕ → ℕ → Reading) (later : List ℕ → ℕ → Reading) (e : Entry)
-      → tally t s used nodes every (entered (suc nodes) below later e)
-      ≡ onward t s later (tally t s used nodes every (entered (suc nodes) below (λ rest at. read rest end) e))
+      → tally t s used nodes every some (entered (suc nodes) below later e)
+      ≡ onward t s later (tally t s used nodes every some (entered (suc nodes) below (λ rest at. read rest end) e))
   unfolding tally entered onward
   entered-onward below later (halt number) = refl
   entered-onward below later (ask c m goals rest) = followed-onward c m later (below goals rest (suc (suc nodes)))
 
 -- goals are read one after the other
 reads-on : (t : List ℕ) (levels : ℕ) (branch : List Goal) (g : Goal) (goals : List Goal) (s : StateSets) (rec : List ℕ)
-    (used nodes every : ℕ)
-    → tallyOn t levels branch (g ∷ goals) s rec used nodes every
-    ≡ onward t s (reader t levels branch goals) (tallyOn t levels branch (g ∷ []) s rec used nodes every)
+    (used nodes every some : ℕ)
+    → tallyOn t levels branch (g ∷ goals) s rec used nodes every some
+    ≡ onward t s (reader t levels branch goals) (tallyOn t levels branch (g ∷ []) s rec used nodes every some)
 unfolding tallyOn reader readAll
-reads-on t zero branch g goals s rec used nodes every = entered-onward t s used nodes every _ _ (entry t false g rec)
-reads-on t (suc levels) branch g goals s rec used nodes every =
-    entered-onward t s used nodes every _ _ (entry t (fresh branch g) g rec)
+reads-on t zero branch g goals s rec used nodes every some = entered-onward t s used nodes every some _ _ (entry t false g rec)
+reads-on t (suc levels) branch g goals s rec used nodes every some =
+    entered-onward t s used nodes every some _ _ (entry t (fresh branch g) g rec)
 
 -- no goal is left
-pub reads-none : (t : List ℕ) (levels : ℕ) (branch : List Goal) (s : StateSets) (rec : List ℕ) (used nodes every : ℕ)
-    → tallyOn t levels branch [] s rec used nodes every ≡ passed rec used nodes every
-unfolding tallyOn tally reader readAll usedFrom countFrom everyFrom
-reads-none t zero branch s rec used nodes every = refl
-reads-none t (suc levels) branch s rec used nodes every = refl
+pub reads-none : (t : List ℕ) (levels : ℕ) (branch : List Goal) (s : StateSets) (rec : List ℕ) (used nodes every some : ℕ)
+    → tallyOn t levels branch [] s rec used nodes every some ≡ passed rec used nodes every some
+unfolding tallyOn tally reader readAll usedFrom countFrom keptFrom
+reads-none t zero branch s rec used nodes every some = refl
+reads-none t (suc levels) branch s rec used nodes every some = refl
 
--- the code's reader has read the first of some goals: it passed, or it stopped
-module _ {t : List ℕ} {levels : ℕ} {branch : List Goal} {g : Goal} {s : StateSets} {rec : List ℕ} {used nodes every : ℕ}
-    {rest : List ℕ} {used′ nodes′ every′ refusal : ℕ}
-    (r : ReadOn t levels branch g s rec used nodes every rest used′ nodes′ every′ refusal) (goals : List Goal) where
+-- the code's reader has read the first of Option.some goals: it passed, or it stopped
+module _ {t : List ℕ} {levels : ℕ} {branch : List Goal} {g : Goal} {s : StateSets} {rec : List ℕ} {used nodes every some : ℕ}
+    {rest : List ℕ} {used′ nodes′ every′ some′ refusal : ℕ}
+    (r : ReadOn t levels branch g s rec used nodes every some rest used′ nodes′ every′ some′ refusal) (goals : List Goal) where
   abbrev both : Told
-  both = tallyOn t levels branch (g ∷ goals) s rec used nodes every
+  both = tallyOn t levels branch (g ∷ goals) s rec used nodes every some
 
-  split : onward t s (reader t levels branch goals) (tallyOn t levels branch (g ∷ []) s rec used nodes every) ≡ both
-  split = sym (reads-on t levels branch g goals s rec used nodes every)
+  split : onward t s (reader t levels branch goals) (tallyOn t levels branch (g ∷ []) s rec used nodes every some) ≡ both
+  split = sym (reads-on t levels branch g goals s rec used nodes every some)
 
-  pub first-passed : refusal ≡ 0 → tallyOn t levels branch goals s rest used′ nodes′ every′ ≡ both
+  pub first-passed : refusal ≡ 0 → tallyOn t levels branch goals s rest used′ nodes′ every′ some′ ≡ both
   unfolding tallyOn numbersTold onward pick
   first-passed h = ap (onward t s (reader t levels branch goals)) (rw h at (r .told)) ∙ split
 
@@ -97,21 +97,21 @@ module _ {t : List ℕ} {levels : ℕ} {branch : List Goal} {g : Goal} {s : Stat
   unfolding numbersTold onward pick
   first-stopped h = ap (onward t s (reader t levels branch goals)) (rw (ne-eqb refusal 0 h) at (r .told)) ∙ split
 
-pub stopped-told : (rest : List ℕ) (used nodes every refusal : ℕ) → (refusal ≡ 0 → ⊥)
-    → numbersTold rest used nodes every refusal ≡ stopped refusal nodes
+pub stopped-told : (rest : List ℕ) (used nodes every some refusal : ℕ) → (refusal ≡ 0 → ⊥)
+    → numbersTold rest used nodes every some refusal ≡ stopped refusal nodes
 unfolding numbersTold pick
-stopped-told rest used nodes every refusal h = rw (ne-eqb refusal 0 h)
+stopped-told rest used nodes every some refusal h = rw (ne-eqb refusal 0 h)
 
-pub passed-told : (rest : List ℕ) (used nodes every refusal : ℕ) → refusal ≡ 0
-    → numbersTold rest used nodes every refusal ≡ passed rest used nodes every
+pub passed-told : (rest : List ℕ) (used nodes every some refusal : ℕ) → refusal ≡ 0
+    → numbersTold rest used nodes every some refusal ≡ passed rest used nodes every some
 unfolding numbersTold pick
-passed-told rest used nodes every refusal h = rw h
+passed-told rest used nodes every some refusal h = rw h
 
 -- a node that is entered: a level is left, two numbers are there, and the credential applies
 pub record Asks (t : List ℕ) (levels : ℕ) (g : Goal) (rec : List ℕ) (c m : ℕ) (goals : List Goal) : Type 0 where
   pub level : 1 ≤ levels
   pub long : 2 ≤ length rec
-  pub own : premises t g c m ≡ some goals
+  pub own : premises t g c m ≡ Option.some goals
 
 halt-ask : {number c m : ℕ} {goals : List Goal} {rest : List ℕ} → halt number ≡ ask c m goals rest → ⊥
 halt-ask e = let z : _≡_ {A = ℕ} 0 1 = cc in omega arith
@@ -126,9 +126,9 @@ module _ (t : List ℕ) (levels : ℕ) (branch : List Goal) (g : Goal) (c m : �
       → may levels branch g ≡ b → admitted b first second more found ≡ ask c m goals rest
       → Asks t levels g (first ∷ second ∷ more) c m goals
   unfolding admitted pick
-  admitted-asks first second more none e b f h = absurd (halt-ask h)
-  admitted-asks first second more (some asked) e false f h = absurd (halt-ask h)
-  admitted-asks first second more (some asked) e true f h =
+  admitted-asks first second more Option.none e b f h = absurd (halt-ask h)
+  admitted-asks first second more (Option.some asked) e false f h = absurd (halt-ask h)
+  admitted-asks first second more (Option.some asked) e true f h =
       let a : first ≡ c = cc in
       let b : second ≡ m = cc in
       let d : asked ≡ goals = cc in
@@ -148,11 +148,11 @@ unfolding reader readAll may
 one-goal t levels branch g rec at = refl
 
 pub node-stops : (t : List ℕ) (levels : ℕ) (branch : List Goal) (g : Goal) (s : StateSets) (rec : List ℕ)
-    (used nodes every number : ℕ) → entry t (may levels branch g) g rec ≡ halt number
-    → stopped number (suc nodes) ≡ tallyOn t levels branch (g ∷ []) s rec used nodes every
+    (used nodes every some number : ℕ) → entry t (may levels branch g) g rec ≡ halt number
+    → stopped number (suc nodes) ≡ tallyOn t levels branch (g ∷ []) s rec used nodes every some
 unfolding tallyOn tally reader readAll entered may
-node-stops t zero branch g s rec used nodes every number h = rw h
-node-stops t (suc levels) branch g s rec used nodes every number h = rw h
+node-stops t zero branch g s rec used nodes every some number h = rw h
+node-stops t (suc levels) branch g s rec used nodes every some number h = rw h
 
 -- where no goal is asked, no node is read
 reads-end : (t : List ℕ) (levels : ℕ) (branch goals : List Goal) (rec : List ℕ) (at : ℕ) → goals ≡ []
@@ -163,37 +163,41 @@ reads-end t levels branch goals rec at nothing rest f h =
     let z = reader-end t branch rec at levels in
     cc
 
--- the automata that have accepted every word, once a node that asks so many goals is entered: one that asks none ends a word
-abbrev pub afterNode : List ℕ → ℕ → StateSets → ℕ → ℕ
-afterNode t every below len = pick (eqb len 0) (bitAnd every (acceptingSet t below)) every
-
 -- one goal that is entered: its children are read from what is kept once the node is counted
-module _ (t : List ℕ) (wf : WellFormed t) (g : Goal) (s : StateSets) (used nodes every c m : ℕ) where
+module _ (t : List ℕ) (wf : WellFormed t) (g : Goal) (s : StateSets) (used nodes every some c m : ℕ) where
   abbrev below : StateSets
   below = movedSets t (g .role) s
 
-  children-kept : (goals : List Goal) → premises t g c m ≡ some goals → (rest : List ℕ) (f : Forest) → (goals ≡ [] → f ≡ end)
-      → everyFrom t below (afterNode t every below (length goals)) f ≡ everyFrom t s every (node c m f end)
-  unfolding everyFrom pick
-  children-kept [] applies rest f leaf = rw (leaf refl, asks-nothing t wf g c m applies, applies-role t g c m [] applies)
-  children-kept (h ∷ goals) applies rest f leaf =
+  children-kept : (join : ℕ → ℕ → ℕ) (kept : ℕ) (goals : List Goal) → premises t g c m ≡ Option.some goals
+      → (f : Forest) → (goals ≡ [] → f ≡ end)
+      → keptFrom join t below (afterNode join t kept below (length goals)) f ≡ keptFrom join t s kept (node c m f end)
+  unfolding keptFrom pick
+  children-kept join kept [] applies f leaf = rw (leaf refl, asks-nothing t wf g c m applies, applies-role t g c m [] applies)
+  children-kept join kept (h ∷ goals) applies f leaf =
       let not-one = ne-eqb (credential t c .kind) 1 (asks-more t g c m h goals applies) in
       rw (applies-role t g c m (h ∷ goals) applies, not-one, ne-eqb (suc (length goals)) 0 (λ e. omega arith))
 
-  reading-kept : (goals : List Goal) → premises t g c m ≡ some goals → (after : Reading)
+  -- what is kept once the node is counted and its word, if it ends one, is judged
+  abbrev counted : ℕ → Reading → Told
+  counted len after =
+      tally t below (bitOr used (2 ^ (c - 1))) (suc nodes) (afterNode bitAnd t every below len) (afterNode bitOr t some below len)
+      after
+
+  reading-kept : (goals : List Goal) → premises t g c m ≡ Option.some goals → (after : Reading)
       → (goals ≡ [] → (rest : List ℕ) (f : Forest) → after ≡ read rest f → f ≡ end)
-      → tally t below (bitOr used (2 ^ (c - 1))) (suc nodes) (afterNode t every below (length goals)) after
-      ≡ tally t s used nodes every (followed c m (suc (suc nodes)) (λ rest later. read rest end) after)
+      → counted (length goals) after
+      ≡ tally t s used nodes every some (followed c m (suc (suc nodes)) (λ rest later. read rest end) after)
   unfolding tally followed joined usedFrom countFrom
   reading-kept goals applies (read rest f) leaf =
-      rw (children-kept goals applies rest f (λ none-asked. leaf none-asked rest f refl))
+      let nothing : goals ≡ [] → f ≡ end = λ e. leaf e rest f refl in
+      rw (children-kept bitAnd every goals applies f nothing, children-kept bitOr some goals applies f nothing)
   reading-kept goals applies (stop number at) leaf = refl
 
   pub node-asks : (here levels : ℕ) (branch goals : List Goal) (rec rest : List ℕ) → here ≡ suc levels
-      → premises t g c m ≡ some goals → entry t (may here branch g) g rec ≡ ask c m goals rest
+      → premises t g c m ≡ Option.some goals → entry t (may here branch g) g rec ≡ ask c m goals rest
       → tallyOn t levels (g ∷ branch) goals below rest (bitOr used (2 ^ (c - 1))) (suc nodes)
-      (afterNode t every below (length goals))
-      ≡ tallyOn t here branch (g ∷ []) s rec used nodes every
+      (afterNode bitAnd t every below (length goals)) (afterNode bitOr t some below (length goals))
+      ≡ tallyOn t here branch (g ∷ []) s rec used nodes every some
   unfolding tallyOn entered
   node-asks here levels branch goals rec rest one-more applies h =
       let asked = rw one-more at h in

@@ -12,14 +12,15 @@ use Rattle.sets.specs.Sets.{inSet, meets}
 use Rattle.automata.specs.Automata.{accepts, acceptsFrom, leads, matches, moved, movedBy, run, starting}
 use Rattle.derivation.specs.Rules.{asks, fresh, premises, sameGoal}
 use Rattle.derivation.specs.Forest.{countFrom, usedFrom, usedSet}
-use Rattle.derivation.specs.Words.{acceptsAll, met, usesAutomaton, words}
+use Rattle.derivation.specs.Words.{acceptsAll, acceptsSome, isMet, met, usesAutomaton, words}
 use Rattle.verifier.specs.Reading.{admitted, entered, entry, followed, joined, readAll, reader}
 use Rattle.verifier.specs.Verdict.{judged, verdict}
 
 -- what a verdict computes with
 unfoldable pub opened : Unit {0}
 unfolding table.opened inSet meets accepts acceptsFrom leads matches moved movedBy run starting asks fresh premises sameGoal
-    countFrom usedFrom usedSet acceptsAll met usesAutomaton words admitted entered entry followed joined readAll reader judged verdict
+    countFrom usedFrom usedSet acceptsAll acceptsSome isMet met usesAutomaton words admitted entered entry followed joined readAll
+    reader judged verdict
 opened = tt
 
 pub record Row : Type 0 where

@@ -72,7 +72,7 @@ pub data Refuses (t : List ℕ) (q : Query) (rec : List ℕ) : ℕ → ℕ → T
   -- 11 at nodes + 1: the record begins with a derivation of the queried membership, and numbers remain after the tree
   leftover : {f : Forest} (x : ℕ) (more : List ℕ)
       → Derives t (q .depth) [] (goalOf q ∷ []) f → rec ≡ written f ++ (x ∷ more) → Refuses t q rec 11 (countFrom 1 f)
-  -- 14: the record derives the queried membership, and k is the lowest used automaton that rejects some word
+  -- 14: the record derives the queried membership, and k is the lowest used automaton that is not met
   rejected : {f : Forest} {k : ℕ}
       → Derives t (q .depth) [] (goalOf q ∷ []) f → rec ≡ written f → Numbered (automata t) k → met t f k ≡ false
       → ((j : ℕ) → Numbered (automata t) j → j < k → met t f j ≡ true) → Refuses t q rec 14 k

@@ -1,4 +1,4 @@
--- docs/DEFINITION.md, "Where each input is stopped": the verifier's end. Rows 1 to 8, then 11 to 13 at each node, then numbers
+-- docs/DEFINITION.md, "Where each input is stopped": the verifier's end. Rows 1 to 7, 17 and 8, then 11 to 13 at each node, then numbers
 -- left over, then 14.
 use Prim.Native.Nat.{ℕ}
 use mathlib.Core.List.{List, [], _∷_}
@@ -15,7 +15,7 @@ use Rattle.verifier.specs.Reading.Reading.{read, stop}
 use Rattle.verifier.specs.declared.Verdict.{Verdict}
 use Rattle.verifier.specs.declared.Verdict.the-variants as verdict′
 
--- numbers left over come after the last node, and 14, with the lowest used automaton that rejects some word, last
+-- numbers left over come after the last node, and 14, with the lowest used automaton that is not met, last
 unfoldable pub judged : List ℕ → Reading → Outcome
 judged t (stop number at) = refused number at
 judged t (read [] f) = demandEach (met t f) (automata t) 14 andThen accepted (usedSet f)

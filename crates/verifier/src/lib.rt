@@ -1,4 +1,4 @@
-// The verifier's end: whether a proof record derives the queried membership by the rules of RT0 and complies with every
+// The verifier's end: whether a proof record derives the queried membership by the rules of RT0 and meets every
 // automaton attached to a credential that it uses (docs/DEFINITION.md, "Records" and "Words"). specs/Verdict.antt says what the
 // answer means; specs/DemandTwo.antt states that it is right.
 mod reader; // reader.rt: a record, node by node
@@ -34,7 +34,7 @@ pub enum Verdict {
 // So many numbers make a record long.
 const LONG: usize = 64;
 
-// Whether the record derives the queried membership and complies: rows 1 to 8, then 11 to 14, for any three inputs.
+// Whether the record derives the queried membership and complies: rows 1 to 7, 17 and 8, then 11 to 14, for any three inputs.
 pub fn verify(table: &[Number], query: Query, rec: &[Number]) -> Verdict
     ensures { λ r. ⌜ verdictTold r ≡ verdict (now (table .entry)) query (now (rec .entry)) ⌝ }
 {
@@ -71,6 +71,7 @@ fn judge_by(table: &[Number], query: Query, rec: &[Number], arcs: &mut [StateSet
     let mut used = 0;
     let mut nodes = 0;
     let mut every = words::ALL_AUTOMATA;
+    let mut some = 0;
     let mut refusal = 0;
     let goal = derivation::goal_of(query);
     let levels = layout::wide(query.depth);
@@ -86,6 +87,7 @@ fn judge_by(table: &[Number], query: Query, rec: &[Number], arcs: &mut [StateSet
         &mut used,
         &mut nodes,
         &mut every,
+        &mut some,
         &mut refusal,
     );
     if refusal != 0 {
@@ -94,7 +96,7 @@ fn judge_by(table: &[Number], query: Query, rec: &[Number], arcs: &mut [StateSet
     if rest.len() != 0 {
         return refused(Reason::RecordLength, nodes + 1);
     }
-    words::judge_words(table, used, every)
+    words::judge_words(table, used, every, some)
 }
 
 // The reason with which reading stops at a node.

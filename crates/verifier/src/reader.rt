@@ -13,17 +13,14 @@ ghost use mathlib.Core.Path.{_≡_};
 ghost use Prim.Native.Nat.{_+_, _-_, _^_, _<_, _≤_};
 ghost use lib.ListN.{length};
 ghost use lib.Bits.{bitAnd, bitOr};
-ghost use lib.Dec.{eqb};
-ghost use Rattle.sets.specs.Logic.{pick};
 ghost use Rattle.table.specs.Limits.{mostCredentials, mostDepth, mostParts};
 ghost use Rattle.table.specs.Layout.{Numbered};
 ghost use Rattle.table.specs.Holding.{WellFormed};
 ghost use Rattle.automata.specs.Arcs.{Arcs};
-ghost use Rattle.automata.specs.Together.{acceptingSet};
 ghost use Rattle.verifier.specs.Reading.{entry};
 ghost use Rattle.derivation.specs.Held.{Room, above};
 ghost use Rattle.verifier.specs.Steps.{Halted, may, stepped};
-ghost use Rattle.verifier.specs.Tally.{ReadOn};
+ghost use Rattle.verifier.specs.Tally.{ReadOn, afterNode};
 
 // A node's entry: a refusal's number, or 0 and what the node asks.
 struct Step {
@@ -32,6 +29,12 @@ struct Step {
     pub middle: Number,
     pub len: usize,
     pub goals: [Goal; layout::MOST_PARTS],
+}
+
+// The automata that have accepted every word so far, and those that have accepted some word.
+struct Kept {
+    pub every: AutomatonSet,
+    pub some: AutomatonSet,
 }
 
 // Rows 11, 12 and 13 of one node, in that order.
@@ -85,26 +88,35 @@ fn with_credential(used: CredentialSet, c: Number) -> CredentialSet
     sets::with(used, layout::wide(c) - 1)
 }
 
-// The automata that have accepted every word, once a node is entered: a node that asks nothing ends a word.
+// What is kept of the words once a node is entered: a node that asks nothing ends a word.
 fn after_node(
     table: &[Number],
     arcs: &[StateSet],
     every: AutomatonSet,
+    some: AutomatonSet,
     states: StateSets,
     len: usize,
-) -> AutomatonSet
+) -> Kept
     requires { ⌜ WellFormed (now table) ⌝ }
     requires { ⌜ Arcs (now table) (now arcs) ⌝ }
-    ensures { λ r. ⌜ r ≡ pick (eqb len 0) (bitAnd every (acceptingSet (now (table .entry)) states)) every ⌝ }
+    ensures { λ r. ⌜ (r .every ≡ afterNode bitAnd (now (table .entry)) every states len)
+        × (r .some ≡ afterNode bitOr (now (table .entry)) some states len) ⌝ }
 {
-    if len == 0 {
-        return every & states.accepting(table, arcs);
+    if len != 0 {
+        return Kept {
+            every: every,
+            some: some,
+        };
     }
-    every
+    let accepting = states.accepting(table, arcs);
+    Kept {
+        every: every & accepting,
+        some: some | accepting,
+    }
 }
 
 // Reads the derivation of a goal from the front of the record. A refusal that is not 0 stops it, at node number `nodes`; then the
-// whole record is handed back, and `used` and `every` mean nothing.
+// whole record is handed back, and `used`, `every` and `some` mean nothing.
 pub fn read<'a>(
     table: &[Number],
     rec: &'a [Number],
@@ -116,6 +128,7 @@ pub fn read<'a>(
     used: &mut CredentialSet,
     nodes: &mut usize,
     every: &mut AutomatonSet,
+    some: &mut AutomatonSet,
     refusal: &mut u32,
 ) -> &'a [Number]
     requires { ⌜ WellFormed (now table) ⌝ }
@@ -124,8 +137,8 @@ pub fn read<'a>(
     requires { ⌜ now refusal ≡ 0 ⌝ }
     requires { ⌜ Arcs (now table) (now arcs) ⌝ }
     ensures { λ r. ⌜ ReadOn (now (table .entry)) levels (above branch) goal states
-        (now (rec .entry)) (now (used .entry)) (now (nodes .entry)) (now (every .entry))
-        (now r) (now (used .exit)) (now (nodes .exit)) (now (every .exit)) (now (refusal .exit))
+        (now (rec .entry)) (now (used .entry)) (now (nodes .entry)) (now (every .entry)) (now (some .entry))
+        (now r) (now (used .exit)) (now (nodes .exit)) (now (every .exit)) (now (some .exit)) (now (refusal .exit))
         × Arcs (now (table .entry)) (now (arcs .exit)) ⌝ }
 {
     *nodes += 1;
@@ -142,7 +155,9 @@ pub fn read<'a>(
     let len = step.len;
     let goals = step.goals;
     *used = with_credential(*used, step.credential);
-    *every = after_node(table, arcs, *every, below.states, len);
+    let kept = after_node(table, arcs, *every, *some, below.states, len);
+    *every = kept.every;
+    *some = kept.some;
     let mut rest = &rec[2..];
     if len == 0 {
         return rest;
@@ -161,6 +176,7 @@ pub fn read<'a>(
             used,
             nodes,
             every,
+            some,
             refusal,
         );
         if *refusal != 0 {

@@ -34,7 +34,7 @@ levels-fit : (at : tie.After-empty) → at .empty .result .len + levels at ≤ m
 levels-fit at = omega (arith, depth-fits _ (start at .pre .1 .0), begins at .all-levels, at .empty .ensures .1 .0)
 
 abbrev begun : tie.After-read → tie.After-empty
-begun at = at .before .before .before .before .before .before
+begun at = at .before .before .before .before .before .before .before
 
 goal-of-requires : tie.Need-goal-of-requires
 goal-of-requires c κs = search needs
@@ -50,7 +50,7 @@ empty-requires c κs = search needs
 
 read-requires : tie.Need-read-requires
 read-requires c κs =
-    let at = c .before .before .before .before .before in
+    let at = c .before .before .before .before .before .before in
     let pre = start at .pre in
     (pre .0, ((at .empty .ensures .0, levels-fit at), (omega (arith, start at .good .1 .1), (refl, pre .1 .1))))
 

@@ -28,24 +28,25 @@ use Rattle.verifier.proofs.reader.after_node.Reads as after-node-reads
 use Rattle.verifier.proofs.reader.enter.Reads as enter-reads
 use Rattle.verifier.proofs.reader.with_credential.Reads as with-credential-reads
 
-abbrev μ-read : Measures 7 read-kinds.ps ℕ
+abbrev μ-read : Measures 8 read-kinds.ps ℕ
 μ-read κs a = a .1 .1 .1 .0
 
-abbrev read-at : ℕ → In 7 read-kinds.ps
-read-at t = and 7 read-kinds.ps (is 7 read-kinds.ps μ-read t) read.Pre
+abbrev read-at : ℕ → In 8 read-kinds.ps
+read-at t = and 8 read-kinds.ps (is 8 read-kinds.ps μ-read t) read.Pre
 
-abbrev read-below : ℕ → In 7 read-kinds.ps
-read-below t = and 7 read-kinds.ps (falls 7 read-kinds.ps _<_ μ-read t) read.Pre
+abbrev read-below : ℕ → In 8 read-kinds.ps
+read-below t = and 8 read-kinds.ps (falls 8 read-kinds.ps _<_ μ-read t) read.Pre
 
 abbrev read-Inv-loop : read-lts.InvT-loop
-read-Inv-loop table rec levels arcs₀ used₀ nodes₀ every₀ refusal₀ stopped place below len goals rest₀ deeper i₀
-    arcs used nodes every refusal rest i =
-    Onward table (levels - 1) (above deeper) goals len (below .states) rest₀ used₀ nodes₀ every₀ rest used nodes every refusal i
+read-Inv-loop table rec levels arcs₀ used₀ nodes₀ every₀ some₀ refusal₀ stopped place below len goals rest₀ deeper i₀
+    arcs used nodes every some refusal rest i =
+    Onward table (levels - 1) (above deeper) goals len (below .states) rest₀ used₀ nodes₀ every₀ some₀
+    rest used nodes every some refusal i
     × Arcs table arcs × (length arcs ≡ length arcs₀)
 
 abbrev read-μ-loop : read-lts.MeasureT-loop
-read-μ-loop table rec levels arcs₀ used₀ nodes₀ every₀ refusal₀ stopped place below len goals rest₀ deeper i₀
-    arcs used nodes every refusal rest i =
+read-μ-loop table rec levels arcs₀ used₀ nodes₀ every₀ some₀ refusal₀ stopped place below len goals rest₀ deeper i₀
+    arcs used nodes every some refusal rest i =
     len - i
 
 abbrev read-claims : ℕ → read-lts.Claims
@@ -104,7 +105,7 @@ module _ (t : ℕ) where
   Kept = read-lts.After-after-node (read-claims t) (read-at t) read.Post read-Inv-loop read-μ-loop
 
   abbrev moved : Kept → Moved
-  moved at = at .before .before .before .before .before .before
+  moved at = at .before .before .before .before .before .before .before
 
   abbrev own : Kept → Entered
   own at = entered (asked (moved at))
@@ -113,8 +114,9 @@ module _ (t : ℕ) where
   Keeps at deeper =
       let from = start (own at) .args in
       let step = own at .before .enter .result in
-      Down (now (from .table)) (from .branch) (from .goal) (from .states) step (now (from .used)) (now (from .every))
-      deeper (moved at .moved .result .states) (at .before .before .before .with-credential .result) (at .after-node .result)
+      Down (now (from .table)) (from .branch) (from .goal) (from .states) step (now (from .used)) (now (from .every)) (now (from .some))
+      deeper (moved at .moved .result .states) (at .before .before .before .before .with-credential .result)
+      (at .after-node .result .every) (at .after-node .result .some)
 
   keeps : (at : Kept) (deeper : List Goal) → let from = start (own at) .args in
       deeper ≡ from .goal ∷ above (from .branch) → Keeps at deeper
@@ -122,7 +124,7 @@ module _ (t : ℕ) where
       record {
         branches = branches;
         moves = node-moves (node (own at)) (place (asked (moved at))) _ (moved at .moved .ensures);
-        uses = at .before .before .before .with-credential .ensures;
+        uses = at .before .before .before .before .with-credential .ensures;
         keeps = at .after-node .ensures;
       }
 
@@ -148,7 +150,7 @@ module _ (t : ℕ) where
   Read = read-lts.After-arcs2 (read-claims t) (read-at t) read.Post read-Inv-loop read-μ-loop
 
   abbrev inside : Read → read-lts.In-loop (read-claims t) (read-at t) read.Post read-Inv-loop read-μ-loop
-  inside at = at .before .before .before .before .before .before .before .before
+  inside at = at .before .before .before .before .before .before .before .before .before
 
 read-add-nodes : (t : ℕ) → read-lts.Need-add-nodes (read-claims t) (read-at t) read.Post read-Inv-loop read-μ-loop
 read-add-nodes t c = omega (arith, c .before .before .before .before .pre .1 .1 .1 .0)
@@ -186,7 +188,7 @@ read-with-credential-requires t c κs = node-credential (node t (entered t (aske
 read-after-node-requires : (t : ℕ)
     → read-lts.Need-after-node-requires (read-claims t) (read-at t) read.Post read-Inv-loop read-μ-loop
 read-after-node-requires t c κs =
-    let at = asked t (c .before .before .before .before .before) in
+    let at = asked t (c .before .before .before .before .before .before) in
     (start t (entered t at) .pre .1 .0, at .before .ask .ensures)
 
 read-sub-rest : (t : ℕ) → read-lts.Need-sub-rest (read-claims t) (read-at t) read.Post read-Inv-loop read-μ-loop
@@ -233,7 +235,7 @@ read-sub-read t c = omega (arith, node-level (node t (own t (kept t (c .before .
 
 read-read-requires : (t : ℕ) → read-lts.Need-read-requires (read-claims t) (read-at t) read.Post read-Inv-loop read-μ-loop
 read-read-requires t c κs =
-    let at = c .before .before .before .before .before .before .before in
+    let at = c .before .before .before .before .before .before .before .before in
     let children = at .before in
     let here = node t (own t (kept t children)) in
     let pre = start t (own t (kept t children)) .pre in

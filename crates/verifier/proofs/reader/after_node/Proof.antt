@@ -5,16 +5,18 @@ use Rattle.sets.specs.Logic.{pick}
 use Rattle.verifier.proofs.reader.after_node.Statement.{statement}
 use Rattle.verifier.proofs.reader.after_node.Tie as tie
 
+returns : tie.Need-returns
+unfolding pick
+returns c = let more = ne-eqb _ 0 (c .if1 .taken) in (rw more, rw more)
+
 accepting-requires : tie.Need-accepting-requires
 accepting-requires c κs = search needs
 
-returns : tie.Need-returns
-unfolding pick
-returns c = rw (eq-eqb _ 0 (c .before .if1 .taken), c .accepting .ensures)
-
 returns-2 : tie.Need-returns-2
 unfolding pick
-returns-2 c = rw (ne-eqb _ 0 (c .if1 .left))
+returns-2 c =
+    let ends = eq-eqb _ 0 (c .before .if1 .left) in
+    (rw (ends, c .accepting .ensures), rw (ends, c .accepting .ensures))
 
 pub after-node-spec : {M : Type 1} → statement M
-after-node-spec = tie.close (tie.spec accepting-requires returns returns-2)
+after-node-spec = tie.close (tie.spec returns accepting-requires returns-2)

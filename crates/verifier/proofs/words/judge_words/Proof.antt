@@ -19,21 +19,25 @@ use Rattle.verifier.proofs.words.judge_words.Statement.{statement}
 use Rattle.verifier.proofs.words.judge_words.Tie as tie
 
 abbrev Inv-loop : tie.InvT-loop
-Inv-loop table used every imposed a k₀ k = (k ≤ a) × (demandEach (keeps table used every) k 14 ≡ accepted 0)
+Inv-loop table used every some imposed a k₀ k = (k ≤ a) × (demandEach (keeps table used every some) k 14 ≡ accepted 0)
 
 abbrev μ-loop : tie.MeasureT-loop
-μ-loop table used every imposed a k₀ k = a - k
+μ-loop table used every some imposed a k₀ k = a - k
 
 -- where automaton k + 1 has been looked at: the code's flag is the test
 abbrev start : tie.At-loop Inv-loop μ-loop → tie.Start Inv-loop μ-loop
 start at = at .before .before .before .before
 
 abbrev test : tie.At-loop Inv-loop μ-loop → ℕ → Bool
-test at = let from = start at .args in keeps (now (from .table)) (from .used) (from .every)
+test at = let from = start at .args in keeps (now (from .table)) (from .used) (from .every) (from .some)
 
-kept : (at : tie.After-is-kept Inv-loop μ-loop) → let loop = at .before .before in
-    at .is-kept .result ≡ test loop (loop .loop .k + 1)
-kept at = at .is-kept .ensures ∙ kept-flag _ _ _ _ _ (at .before .before .before .before .automata-of .ensures)
+abbrev looped : tie.After-is-kept Inv-loop μ-loop → tie.At-loop Inv-loop μ-loop
+looped at = at .before .before .before .before
+
+kept : (at : tie.After-is-kept Inv-loop μ-loop) → at .is-kept .result ≡ test (looped at) (looped at .loop .k + 1)
+kept at =
+    let imposed = looped at .before .before .automata-of .ensures in
+    at .is-kept .ensures ∙ kept-flag _ _ _ _ _ _ _ imposed (at .before .before .automaton .ensures) (at .before .demanded .ensures)
 
 automata-of-requires : tie.Need-automata-of-requires Inv-loop μ-loop
 automata-of-requires c κs = search needs
@@ -48,6 +52,12 @@ loop-holds c = (omega arith, refl)
 add-k : tie.Need-add-k Inv-loop μ-loop
 add-k c = search needs
 
+automaton-requires : tie.Need-automaton-requires Inv-loop μ-loop
+automaton-requires c κs = search needs
+
+demanded-requires : tie.Need-demanded-requires Inv-loop μ-loop
+demanded-requires c κs = search needs
+
 is-kept-requires : tie.Need-is-kept-requires Inv-loop μ-loop
 is-kept-requires c κs = search needs
 
@@ -57,7 +67,7 @@ refused-requires c κs = search needs
 returns : tie.Need-returns Inv-loop μ-loop
 unfolding numberOf
 returns c =
-    let loop = c .before .before .before .before in
+    let loop = looped (c .before .before) in
     let stops = failed (kept (c .before .before)) (c .before .if1 .taken) in
     let all = automata (now (start loop .args .table)) in
     c .refused .ensures
@@ -68,7 +78,7 @@ loop-less c = search needs
 
 loop-again : tie.Need-loop-again Inv-loop μ-loop
 loop-again c =
-    let loop = c .before .before .before in
+    let loop = looped (c .before) in
     (omega arith, each-passes (test loop) 14 _ (loop .loop .inv .1) (passed (kept (c .before)) (c .if1 .left)))
 
 returns-2 : tie.Need-returns-2 Inv-loop μ-loop
@@ -88,6 +98,8 @@ judge-words-spec =
     automata-requires
     loop-holds
     add-k
+    automaton-requires
+    demanded-requires
     is-kept-requires
     refused-requires
     returns
