@@ -73,11 +73,11 @@ every-padded one f (r ∷ s ∷ u ∷ v ∷ []) any few =
 every-padded one f (r ∷ s ∷ u ∷ v ∷ w ∷ roles) any few = absurd (omega arith)
 
 -- what is asked only where a test passes
-proved-when : (one : Goal → Bool) (word test : Bool) (goals : List Goal)
-    → provedPremises one word (when test goals) ≡ (test and pick (eqb (length goals) 0) word (everyGoal one goals))
+proved-when : (all : List Goal → Bool) (word test : Bool) (goals : List Goal)
+    → provedPremises all word (when test goals) ≡ (test and pick (eqb (length goals) 0) word (all goals))
 unfolding provedPremises pick _and_
-proved-when one word true goals = refl
-proved-when one word false goals = refl
+proved-when all word true goals = refl
+proved-when all word false goals = refl
 
 -- a chain of two to four cells has as many parts
 pub parts-few : (t : List ℕ) → WellFormed t → (c : ℕ) → Numbered (credentials t) c → credential t c .kind ≡ 4
@@ -113,86 +113,124 @@ middleAt t j = credential t (suc j) .first
 abbrev pub middleRole : List ℕ → ℕ → Role
 middleRole t c = record { owner = credential t c .role .owner; name = name (credential t c .first) }
 
-abbrev pub byMiddle : List ℕ → (Goal → Bool) → Goal → ℕ → ℕ → Bool
-byMiddle t one g c j =
-    one (goal (principal (middleAt t j)) (middleRole t c))
-    and one (goal (g .principal) (role (middleAt t j) (credential t c .second)))
+abbrev pub middleGoals : List ℕ → Goal → ℕ → ℕ → List Goal
+middleGoals t g c j =
+    goal (principal (middleAt t j)) (middleRole t c) ∷ goal (g .principal) (role (middleAt t j) (credential t c .second)) ∷ []
 
-module _ (t : List ℕ) (wf : WellFormed t) (one : Goal → Bool) (word : Bool) (g : Goal) (c : ℕ)
+-- the goals of the roles asked of the goal's principal
+abbrev pub roleGoals : List ℕ → Goal → ℕ → List Goal
+roleGoals t g c = map (λ (r : Role). goal (g .principal) r) (rolesAsked t (credential t c))
+
+module _ (t : List ℕ) (wf : WellFormed t) (all : List Goal → Bool) (word : Bool) (g : Goal) (c : ℕ)
     (there : Numbered (credentials t) c) (own : sameRole (credential t c .role) (g .role) ≡ true) where
   asked-is : (m : ℕ) → asks t g (credential t c) m ≡ premises t g c m
   asked-is m = own-role t g c m there (credential t c) refl own
 
   -- every kind but 3 is tried without a middle
-  no-middle : (credential t c .kind ≡ 3 → ⊥) → provesBy t one word g c ≡ provedPremises one word (asks t g (credential t c) 0)
+  no-middle : (credential t c .kind ≡ 3 → ⊥) → provesBy t all word g c ≡ provedPremises all word (asks t g (credential t c) 0)
   unfolding provesBy pick
   no-middle other = rw (ne-eqb (credential t c .kind) 3 other, asked-is 0)
 
   pub by-membership : credential t c .kind ≡ 1
-      → provesBy t one word g c ≡ (eqb (credential t c .first) (g .principal .0) and word)
+      → provesBy t all word g c ≡ (eqb (credential t c .first) (g .principal .0) and word)
   unfolding pick
   by-membership kind =
       let named = eqb (credential t c .first) (g .principal .0) in
       no-middle (λ e. omega arith)
-      ∙ ap (provedPremises one word) (sym (asks-1 t g (credential t c) 0 kind))
-      ∙ proved-when one word (named and true) []
+      ∙ ap (provedPremises all word) (sym (asks-1 t g (credential t c) 0 kind))
+      ∙ proved-when all word (named and true) []
       ∙ ap (λ b. b and word) (and-true named)
 
   -- one role or more are asked of the goal's principal
-  abbrev pub allProved : List Role → Bool
-  allProved roles = not (anyBelow (λ k. not (one (goal (g .principal) (padded roles k)))) mostParts)
-
-  all-roles : (roles : List Role) → 1 ≤ length roles → length roles ≤ mostParts
-      → provedPremises one word (when true (map (λ (r : Role). goal (g .principal) r) roles)) ≡ allProved roles
+  all-roles : (roles : List Role) → 1 ≤ length roles
+      → provedPremises all word (when true (map (λ (r : Role). goal (g .principal) r) roles))
+      ≡ all (map (λ (r : Role). goal (g .principal) r) roles)
   unfolding pick _and_
-  all-roles roles any few =
+  all-roles roles any =
       let goals = map (λ (r : Role). goal (g .principal) r) roles in
       let same = length-map roles (λ (r : Role). goal (g .principal) r) in
-      proved-when one word true goals
-      ∙ rw (ne-eqb (length goals) 0 (λ e. omega arith)) (every-padded one (goal (g .principal)) roles any few)
+      proved-when all word true goals ∙ rw (ne-eqb (length goals) 0 (λ e. omega arith))
 
-  pub by-parts : (credential t c .kind ≡ 2) ⊎ (credential t c .kind ≡ 4)
-      → provesBy t one word g c ≡ allProved (rolesAsked t (credential t c))
-  by-parts (inl kind) =
+  pub by-roles : (credential t c .kind ≡ 2) ⊎ (credential t c .kind ≡ 4) → provesBy t all word g c ≡ all (roleGoals t g c)
+  by-roles (inl kind) =
       no-middle (λ e. omega arith)
-      ∙ ap (provedPremises one word) (sym (asks-2 t g (credential t c) 0 kind))
-      ∙ all-roles (role (credential t c .first) (credential t c .second) ∷ []) (omega arith) (omega arith)
-      ∙ ap allProved (sym (roles-2 t _ kind))
-  by-parts (inr kind) =
-      let few = parts-few t wf c there kind in
+      ∙ ap (provedPremises all word) (sym (asks-2 t g (credential t c) 0 kind))
+      ∙ all-roles (role (credential t c .first) (credential t c .second) ∷ []) (omega arith)
+      ∙ ap (λ roles. all (map (λ (r : Role). goal (g .principal) r) roles)) (sym (roles-2 t _ kind))
+  by-roles (inr kind) =
       no-middle (λ e. omega arith)
-      ∙ ap (provedPremises one word) (sym (asks-4 t g (credential t c) 0 kind))
-      ∙ all-roles (parts t (credential t c .first)) (few .0) (few .1)
-      ∙ ap allProved (sym (roles-4 t _ kind))
+      ∙ ap (provedPremises all word) (sym (asks-4 t g (credential t c) 0 kind))
+      ∙ all-roles (parts t (credential t c .first)) (parts-few t wf c there kind .0)
+      ∙ ap (λ roles. all (map (λ (r : Role). goal (g .principal) r) roles)) (sym (roles-4 t _ kind))
 
-  pub with-middle : credential t c .kind ≡ 3 → (j : ℕ) → j < credentials t → isPerson t j ≡ true
-      → provedPremises one word (premises t g c (middleAt t j)) ≡ byMiddle t one g c j
-  unfolding isPerson pick _and_ everyGoal
-  with-middle kind j l person =
+  pub with-goals : credential t c .kind ≡ 3 → (j : ℕ) → j < credentials t → isPerson t j ≡ true
+      → provedPremises all word (premises t g c (middleAt t j)) ≡ all (middleGoals t g c j)
+  unfolding isPerson pick _and_
+  with-goals kind j l person =
       let there-is = names-principal t wf (suc j) (numbered l) (eqb-true _ 1 (and-first _ _ person)) in
       rw (← asked-is (middleAt t j), ← asks-3 t g (credential t c) (middleAt t j) kind, there-is)
-      (proved-when one word true _ ∙ rw (and-true (one (goal (g .principal) (role (middleAt t j) (credential t c .second))))))
+      (proved-when all word true _)
 
-  pub by-middles : credential t c .kind ≡ 3
-      → provesBy t one word g c ≡ anyBelow (λ j. isPerson t j and byMiddle t one g c j) (credentials t)
+  pub by-goals : credential t c .kind ≡ 3
+      → provesBy t all word g c ≡ anyBelow (λ j. isPerson t j and all (middleGoals t g c j)) (credentials t)
   unfolding provesBy pick
-  by-middles kind =
+  by-goals kind =
       rw (eq-eqb (credential t c .kind) 3 kind)
       (any-same _ _ (credentials t) (λ j l. go j l (isPerson t j) refl))
     where
       go : (j : ℕ) → j < credentials t → (b : Bool) → isPerson t j ≡ b
-          → (isPerson t j and provedPremises one word (premises t g c (middleAt t j))) ≡ (isPerson t j and byMiddle t one g c j)
-      go j l true e = ap (λ b. isPerson t j and b) (with-middle kind j l e)
+          → (isPerson t j and provedPremises all word (premises t g c (middleAt t j)))
+          ≡ (isPerson t j and all (middleGoals t g c j))
+      go j l true e = ap (λ b. isPerson t j and b) (with-goals kind j l e)
       go j l false e = and-is-off _ e ∙ sym (and-is-off _ e)
 
   -- there is no other kind
   pub by-none : (credential t c .kind ≡ 1 → ⊥) → (credential t c .kind ≡ 2 → ⊥) → (credential t c .kind ≡ 3 → ⊥)
-      → (credential t c .kind ≡ 4 → ⊥) → provesBy t one word g c ≡ false
+      → (credential t c .kind ≡ 4 → ⊥) → provesBy t all word g c ≡ false
   unfolding provedPremises
-  by-none h1 h2 h3 h4 = no-middle h3 ∙ ap (provedPremises one word) (sym (asks-none t g (credential t c) 0 h1 h2 h3 h4))
+  by-none h1 h2 h3 h4 = no-middle h3 ∙ ap (provedPremises all word) (sym (asks-none t g (credential t c) 0 h1 h2 h3 h4))
+
+-- where goals are proved one by one
+abbrev pub byMiddle : List ℕ → (Goal → Bool) → Goal → ℕ → ℕ → Bool
+byMiddle t one g c j =
+    one (goal (principal (middleAt t j)) (middleRole t c))
+    and one (goal (g .principal) (role (middleAt t j) (credential t c .second)))
+
+pub every-middle : (t : List ℕ) (one : Goal → Bool) (g : Goal) (c j : ℕ)
+    → everyGoal one (middleGoals t g c j) ≡ byMiddle t one g c j
+unfolding everyGoal
+every-middle t one g c j = rw (and-true (one (goal (g .principal) (role (middleAt t j) (credential t c .second)))))
+
+module _ (t : List ℕ) (wf : WellFormed t) (one : Goal → Bool) (word : Bool) (g : Goal) (c : ℕ)
+    (there : Numbered (credentials t) c) (own : sameRole (credential t c .role) (g .role) ≡ true) where
+  abbrev pub allProved : List Role → Bool
+  allProved roles = not (anyBelow (λ k. not (one (goal (g .principal) (padded roles k)))) mostParts)
+
+  -- one to four roles are asked of the goal's principal
+  roles-few : (credential t c .kind ≡ 2) ⊎ (credential t c .kind ≡ 4)
+      → (1 ≤ length (rolesAsked t (credential t c))) × (length (rolesAsked t (credential t c)) ≤ mostParts)
+  roles-few (inl kind) = rw (roles-2 t (credential t c) kind) (omega arith, omega arith)
+  roles-few (inr kind) = rw (roles-4 t (credential t c) kind) (parts-few t wf c there kind)
+
+  pub by-parts : (credential t c .kind ≡ 2) ⊎ (credential t c .kind ≡ 4)
+      → provesBy t (everyGoal one) word g c ≡ allProved (rolesAsked t (credential t c))
+  by-parts kind =
+      by-roles t wf (everyGoal one) word g c there own kind
+      ∙ every-padded one (goal (g .principal)) (rolesAsked t (credential t c)) (roles-few kind .0) (roles-few kind .1)
+
+  pub with-middle : credential t c .kind ≡ 3 → (j : ℕ) → j < credentials t → isPerson t j ≡ true
+      → provedPremises (everyGoal one) word (premises t g c (middleAt t j)) ≡ byMiddle t one g c j
+  with-middle kind j l person =
+      with-goals t wf (everyGoal one) word g c there own kind j l person ∙ every-middle t one g c j
+
+  pub by-middles : credential t c .kind ≡ 3
+      → provesBy t (everyGoal one) word g c ≡ anyBelow (λ j. isPerson t j and byMiddle t one g c j) (credentials t)
+  by-middles kind =
+      by-goals t wf (everyGoal one) word g c there own kind
+      ∙ any-same _ _ (credentials t) (λ j l. ap (λ b. isPerson t j and b) (every-middle t one g c j))
 
   -- the goal is proved: each role asked is, or both roles with some middle
-  module _ (proved : provesBy t one word g c ≡ true) where
+  module _ (proved : provesBy t (everyGoal one) word g c ≡ true) where
     pub each-part : (credential t c .kind ≡ 2) ⊎ (credential t c .kind ≡ 4) → (k : ℕ) → k < mostParts
         → one (goal (g .principal) (padded (rolesAsked t (credential t c)) k)) ≡ true
     each-part kind k l =
@@ -211,7 +249,7 @@ module _ (t : List ℕ) (wf : WellFormed t) (one : Goal → Bool) (word : Bool) 
     pub some-role : (credential t c .kind ≡ 1 → ⊥) → (r : Role) × (one (goal (g .principal) r) ≡ true)
     some-role other =
         by-kind (credential t c .kind) (λ kind. absurd (other kind)) (λ kind. first (inl kind)) linked
-        (λ kind. first (inr kind)) (λ h1 h2 h3 h4. absurd (false-true (sym (by-none h1 h2 h3 h4) ∙ proved)))
+        (λ kind. first (inr kind)) (λ h1 h2 h3 h4. absurd (false-true (sym (by-none t wf (everyGoal one) word g c there own h1 h2 h3 h4) ∙ proved)))
       where
         first : (credential t c .kind ≡ 2) ⊎ (credential t c .kind ≡ 4) → (r : Role) × (one (goal (g .principal) r) ≡ true)
         first kind = (padded (rolesAsked t (credential t c)) 0, each-part kind 0 (omega arith))

@@ -26,7 +26,7 @@ use Rattle.table.proofs.WellFormed.{wf-credential}
 use Rattle.derivation.specs.Rules.{goal}
 use Rattle.derivation.proofs.Ruling.{by-kind}
 use Rattle.members.specs.Places.{isPerson, personAt, roleAt}
-use Rattle.members.specs.Trying.{provesBy}
+use Rattle.members.specs.Trying.{everyGoal, provesBy}
 use Rattle.members.specs.Members.{Indexed, askedCell, linkCell, listed, padded, rolesAsked}
 use Rattle.members.specs.Levels.{askedMask, askedMembers, linkedMembers, mask, provedMembers}
 use Rattle.members.proofs.Reading.{kind-read, numbered}
@@ -185,7 +185,7 @@ module _ (t index rows : List ℕ) (wf : WellFormed t) (made : Indexed t index) 
   asked-mask k s l = rw (made .asked i k there l other)
 
   by-asked : (credential t (suc i) .kind ≡ 2) ⊎ (credential t (suc i) .kind ≡ 4) → (credential t (suc i) .kind ≡ 3 → ⊥)
-      → provesBy t (listed t rows level) true g (suc i) ≡ inSet (provedMembers t index rows level i) who
+      → provesBy t (everyGoal (listed t rows level)) true g (suc i) ≡ inSet (provedMembers t index rows level i) who
   unfolding provedMembers pick
   by-asked kind none =
       rw (ne-eqb (credential t (suc i) .kind) 3 none)
@@ -219,7 +219,7 @@ module _ (t index rows : List ℕ) (wf : WellFormed t) (made : Indexed t index) 
         ∙ sym (and-is-off _ (refuted _ (λ inside.
         false-true (sym nobody ∙ persons _ j (made .placed .small (askedCell i 0)) (first inside) .1))))
 
-    by-linked : provesBy t (listed t rows level) true g (suc i) ≡ inSet (provedMembers t index rows level i) who
+    by-linked : provesBy t (everyGoal (listed t rows level)) true g (suc i) ≡ inSet (provedMembers t index rows level i) who
     unfolding provedMembers pick
     by-linked =
         let asked = askedMembers index rows level i in
@@ -230,7 +230,7 @@ module _ (t index rows : List ℕ) (wf : WellFormed t) (made : Indexed t index) 
         (λ j l. by-middle j l (isPerson t j) refl)
         ∙ sym (linked-is index rows level i asked who (credentials t)))
 
-  pub proved-is : provesBy t (listed t rows level) true g (suc i)
+  pub proved-is : provesBy t (everyGoal (listed t rows level)) true g (suc i)
       ≡ inSet (provedMembers t index rows level i) (personAt t (g .principal .0))
   proved-is =
       let known = wf-credential t wf (suc i) (numbered there) .kind in

@@ -20,7 +20,7 @@ use Rattle.table.specs.Holding.{WellFormed}
 use Rattle.table.specs.declared.Role.{Role}
 use Rattle.table.specs.declared.Goal.{Goal}
 use Rattle.members.specs.Places.{personAt, roleAt}
-use Rattle.members.specs.Trying.{mayUse, provesBy}
+use Rattle.members.specs.Trying.{everyGoal, mayUse, provesBy}
 use Rattle.members.specs.Members.{Indexed, Members, askedCell, lesser, listed, roleCell, rowCell, rowCells, tableCells}
 use Rattle.members.specs.Members.{within}
 use Rattle.members.specs.Levels.{Copied, FirstLevel, Grown, Kept, Named, NamedBy, isRest, mask, provedMembers, restOf}
@@ -89,11 +89,11 @@ module _ (t index : List ℕ) (wf : WellFormed t) (made : Indexed t index) (S : 
   has-place g c s l own h = rw (made .defined c l, same-place t _ (g .role) own) at h
 
   by-name : (one : Goal → Bool) (g : Goal) (c : ℕ) → c < credentials t → mayUse t S g (suc c) ≡ true
-      → credential t (suc c) .kind ≡ 1 → provesBy t one true g (suc c) ≡ true → listed t rows level g ≡ true
+      → credential t (suc c) .kind ≡ 1 → provesBy t (everyGoal one) true g (suc c) ≡ true → listed t rows level g ≡ true
   unfolding listed
   by-name one g c l may kind proved =
       let (inside, own) = may-parts t S g c may in
-      let names = eqb-true _ _ (and-first _ _ (sym (by-membership t wf one true g (suc c) (numbered l) own kind) ∙ proved)) in
+      let names = eqb-true _ _ (and-first _ _ (sym (by-membership t wf (everyGoal one) true g (suc c) (numbered l) own kind) ∙ proved)) in
       let place = made .named c l kind ∙ ap (personAt t) names in
       and-both (lt-ltb _ _ (person-named t (g .principal .0) c l kind names))
       (has-place g c _ l own (rw place at (named c l inside kind)))
@@ -103,7 +103,7 @@ module _ (t index : List ℕ) (wf : WellFormed t) (made : Indexed t index) (S : 
       → ((i : ℕ) → i < credentials t → inSet S i ≡ true → (credential t (suc i) .kind ≡ 1 → ⊥)
       → part (provedMembers t index rows₀ level₀ i) (mask rows level (getD index (roleCell i) 0)) ≡ true)
       → (g : Goal) (c : ℕ) → c < credentials t → mayUse t S g (suc c) ≡ true
-      → provesBy t (listed t rows₀ level₀) true g (suc c) ≡ true → listed t rows level g ≡ true
+      → provesBy t (everyGoal (listed t rows₀ level₀)) true g (suc c) ≡ true → listed t rows level g ≡ true
   unfolding listed
   by-step rows₀ level₀ persons taken g c l may proved = go (ℕ-discrete (credential t (suc c) .kind) 1)
     where
@@ -167,7 +167,7 @@ module _ (t index : List ℕ) (wf : WellFormed t) (made : Indexed t index) (S ot
           let (c, l, may, proved) = within-step t S 0 g h in
           go c l may proved (ℕ-discrete (credential t (suc c) .kind) 1)
         where
-          go : (c : ℕ) → c < credentials t → mayUse t S g (suc c) ≡ true → provesBy t (within t S 0) true g (suc c) ≡ true
+          go : (c : ℕ) → c < credentials t → mayUse t S g (suc c) ≡ true → provesBy t (everyGoal (within t S 0)) true g (suc c) ≡ true
               → Dec (credential t (suc c) .kind ≡ 1) → listed t rows 1 g ≡ true
           go c l may proved (yes kind) = by-name t index wf made S rows 1 (first .named) (within t S 0) g c l may kind proved
           go c l may proved (no other) =
@@ -187,7 +187,7 @@ module _ (t index : List ℕ) (wf : WellFormed t) (made : Indexed t index) (S ot
           let own = place-own t index made g i (by .there) (omega (arith, by .cell)) in
           let names = person-own t index made g i (by .there) (by .kind) there (by .person) in
           within-by t S 0 g i (by .there) (may-both t S g i (by .inside) own)
-          (by-membership t wf (within t S 0) true g (suc i) (numbered (by .there)) own (by .kind)
+          (by-membership t wf (everyGoal (within t S 0)) true g (suc i) (numbered (by .there)) own (by .kind)
           ∙ and-both (eq-eqb _ _ names) refl)
 
       only : (k : ℕ) → k ≤ 1 → (g : Goal) → listed t rows k g ≡ true → within t S k g ≡ true
@@ -329,7 +329,7 @@ module _ (t index : List ℕ) (wf : WellFormed t) (made : Indexed t index) (S ot
             rw (same-row level (omega arith) _ (made .placed .small (roleCell i))) (at .named i l inside kind)
 
         closed : (g : Goal) (c : ℕ) → c < credentials t → mayUse t S g (suc c) ≡ true
-            → provesBy t (listed t rows₂ level) true g (suc c) ≡ true → listed t rows₂ level g ≡ true
+            → provesBy t (everyGoal (listed t rows₂ level)) true g (suc c) ≡ true → listed t rows₂ level g ≡ true
         closed =
             by-step t index wf made S rows₂ level named-here rows₂ level persons-before
             (λ i l inside other. rw (row-same _ (made .placed .small (roleCell i))) at (taken i l inside other))

@@ -25,6 +25,22 @@ unfolding pick
 pick-mono true f g h = f h
 pick-mono false f g h = g h
 
+module _ (all all′ : List Goal → Bool) (more : (goals : List Goal) → all goals ≡ true → all′ goals ≡ true)
+    (word word′ : Bool) (ends : word ≡ true → word′ ≡ true) where
+  pub premises-mono : (asked : Option (List Goal)) → provedPremises all word asked ≡ true → provedPremises all′ word′ asked ≡ true
+  unfolding provedPremises
+  premises-mono none h = h
+  premises-mono (some goals) h = pick-mono (eqb (length goals) 0) ends (more goals) h
+
+  pub all-by-mono : (t : List ℕ) (g : Goal) (c : ℕ) → provesBy t all word g c ≡ true → provesBy t all′ word′ g c ≡ true
+  unfolding provesBy
+  all-by-mono t g c h =
+      pick-mono (eqb (credential t c .kind) 3)
+      (any-mono _ _ (credentials t) (λ j l both.
+      and-both (and-first (isPerson t j) _ both)
+      (premises-mono (premises t g c (credential t (suc j) .first)) (and-second (isPerson t j) _ both))))
+      (premises-mono (premises t g c 0)) h
+
 module _ (one one′ : Goal → Bool) (more : (g : Goal) → one g ≡ true → one′ g ≡ true) where
   pub every-mono : (goals : List Goal) → everyGoal one goals ≡ true → everyGoal one′ goals ≡ true
   unfolding everyGoal
@@ -33,19 +49,9 @@ module _ (one one′ : Goal → Bool) (more : (g : Goal) → one g ≡ true → 
       and-both (more g (and-first (one g) _ h)) (every-mono goals (and-second (one g) _ h))
 
   module _ (word word′ : Bool) (ends : word ≡ true → word′ ≡ true) where
-    pub proved-mono : (asked : Option (List Goal)) → provedPremises one word asked ≡ true → provedPremises one′ word′ asked ≡ true
-    unfolding provedPremises
-    proved-mono none h = h
-    proved-mono (some goals) h = pick-mono (eqb (length goals) 0) ends (every-mono goals) h
-
-    pub proves-by-mono : (t : List ℕ) (g : Goal) (c : ℕ) → provesBy t one word g c ≡ true → provesBy t one′ word′ g c ≡ true
-    unfolding provesBy
-    proves-by-mono t g c h =
-        pick-mono (eqb (credential t c .kind) 3)
-        (any-mono _ _ (credentials t) (λ j l both.
-        and-both (and-first (isPerson t j) _ both)
-        (proved-mono (premises t g c (credential t (suc j) .first)) (and-second (isPerson t j) _ both))))
-        (proved-mono (premises t g c 0)) h
+    pub proves-by-mono : (t : List ℕ) (g : Goal) (c : ℕ) → provesBy t (everyGoal one) word g c ≡ true
+        → provesBy t (everyGoal one′) word′ g c ≡ true
+    proves-by-mono = all-by-mono (everyGoal one) (everyGoal one′) every-mono word word′ ends
 
 module _ (t : List ℕ) (S : ℕ) where
   -- within no level nothing is proved, within one more what some credential proves by what the levels before prove
@@ -54,17 +60,17 @@ module _ (t : List ℕ) (S : ℕ) where
   within-none g h = absurd (false-true h)
 
   pub within-step : (k : ℕ) (g : Goal) → within t S (suc k) g ≡ true
-      → (c : ℕ) × (c < credentials t) × (mayUse t S g (suc c) ≡ true) × (provesBy t (within t S k) true g (suc c) ≡ true)
+      → (c : ℕ) × (c < credentials t) × (mayUse t S g (suc c) ≡ true) × (provesBy t (everyGoal (within t S k)) true g (suc c) ≡ true)
   unfolding within
   within-step k g h =
       let (c, l, both) = any-shows _ (credentials t) h in
       (c, l, and-first (mayUse t S g (suc c)) _ both, and-second (mayUse t S g (suc c)) _ both)
 
   pub within-by : (k : ℕ) (g : Goal) (c : ℕ) → c < credentials t → mayUse t S g (suc c) ≡ true
-      → provesBy t (within t S k) true g (suc c) ≡ true → within t S (suc k) g ≡ true
+      → provesBy t (everyGoal (within t S k)) true g (suc c) ≡ true → within t S (suc k) g ≡ true
   unfolding within
   within-by k g c l may proved =
-      any-reached (λ c. mayUse t S g (suc c) and provesBy t (within t S k) true g (suc c)) (credentials t) c l
+      any-reached (λ c. mayUse t S g (suc c) and provesBy t (everyGoal (within t S k)) true g (suc c)) (credentials t) c l
       (and-both may proved)
 
   -- who is a member within some levels is one within more
@@ -85,7 +91,7 @@ module _ (t : List ℕ) (S : ℕ) where
       go (no less) earlier = earlier (omega arith)
 
   pub within-closed : (T : Goal → Bool)
-      → ((g : Goal) (c : ℕ) → c < credentials t → mayUse t S g (suc c) ≡ true → provesBy t T true g (suc c) ≡ true → T g ≡ true)
+      → ((g : Goal) (c : ℕ) → c < credentials t → mayUse t S g (suc c) ≡ true → provesBy t (everyGoal T) true g (suc c) ≡ true → T g ≡ true)
       → (k : ℕ) (g : Goal) → within t S k g ≡ true → T g ≡ true
   within-closed T closed zero g h = within-none g h
   within-closed T closed (suc k) g h =

@@ -17,12 +17,12 @@ use Rattle.table.specs.declared.Goal.{Goal}
 use Rattle.table.specs.declared.Query.{Query}
 use Rattle.derivation.specs.Rules.{goalOf}
 use Rattle.members.specs.Places.{personAt, roleAt}
-use Rattle.members.specs.Trying.{mayUse, provesBy}
+use Rattle.members.specs.Trying.{everyGoal, mayUse, provesBy}
 
 unfoldable pub within : List ℕ → ℕ → ℕ → Goal → Bool
 within t S zero g = false
 within t S (suc levels) g =
-    anyBelow (λ c. mayUse t S g (suc c) and provesBy t (within t S levels) true g (suc c)) (credentials t)
+    anyBelow (λ c. mayUse t S g (suc c) and provesBy t (everyGoal (within t S levels)) true g (suc c)) (credentials t)
 
 -- the roles that a credential asks of its goal's principal, and for kind 3 the role that it asks of a middle
 unfoldable pub rolesAsked : List ℕ → Credential → List Role

@@ -16,18 +16,19 @@ unfoldable pub everyGoal : (Goal → Bool) → List Goal → Bool
 everyGoal one [] = true
 everyGoal one (g ∷ goals) = one g and everyGoal one goals
 
--- what a credential asks is proved, goal by goal; where it asks nothing a word ends, which must be accepted
-unfoldable pub provedPremises : (Goal → Bool) → Bool → Option (List Goal) → Bool
-provedPremises one word none = false
-provedPremises one word (some goals) = pick (eqb (length goals) 0) word (everyGoal one goals)
+-- what a credential asks is proved, where `all` says which lists of goals are; where it asks nothing a word ends, which must be
+-- accepted
+unfoldable pub provedPremises : (List Goal → Bool) → Bool → Option (List Goal) → Bool
+provedPremises all word none = false
+provedPremises all word (some goals) = pick (eqb (length goals) 0) word (all goals)
 
 -- credential c proves the goal; for kind 3 each principal that a simple membership of the table names is tried as the middle,
 -- since whoever is in a role is named by one
-unfoldable pub provesBy : List ℕ → (Goal → Bool) → Bool → Goal → ℕ → Bool
-provesBy t one word g c =
+unfoldable pub provesBy : List ℕ → (List Goal → Bool) → Bool → Goal → ℕ → Bool
+provesBy t all word g c =
     pick (eqb (credential t c .kind) 3)
-    (anyBelow (λ j. isPerson t j and provedPremises one word (premises t g c (credential t (suc j) .first))) (credentials t))
-    (provedPremises one word (premises t g c 0))
+    (anyBelow (λ j. isPerson t j and provedPremises all word (premises t g c (credential t (suc j) .first))) (credentials t))
+    (provedPremises all word (premises t g c 0))
 
 -- credential c is in the set and defines the goal's role
 unfoldable pub mayUse : List ℕ → ℕ → Goal → ℕ → Bool
