@@ -1,0 +1,64 @@
+-- `families::Family::meets` meets its contract: no set of the first j words is in both families. Assumes nothing.
+use mathlib.Core.Path.{_≡_, sym}
+use mathlib.Core.Bool.{false}
+use Prim.Native.Nat.{_*_, _-_, _≤_}
+use native.Mathlib.Omega.{arith}
+use Rattle.sets.specs.Logic.{anyBelow}
+use Rattle.sets.proofs.Tests.{any-all}
+use Rattle.families.proofs.Words.{common, meets-here, meets-not, none-below}
+use borrow.Author.Needs.{needs}
+use Rattle.families.proofs.Family.meets.Statement.{statement}
+use Rattle.families.proofs.Family.meets.Tie as tie
+
+abbrev Inv-loop : tie.InvT-loop
+Inv-loop self other j₀ j = (j ≤ 8) × (anyBelow (common self other) (32 * j) ≡ false)
+
+abbrev μ-loop : tie.MeasureT-loop
+μ-loop self other j₀ j = 8 - j
+
+loop-holds : tie.Need-loop-holds Inv-loop μ-loop
+loop-holds c = (omega arith, none-below _)
+
+mul-if1 : tie.Need-mul-if1 Inv-loop μ-loop
+mul-if1 c = search needs
+
+element-copy-out-if1 : tie.Need-element-copy-out-if1 Inv-loop μ-loop
+element-copy-out-if1 c = search needs
+
+mul-if1-2 : tie.Need-mul-if1-2 Inv-loop μ-loop
+mul-if1-2 c = search needs
+
+element-copy-out-if1-2 : tie.Need-element-copy-out-if1-2 Inv-loop μ-loop
+element-copy-out-if1-2 c = search needs
+
+returns : tie.Need-returns Inv-loop μ-loop
+returns c = sym (meets-here _ _ _ (omega arith) (search needs) (c .if1 .taken))
+
+add-j : tie.Need-add-j Inv-loop μ-loop
+add-j c = search needs
+
+loop-less : tie.Need-loop-less Inv-loop μ-loop
+loop-less c = search needs
+
+loop-again : tie.Need-loop-again Inv-loop μ-loop
+loop-again c = (omega arith, meets-not _ _ _ (c .before .before .before .before .loop .inv .1) (c .if1 .left))
+
+returns-2 : tie.Need-returns-2 Inv-loop μ-loop
+returns-2 c = sym (any-all (common _ _) _ _ (omega arith) (c .before .loop .inv .1))
+
+pub meets-spec : {M : Type 1} → statement M
+meets-spec =
+    tie.close
+    (tie.spec
+    Inv-loop
+    μ-loop
+    loop-holds
+    mul-if1
+    element-copy-out-if1
+    mul-if1-2
+    element-copy-out-if1-2
+    returns
+    add-j
+    loop-less
+    loop-again
+    returns-2)
