@@ -1,6 +1,8 @@
 -- Laws that belong to no one function; crates above cite those marked `pub mod`.
 pub mod Within
 pub mod Naming
+pub mod Sharing
+pub mod Owing
 pub mod Placing
 pub mod Exact
 pub mod Failing
