@@ -8,3 +8,5 @@ pub mod Parts
 pub mod WellFormed
 pub mod Encoding
 pub mod Opened
+pub mod Marks
+pub mod Upgrading

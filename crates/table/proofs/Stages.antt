@@ -1,6 +1,6 @@
 -- Laws of stages of checks: `demand` and `demandEach` one after the other, and what is known where all of them passed,
 -- or where one stopped.
-use mathlib.Core.Path.{_≡_, refl, sym}
+use mathlib.Core.Path.{_≡_, refl, sym, ap}
 use mathlib.Core.Bool.{Bool, true, false}
 use mathlib.Core.Logic.{_⊎_, inl, inr, ⊎-elim}
 use Prim.Native.Nat.{ℕ, zero, suc, _+_, _≤_, _<_}
@@ -162,6 +162,14 @@ module _ (ok : ℕ → Bool) (number : ℕ) where
       each-stays (suc i) n (suc i) (f .within .last)
       (rw (each-all i (λ j h. f .before j (omega arith) (omega arith)), f .fails))
 
+-- tests that agree on 1 to n stop a row of checks at the same record
+pub each-alike : (p q : ℕ → Bool) (n number : ℕ) → ((k : ℕ) → Numbered n k → p k ≡ q k)
+    → demandEach p n number ≡ demandEach q n number
+unfolding demandEach
+each-alike p q zero number same = refl
+each-alike p q (suc n) number same =
+    rw (each-alike p q n number (λ k h. same k (omega arith)), same (suc n) (omega arith))
+
 -- what passes has the value 0
 demand-value : (p : Bool) (number position v : ℕ) → demand p number position ≡ accepted v → v ≡ 0
 unfolding demand
@@ -172,6 +180,25 @@ pub each-value : (ok : ℕ → Bool) (n number v : ℕ) → demandEach ok n numb
 unfolding demandEach
 each-value ok zero number v e = cc
 each-value ok (suc n) number v e = demand-value (ok (suc n)) number (suc n) v (then-second (demandEach ok n number) _ v e)
+
+-- a row of which nothing follows tells the same by itself
+pub each-last : (ok : ℕ → Bool) (n number : ℕ) → (demandEach ok n number andThen accepted 0) ≡ demandEach ok n number
+unfolding _andThen_
+each-last ok n number = go (demandEach ok n number) refl
+  where
+    go : (o : Outcome) → demandEach ok n number ≡ o → (o andThen accepted 0) ≡ o
+    go (accepted v) e = ap accepted (sym (each-value ok n number v e))
+    go (refused number′ position) e = refl
+
+-- stages that tell the same, and where they pass what follows them does
+pub then-alike : {a b later later′ : Outcome} → a ≡ b → ((v : ℕ) → b ≡ accepted v → later ≡ later′)
+    → (a andThen later) ≡ (b andThen later′)
+unfolding _andThen_
+then-alike {b = b} {later} {later′} same after = rw same (go b refl)
+  where
+    go : (o : Outcome) → b ≡ o → (o andThen later) ≡ (o andThen later′)
+    go (accepted v) e = after v e
+    go (refused number position) e = refl
 
 -- a refusal stays, whatever would follow
 pub refused-then : {o : Outcome} {number position : ℕ} (later : Outcome) → refused number position ≡ o

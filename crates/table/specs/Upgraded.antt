@@ -1,14 +1,17 @@
 -- docs/DEFINITION.md, "Automata": the base layout, in which an automaton has two numbers and no mark, and a table of it upgraded:
 -- the same records with mark 0 at each automaton. Only what differs from specs/Layout.antt and specs/Checks.antt stands here.
 use Prim.Native.Nat.{ℕ, zero, suc, _+_, _-_, _*_}
+use mathlib.Core.Path.{_≡_}
 use mathlib.Core.List.{List, [], _∷_, _++_}
 use mathlib.Core.Bool.{Bool}
 use lib.ListN.{drop, length, take}
 use lib.Dec.{eqb, leb}
 use Rattle.table.specs.Outcome.{Outcome, _andThen_, demand, demandEach}
-use Rattle.table.specs.Layout.{automata, automataBase, cells, credentials, edgeAt, edgeSize, edges, headSize, number}
+use Rattle.table.specs.Layout
+use Rattle.table.specs.Layout.{Numbered, automata, automataBase, cells, credentials, edgeAt, edges, number}
+use Rattle.table.specs.Layout.{edgeSize, headSize}
 use Rattle.table.specs.Encoded.{automatonOf}
-use Rattle.table.specs.Checks.{countsOk, edgeOk, goodCell, goodChain, goodCredential}
+use Rattle.table.specs.Checks.{countsOk, edgeOk, goodCell, goodChain, goodCredential, tableOutcome}
 use Rattle.table.specs.declared.Automaton.{Automaton}
 use Rattle.table.specs.declared.Edge.{Edge}
 
@@ -61,3 +64,19 @@ withMarks (suc k) (starting ∷ accepting ∷ rest) = starting ∷ accepting ∷
 
 unfoldable pub upgraded : List ℕ → List ℕ
 upgraded t = take (automataBase t) t ++ withMarks (automata t) (drop (automataBase t) t)
+
+-- the same counts and the same records, each automaton with mark 0
+pub record SameRecords (t : List ℕ) : Type 0 where
+  pub credentials : Layout.credentials (upgraded t) ≡ Layout.credentials t
+  pub cells : Layout.cells (upgraded t) ≡ Layout.cells t
+  pub automata : Layout.automata (upgraded t) ≡ Layout.automata t
+  pub edges : Layout.edges (upgraded t) ≡ Layout.edges t
+  pub credential : (i : ℕ) → Numbered (Layout.credentials t) i → Layout.credential (upgraded t) i ≡ Layout.credential t i
+  pub cell : (j : ℕ) → Numbered (Layout.cells t) j → Layout.cell (upgraded t) j ≡ Layout.cell t j
+  pub automaton : (k : ℕ) → Numbered (Layout.automata t) k → Layout.automaton (upgraded t) k ≡ baseAutomaton t k
+  pub edge : (x : ℕ) → Layout.edge (upgraded t) x ≡ baseEdge t x
+
+-- whatever the numbers are, the checks tell of the upgraded table what they told of the table; and where its length was right it
+-- has the same records
+abbrev pub Upgrading : Type 0
+Upgrading = (t : List ℕ) → (tableOutcome (upgraded t) ≡ baseOutcome t) × (length t ≡ baseLength t → SameRecords t)

@@ -1,10 +1,10 @@
 -- The masks that the verifier keeps say of a whole record what its forest says: an automaton stays in the set of those that have
 -- accepted every word exactly where it accepts every word of the forest, and comes into the set of those that have accepted some
 -- word exactly where it accepts one, so refusal 14 comes out the same.
-use mathlib.Core.Path.{_≡_, refl, sym, _∙_}
+use mathlib.Core.Path.{_≡_, sym, _∙_}
 use mathlib.Core.List.{List, [], _∷_, _++_}
 use mathlib.Core.Bool.{Bool, true, false}
-use Prim.Native.Nat.{ℕ, zero, suc, _-_, _≤_}
+use Prim.Native.Nat.{ℕ, _-_, _≤_}
 use native.Mathlib.Omega.{arith}
 use lib.Bits.{bitAnd, bitOr}
 use lib.Dec.{eqb}
@@ -19,6 +19,7 @@ use Rattle.table.specs.Layout.{Numbered, automata, automaton, credential}
 use Rattle.table.specs.Holding.{WellFormed}
 use Rattle.table.specs.declared.Goal.{Goal}
 use Rattle.table.specs.declared.Role.{Role}
+use Rattle.table.proofs.Stages.{each-alike}
 use Rattle.automata.specs.Automata.{accepts}
 use Rattle.automata.specs.Together.{acceptingSet, startingSets}
 use Rattle.derivation.specs.Forest.{Derives, Forest, usedSet}
@@ -84,23 +85,13 @@ module _ (t : List ℕ) (k : ℕ) (own : Numbered (automata t) k) (few : automat
   unfolding isMet
   mark-member = pick-apart (λ x. inSet x (k - 1)) _ _ _ ∙ rw (some-member, every-member)
 
--- tests that agree on 1 to n stop a row of checks at the same record
-demandEach-ext : (p q : ℕ → Bool) (n number : ℕ) → ((k : ℕ) → Numbered n k → p k ≡ q k)
-    → demandEach p n number ≡ demandEach q n number
-unfolding demandEach
-demandEach-ext p q zero number same = refl
-demandEach-ext p q (suc n) number same =
-    rw (
-      demandEach-ext p q n number (λ k h. same k (omega arith)),
-      same (suc n) (omega arith),
-    )
-
 pub words-judged : (t : List ℕ) (l : ℕ) (b gs : List Goal) (f : Forest) → WellFormed t → Derives t l b gs f
-    → demandEach (keeps t (usedSet f) (everyFrom t (startingSets t) allAutomata f) (someFrom t (startingSets t) 0 f)) (automata t) 14
+    → let s = startingSets t in
+    demandEach (keeps t (usedSet f) (everyFrom t s allAutomata f) (someFrom t s 0 f)) (automata t) 14
     ≡ demandEach (met t f) (automata t) 14
 unfolding keeps met
 words-judged t l b gs f wf d =
-    demandEach-ext _ _ (automata t) 14
+    each-alike _ _ (automata t) 14
     (λ k own.
     let demands = mark-member t k own (wf .sized .counted .fewAutomata) f in
     rw (automata-used t l b gs f d k (own .first), demands))

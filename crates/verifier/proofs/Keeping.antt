@@ -7,13 +7,12 @@ use Prim.Native.Nat.{ℕ, zero, suc, _-_, _^_, _≤_}
 use native.Mathlib.Omega.{arith}
 use lib.ListN.{length}
 use lib.Bits.{bitAnd, bitOr}
-use lib.Dec.{eqb}
 use borrow.Author.Tests.{ne-eqb}
 use Rattle.sets.specs.Logic.{pick}
 use Rattle.table.specs.Layout.{credential}
 use Rattle.table.specs.declared.Goal.{Goal}
 use Rattle.sets.proofs.Tests.{false-true}
-use Rattle.automata.specs.Together.{acceptingSet, movedSets}
+use Rattle.automata.specs.Together.{movedSets}
 use Rattle.automata.specs.declared.StateSets.{StateSets}
 use Rattle.derivation.specs.Rules.{fresh, premises}
 use Rattle.derivation.specs.Forest.{Forest, countFrom, usedFrom}

@@ -73,8 +73,8 @@ pub onward-starts : {t : List ℕ} {levels : ℕ} {branch goals : List Goal} {le
     → Onward t levels branch goals len s rest used nodes every some rest used nodes every some refusal 0
 onward-starts held h = record { held = held; few = omega arith; no-refusal = h; room = omega arith; whole = refl }
 
-module _ {t : List ℕ} {levels : ℕ} {branch goals : List Goal} {len : ℕ} {s : StateSets} {rest₀ : List ℕ} {used₀ nodes₀ every₀ some₀ : ℕ}
-    {rest : List ℕ} {used nodes every some refusal i : ℕ}
+module _ {t : List ℕ} {levels : ℕ} {branch goals : List Goal} {len : ℕ} {s : StateSets} {rest₀ : List ℕ}
+    {used₀ nodes₀ every₀ some₀ : ℕ} {rest : List ℕ} {used nodes every some refusal i : ℕ}
     (o : Onward t levels branch goals len s rest₀ used₀ nodes₀ every₀ some₀ rest used nodes every some refusal i) where
   -- what is kept once every child is read
   abbrev all-kept : Told
@@ -90,8 +90,10 @@ module _ {t : List ℕ} {levels : ℕ} {branch goals : List Goal} {len : ℕ} {s
 
   -- the i-th child has been read
   module _ {rest′ : List ℕ} {used′ nodes′ every′ some′ refusal′ : ℕ} (less : i < len)
-      (child : ReadOn t levels branch (getD goals i noGoal) s rest used nodes every some rest′ used′ nodes′ every′ some′ refusal′) where
-    whole-from : tallyOn t levels branch (getD goals i noGoal ∷ drop (i + 1) (take len goals)) s rest used nodes every some ≡ all-kept
+      (child : ReadOn t levels branch (getD goals i noGoal) s rest used nodes every some
+      rest′ used′ nodes′ every′ some′ refusal′) where
+    whole-from : tallyOn t levels branch (getD goals i noGoal ∷ drop (i + 1) (take len goals)) s rest used nodes every some
+        ≡ all-kept
     whole-from = rw (← goals-from goals len i less onward-fits) (o .whole)
 
     pub onward-goes : refusal′ ≡ 0
@@ -169,7 +171,8 @@ module _ {t : List ℕ} {levels : ℕ} {branch : Branch} {g : Goal} {s : StateSe
       let size = length-take-le (step .len) (step .goals) (omega (arith, n .held .fits, n .held .size)) in
       let asked = node-asks t (n .table) g s used nodes every some _ _ levels (levels - 1) in
       let told = asked _ _ rec _ one-less (node-facts n .own) (node-entry n) in
-      rw (d .branches, part-behind rec 2 (node-long n), d .uses, d .keeps .0, d .keeps .1, d .moves, add-one nodes) (rw size at told)
+      rw (d .branches, part-behind rec 2 (node-long n), d .uses, d .keeps .0, d .keeps .1, d .moves, add-one nodes)
+      (rw size at told)
 
   module _ {rest : List ℕ} {used′ nodes′ every′ some′ refusal i : ℕ}
       (o : Onward t (levels - 1) deeper (step .goals) (step .len) below behind used₀ (nodes + 1) every₀ some₀
@@ -181,7 +184,8 @@ module _ {t : List ℕ} {levels : ℕ} {branch : Branch} {g : Goal} {s : StateSe
     pub room-below : {most : ℕ} → nodes + length rec < most → nodes′ + length rest < most
     room-below bound = omega (arith, left)
 
-    pub children-read : step .len ≤ i → ReadOn t levels (above branch) g s rec used nodes every some rest used′ nodes′ every′ some′ refusal
+    pub children-read : step .len ≤ i
+        → ReadOn t levels (above branch) g s rec used nodes every some rest used′ nodes′ every′ some′ refusal
     children-read all =
         let passes = passed-told rest used′ nodes′ every′ some′ refusal (o .no-refusal) in
         record {

@@ -114,8 +114,8 @@ module _ (t : ℕ) where
   Keeps at deeper =
       let from = start (own at) .args in
       let step = own at .before .enter .result in
-      Down (now (from .table)) (from .branch) (from .goal) (from .states) step (now (from .used)) (now (from .every)) (now (from .some))
-      deeper (moved at .moved .result .states) (at .before .before .before .before .with-credential .result)
+      Down (now (from .table)) (from .branch) (from .goal) (from .states) step (now (from .used)) (now (from .every))
+      (now (from .some)) deeper (moved at .moved .result .states) (at .before .before .before .before .with-credential .result)
       (at .after-node .result .every) (at .after-node .result .some)
 
   keeps : (at : Kept) (deeper : List Goal) → let from = start (own at) .args in

@@ -37,7 +37,8 @@ looped at = at .before .before .before .before
 kept : (at : tie.After-is-kept Inv-loop μ-loop) → at .is-kept .result ≡ test (looped at) (looped at .loop .k + 1)
 kept at =
     let imposed = looped at .before .before .automata-of .ensures in
-    at .is-kept .ensures ∙ kept-flag _ _ _ _ _ _ _ imposed (at .before .before .automaton .ensures) (at .before .demanded .ensures)
+    let read = at .before .before .automaton .ensures in
+    at .is-kept .ensures ∙ kept-flag _ _ _ _ _ _ _ imposed read (at .before .demanded .ensures)
 
 automata-of-requires : tie.Need-automata-of-requires Inv-loop μ-loop
 automata-of-requires c κs = search needs
