@@ -17,6 +17,7 @@ use Rattle.table.specs.Outcome.Outcome.{accepted}
 use Rattle.table.specs.Layout.{Numbered, automata, automataBase, cell, cells, cellsFrom, credential, credentials}
 use Rattle.table.specs.Layout.{automaton, cellAt, credentialAt, edge, edgeAt, edges, number, tableLength}
 use Rattle.table.specs.Layout.{cellSize, credentialSize, edgeSize, headSize}
+use Rattle.table.specs.Encoded.{credentialOf, edgeOf}
 use Rattle.table.specs.Checks.{chainOk, countsOk, goodCell, goodChain, goodCredential, goodEdge, goodMark}
 use Rattle.table.specs.Checks.{headOutcome, markOk, tableOutcome}
 use Rattle.table.specs.Upgraded.{SameRecords, Upgrading, baseAutomaton, baseEdge, baseHeadOutcome, baseLength}
@@ -45,30 +46,27 @@ module _ (u t : List ℕ) (at at′ : ℕ) where
       let there : at′ + 0 ≡ at′ = omega arith in
       rw (here, there) at (same 0 some)
 
-  credential-alike : Alike credentialSize → credentialAt u at ≡ credentialAt t at′
-  credential-alike same =
+  six-alike : {A : Type 0} (f : ℕ → ℕ → ℕ → ℕ → ℕ → ℕ → A) → Alike 6
+      → f (number u at) (number u (at + 1)) (number u (at + 2)) (number u (at + 3)) (number u (at + 4)) (number u (at + 5))
+      ≡ f (number t at′) (number t (at′ + 1)) (number t (at′ + 2)) (number t (at′ + 3)) (number t (at′ + 4)) (number t (at′ + 5))
+  six-alike f same =
       rw (
-        first-alike credentialSize (omega arith) same,
+        first-alike 6 (omega arith) same,
         same 1 (omega arith),
         same 2 (omega arith),
         same 3 (omega arith),
         same 4 (omega arith),
         same 5 (omega arith),
       )
+
+  credential-alike : Alike credentialSize → credentialAt u at ≡ credentialAt t at′
+  credential-alike same = six-alike credentialOf same
 
   cell-alike : Alike cellSize → cellAt u at ≡ cellAt t at′
   cell-alike same = rw (first-alike cellSize (omega arith) same, same 1 (omega arith), same 2 (omega arith))
 
   edge-alike : Alike edgeSize → edgeAt u at ≡ edgeAt t at′
-  edge-alike same =
-      rw (
-        first-alike edgeSize (omega arith) same,
-        same 1 (omega arith),
-        same 2 (omega arith),
-        same 3 (omega arith),
-        same 4 (omega arith),
-        same 5 (omega arith),
-      )
+  edge-alike same = six-alike edgeOf same
 
 module _ (t : List ℕ) where
   abbrev front : List ℕ
