@@ -16,7 +16,7 @@ use Rattle.sets.specs.Sets.{inSet}
 use Rattle.sets.proofs.Tests.{and-both, and-first, and-is, and-is-off, and-none, and-second, any-not, any-on, any-reached}
 use Rattle.sets.proofs.Tests.{any-same, or-false, or-off, same-test}
 use Rattle.sets.proofs.Members.{below-members, inSet-and, inSet-or, inSet-pow, inSet-zero, meets-common, meets-some}
-use Rattle.families.specs.Families.{FamilyOf, Within, allSets, inFamily}
+use Rattle.families.specs.Families.{FamilyOf, Within, allSets, familyWords, inFamily}
 use Rattle.families.specs.declared.Family.{Family}
 
 abbrev pub word : Family → ℕ → ℕ
@@ -34,10 +34,15 @@ in-word f j s l =
 by-word : (P : ℕ → Type 0) (X j : ℕ) → X / 32 ≡ j → ((s : ℕ) → s < 32 → P (32 * j + s)) → P X
 by-word P X j e each = let same : X ≡ 32 * j + X % 32 = omega arith in rw same (each (X % 32) (omega arith))
 
--- words of zeros
-pub no-sets : FamilyOf (λ X. false) (record { words = replicate 8 0 })
+-- families with the same words have the same sets
+pub same-sets : (f g : Family) → ((j : ℕ) → j < familyWords → word f j ≡ word g j) → FamilyOf (inFamily g) f
 unfolding inFamily
-no-sets X l = rw (getD-replicate {A = ℕ} 8 (X / 32) 0 0 (omega arith)) (inSet-zero (X % 32))
+same-sets f g same X l = rw (same (X / 32) (omega arith))
+
+-- words of zeros
+pub no-sets : FamilyOf (λ X. false) (record { words = replicate familyWords 0 })
+unfolding inFamily
+no-sets X l = rw (getD-replicate {A = ℕ} familyWords (X / 32) 0 0 (omega arith)) (inSet-zero (X % 32))
 
 -- a word is written anew, and the others stay
 abbrev pub put : Family → ℕ → ℕ → Family
@@ -60,7 +65,7 @@ module _ (f : Family) (j v : ℕ) where
       go (no e) = other-word X e ∙ other e
 
 -- a set more: its bit is put into its word
-pub one-more : (f : Family) (one : ℕ) → one < allSets → length (f .words) ≡ 8 → (v : ℕ)
+pub one-more : (f : Family) (one : ℕ) → one < allSets → length (f .words) ≡ familyWords → (v : ℕ)
     → v ≡ bitOr (word f (one / 32)) (2 ^ (one % 32)) → FamilyOf (λ X. inFamily f X or eqb one X) (put f (one / 32) v)
 one-more f one few room v is X l =
     by-words f (one / 32) v (λ X. inFamily f X or eqb one X) X (omega arith)
@@ -80,13 +85,13 @@ only-one f g one none more X l = more X l ∙ sym (or-off (none X l))
 
 -- the first `count` words are made, and their sets are just those that pass the test
 pub record Made (p : ℕ → Bool) (count : ℕ) (f : Family) : Type 0 where
-  pub room : length (f .words) ≡ 8
+  pub room : length (f .words) ≡ familyWords
   pub each : (X : ℕ) → X / 32 < count → inFamily f X ≡ p X
 
-pub made-none : (p : ℕ → Bool) (f : Family) → length (f .words) ≡ 8 → Made p 0 f
+pub made-none : (p : ℕ → Bool) (f : Family) → length (f .words) ≡ familyWords → Made p 0 f
 made-none p f room = record { room = room; each = λ X l. absurd (omega arith) }
 
-pub made-next : (p : ℕ → Bool) (j : ℕ) (f : Family) (v : ℕ) → Made p j f → j < 8
+pub made-next : (p : ℕ → Bool) (j : ℕ) (f : Family) (v : ℕ) → Made p j f → j < familyWords
     → ((s : ℕ) → s < 32 → inSet v s ≡ p (32 * j + s)) → Made p (j + 1) (put f j v)
 made-next p j f v so-far l own =
     record {
@@ -94,7 +99,7 @@ made-next p j f v so-far l own =
       each = λ X less. by-words f j v p X (omega (arith, so-far .room)) own (λ other. so-far .each X (omega arith));
     }
 
-pub made-all : (p : ℕ → Bool) (j : ℕ) (f : Family) → Made p j f → 8 ≤ j → FamilyOf p f
+pub made-all : (p : ℕ → Bool) (j : ℕ) (f : Family) → Made p j f → familyWords ≤ j → FamilyOf p f
 made-all p j f so-far all X l = so-far .each X (omega arith)
 
 -- no set before the first word passes a test, and where none of word j does and none of those before, none of those up to it does
@@ -126,7 +131,7 @@ module _ (f g : Family) where
   meets-not j before none =
       word-on common j before (λ s l. sym (and-word j s l) ∙ ap (λ x. inSet x s) none ∙ inSet-zero s)
 
-  pub meets-here : (j : ℕ) → j < 8 → Fits w32 (word f j) → (bitAnd (word f j) (word g j) ≡ 0 → ⊥)
+  pub meets-here : (j : ℕ) → j < familyWords → Fits w32 (word f j) → (bitAnd (word f j) (word g j) ≡ 0 → ⊥)
       → anyBelow common allSets ≡ true
   meets-here j l few some =
       let (s, one, two) = meets-common (word f j) (word g j) (meets-some (word f j) (word g j) some) in
@@ -147,7 +152,7 @@ module _ (f g : Family) where
           and-none true (ap not (and-second _ _ (sym (inSet-and (word f j) (word g j) s) ∙ ap (λ x. inSet x s) same ∙ e)))
       go s false e = and-is-off (not (inSet (word g j) s)) refl
 
-  pub within-all : (j : ℕ) → anyBelow beyond (32 * j) ≡ false → 8 ≤ j → Within f g
+  pub within-all : (j : ℕ) → anyBelow beyond (32 * j) ≡ false → familyWords ≤ j → Within f g
   within-all j none all X l h =
       not-false (inFamily g X) (sym (and-is h refl) ∙ any-not beyond (32 * j) X none (omega arith))
 

@@ -10,9 +10,12 @@ use Rattle.sets.specs.Logic.{_and_, anyBelow}
 use Rattle.sets.specs.Sets.{inSet, part}
 use Rattle.families.specs.declared.Family.{Family}
 
--- there are so many sets of eight automata
+-- there are so many sets of eight automata, and so many words of thirty-two bits for them
 abbrev pub allSets : ℕ
 allSets = 256
+
+abbrev pub familyWords : ℕ
+familyWords = 8
 
 unfoldable pub inFamily : Family → ℕ → Bool
 inFamily f X = inSet (getD (f .words) (X / 32) 0) (X % 32)

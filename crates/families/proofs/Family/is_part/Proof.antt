@@ -5,16 +5,17 @@ use Prim.Native.Nat.{_*_, _-_, _≤_}
 use native.Mathlib.Omega.{arith}
 use Rattle.sets.specs.Logic.{anyBelow}
 use Rattle.sets.proofs.Tests.{false-true}
+use Rattle.families.specs.Families.{familyWords}
 use Rattle.families.proofs.Words.{beyond, none-below, within-all, within-next}
 use borrow.Author.Needs.{needs}
 use Rattle.families.proofs.Family.is_part.Statement.{statement}
 use Rattle.families.proofs.Family.is_part.Tie as tie
 
 abbrev Inv-loop : tie.InvT-loop
-Inv-loop self other j₀ j = (j ≤ 8) × (anyBelow (beyond self other) (32 * j) ≡ false)
+Inv-loop self other j₀ j = (j ≤ familyWords) × (anyBelow (beyond self other) (32 * j) ≡ false)
 
 abbrev μ-loop : tie.MeasureT-loop
-μ-loop self other j₀ j = 8 - j
+μ-loop self other j₀ j = familyWords - j
 
 loop-holds : tie.Need-loop-holds Inv-loop μ-loop
 loop-holds c = (omega arith, none-below _)

@@ -3,17 +3,18 @@ use mathlib.Core.Path.{refl}
 use Prim.Native.Nat.{_-_, _≤_}
 use native.Mathlib.Omega.{arith}
 use Rattle.sets.specs.Logic.{_or_}
-use Rattle.families.specs.Families.{inFamily}
+use Rattle.families.specs.Families.{familyWords, inFamily}
 use Rattle.families.proofs.Words.{Made, made-all, made-next, made-none, or-word}
 use borrow.Author.Needs.{needs}
 use Rattle.families.proofs.Family.or.Statement.{statement}
 use Rattle.families.proofs.Family.or.Tie as tie
 
 abbrev Inv-loop : tie.InvT-loop
-Inv-loop self other words₀ j₀ words j = (j ≤ 8) × Made (λ X. inFamily self X or inFamily other X) j (record { words = words })
+Inv-loop self other words₀ j₀ words j =
+    (j ≤ familyWords) × Made (λ X. inFamily self X or inFamily other X) j (record { words = words })
 
 abbrev μ-loop : tie.MeasureT-loop
-μ-loop self other words₀ j₀ words j = 8 - j
+μ-loop self other words₀ j₀ words j = familyWords - j
 
 loop-holds : tie.Need-loop-holds Inv-loop μ-loop
 loop-holds c = (omega arith, made-none _ _ refl)
