@@ -10,11 +10,14 @@ use lib.Seq.{getD-set-other, getD-set-same}
 use lib.Bits.{bitAnd, bitOr}
 use borrow.Author.Tests.{eq-eqb}
 use Rattle.sets.specs.Sets.{part}
+use Rattle.families.specs.Families.{familyWords}
+use Rattle.families.specs.declared.Family.{Family}
 use Rattle.table.specs.Limits.{mostAutomata, mostCredentials}
 use Rattle.automata.specs.declared.StateSets.{StateSets}
 use Rattle.members.specs.declared.above.Above.{Above}
 use Rattle.members.proofs.Reading.{below-next}
-use Rattle.failures.specs.Failures.{Kept, Recalled, memoryCells, metCell, slotCell, slotCells, slots, stateCell}
+use Rattle.failures.specs.Failures.{Kept, Recalled, familyCell, memoryCells, metCell, slotCell}
+use Rattle.failures.specs.Failures.{slotCells, slots, stateCell}
 use Rattle.failures.specs.Cells.{CoveredAt, StatesAt, Written}
 
 -- a cell by two ways to count it
@@ -66,24 +69,24 @@ recalled memory k person place levels s above left who at read enough read₁ sa
       covered = covered;
     }
 
--- the pairs of both, and those that stood in the way in slot k, cell by cell
+-- the pairs of both, and what stands in slot k from its cell `first` on, cell by cell
 abbrev pub either : Above → Above → ℕ → ℕ
 either one other r = bitOr (getD (one .persons) r 0) (getD (other .persons) r 0)
 
-unfoldable pub metOf : List ℕ → ℕ → ℕ → ℕ
-metOf memory k r = getD memory (metCell k r) 0
+unfoldable pub cellsFrom : List ℕ → ℕ → ℕ → ℕ → ℕ
+cellsFrom memory k first x = getD memory (slotCell k (first + x)) 0
 
--- the first `count` of twenty values are made
-pub record Made (f : ℕ → ℕ) (count : ℕ) (made : List ℕ) : Type 0 where
-  pub room : length made ≡ mostCredentials
+-- the first `count` of so many values are made
+pub record Made (size : ℕ) (f : ℕ → ℕ) (count : ℕ) (made : List ℕ) : Type 0 where
+  pub room : length made ≡ size
   pub each : (r : ℕ) → r < count → getD made r 0 ≡ f r
 
-pub made-none : (f : ℕ → ℕ) (made : List ℕ) → length made ≡ mostCredentials → Made f 0 made
-made-none f made room = record { room = room; each = λ r l. absurd (omega arith) }
+pub made-none : (size : ℕ) (f : ℕ → ℕ) (made : List ℕ) → length made ≡ size → Made size f 0 made
+made-none size f made room = record { room = room; each = λ r l. absurd (omega arith) }
 
-pub made-next : (f : ℕ → ℕ) (r : ℕ) (made : List ℕ) (v : ℕ) → Made f r made → r < mostCredentials → v ≡ f r
-    → Made f (r + 1) (set made r v)
-made-next f r made v so-far l is =
+pub made-next : (size : ℕ) (f : ℕ → ℕ) (r : ℕ) (made : List ℕ) (v : ℕ) → Made size f r made → r < size → v ≡ f r
+    → Made size f (r + 1) (set made r v)
+made-next size f r made v so-far l is =
     record {
       room = length-set made r v ∙ so-far .room;
       each = below-next _ r
@@ -91,12 +94,12 @@ made-next f r made v so-far l is =
           (getD-set-same made r v 0 (omega (arith, so-far .room)) ∙ is);
     }
 
-pub met-next : (memory : List ℕ) (k r : ℕ) (made : List ℕ) → Made (metOf memory k) r made → r < mostCredentials
-    → Made (metOf memory k) (r + 1) (set made r (getD memory (metCell k 0 + r) 0))
-unfolding metOf
-met-next memory k r made so-far l =
-    made-next (metOf memory k) r made (getD memory (metCell k 0 + r) 0) so-far l
-    (one-cell memory (metCell k 0 + r) (metCell k r) (omega arith))
+pub cell-next : (size : ℕ) (memory : List ℕ) (k first x : ℕ) (made : List ℕ) → Made size (cellsFrom memory k first) x made
+    → x < size → Made size (cellsFrom memory k first) (x + 1) (set made x (getD memory (slotCell k first + x) 0))
+unfolding cellsFrom
+cell-next size memory k first x made so-far l =
+    made-next size (cellsFrom memory k first) x made (getD memory (slotCell k first + x) 0) so-far l
+    (one-cell memory (slotCell k first + x) (slotCell k (first + x)) (omega arith))
 
 -- a stretch is written, cell by cell
 pub written-none : (from : ℕ) (values old : List ℕ) → Written from 0 values old old
@@ -132,33 +135,44 @@ away : (k from count x : ℕ) → slotCells * k ≤ from → from + count ≤ sl
     → (x < slotCell k 0) ⊎ (slotCell (k + 1) 0 ≤ x) → (x < from) ⊎ (from + count ≤ x)
 away k from count x low high = ⊎-elim (λ l. inl (omega arith)) (λ l. inr (omega arith))
 
--- the three stretches of a slot are written one after another
-module _ (k person place levels : ℕ) (s : StateSets) (met : Above) (old one two new : List ℕ)
+-- the four stretches of a slot are written one after another
+module _ (k person place levels : ℕ) (s : StateSets) (met : Above) (found : Family) (old one two three new : List ℕ)
     (first : Written (slotCells * k) 3 (levels ∷ person ∷ place ∷ []) old one)
     (second : Written (stateCell k 0) mostAutomata (s .sets) one two)
-    (third : Written (metCell k 0) mostCredentials (met .persons) two new) where
-  -- what stands before the state sets is not written after them
+    (third : Written (metCell k 0) mostCredentials (met .persons) two three)
+    (fourth : Written (familyCell k 0) familyWords (found .words) three new) where
+  -- what stands before a stretch is not written after it
+  third-kept : (x : ℕ) → x < familyCell k 0 → getD new x 0 ≡ getD three x 0
+  third-kept x l = fourth .others x (inl l)
+
+  second-kept : (x : ℕ) → x < metCell k 0 → getD new x 0 ≡ getD two x 0
+  second-kept x l = third-kept x (omega arith) ∙ third .others x (inl l)
+
   first-kept : (x : ℕ) → x < stateCell k 0 → getD new x 0 ≡ getD one x 0
-  first-kept x l = third .others x (inl (omega arith)) ∙ second .others x (inl l)
+  first-kept x l = second-kept x (omega arith) ∙ second .others x (inl l)
 
   first-is : (x y : ℕ) → x < 3 → y ≡ slotCells * k + x → getD new y 0 ≡ getD (levels ∷ person ∷ place ∷ []) x 0
   first-is x y few e = rw e (first-kept (slotCells * k + x) (omega arith) ∙ first .each x few)
 
-  pub kept : Kept k person place levels s met old new
+  pub kept : Kept k person place levels s met found old new
   kept =
       record {
-        room = third .room ∙ second .room ∙ first .room;
+        room = fourth .room ∙ third .room ∙ second .room ∙ first .room;
         holds = record {
           levels-is = first-is 0 (slotCell k 0) (omega arith) (omega arith);
           person-is = first-is 1 (slotCell k 1) (omega arith) refl;
           place-is = first-is 2 (slotCell k 2) (omega arith) refl;
           states-are = λ j l.
               one-cell new (stateCell k j) (stateCell k 0 + j) (omega arith)
-              ∙ third .others (stateCell k 0 + j) (inl (omega arith)) ∙ second .each j l;
-          met-is = λ r l. one-cell new (metCell k r) (metCell k 0 + r) (omega arith) ∙ third .each r l;
+              ∙ second-kept (stateCell k 0 + j) (omega arith) ∙ second .each j l;
+          met-is = λ r l.
+              one-cell new (metCell k r) (metCell k 0 + r) (omega arith)
+              ∙ third-kept (metCell k 0 + r) (omega arith) ∙ third .each r l;
+          family-is = λ j l. one-cell new (familyCell k j) (familyCell k 0 + j) (omega arith) ∙ fourth .each j l;
         };
         others = λ x out.
-            third .others x (away k (metCell k 0) mostCredentials x (omega arith) (omega arith) out)
+            fourth .others x (away k (familyCell k 0) familyWords x (omega arith) (omega arith) out)
+            ∙ third .others x (away k (metCell k 0) mostCredentials x (omega arith) (omega arith) out)
             ∙ second .others x (away k (stateCell k 0) mostAutomata x (omega arith) (omega arith) out)
             ∙ first .others x (away k (slotCells * k) 3 x (omega arith) (omega arith) out);
       }

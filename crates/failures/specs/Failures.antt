@@ -1,7 +1,8 @@
--- A memory of goals that failed, as a search keeps it: slots of thirty-two cells each. A slot has the levels that were left (cell
--- 0), the places of principal and role (cells 1 and 2), the state sets (eight cells from cell 4 on), and the pairs of the branch
--- that stood in the way: for each place of a role the principals (twenty cells from cell 12 on). What a slot means is for the
--- search to say (crate search, specs/Failing.antt).
+-- A memory of goals that were asked, as a search keeps it: slots of forty cells each. A slot has the levels that were left (cell
+-- 0), the places of principal and role (cells 1 and 2), the state sets (eight cells from cell 4 on), the pairs of the branch that
+-- stood in the way: for each place of a role the principals (twenty cells from cell 12 on), and a family of sets of automata
+-- (eight cells from cell 32 on): the goal can meet no set that the family does not cover, and fails where it has none. What it is
+-- to meet a set is for the search to say (crate search, specs/Failing.antt).
 use Prim.Native.Nat.{ℕ, _+_, _*_, _<_, _≤_}
 use mathlib.Core.Path.{_≡_}
 use mathlib.Core.List.{List}
@@ -12,6 +13,8 @@ use lib.Bits.{bitOr}
 use lib.Dec.{eqb}
 use Rattle.sets.specs.Logic.{_and_}
 use Rattle.sets.specs.Sets.{part}
+use Rattle.families.specs.Families.{familyWords}
+use Rattle.families.specs.declared.Family.{Family}
 use Rattle.table.specs.Limits.{mostAutomata, mostCredentials}
 use Rattle.automata.specs.declared.StateSets.{StateSets}
 use Rattle.members.specs.Above.{pairAbove}
@@ -21,7 +24,7 @@ abbrev pub slots : ℕ
 slots = 128
 
 abbrev pub slotCells : ℕ
-slotCells = 32
+slotCells = 40
 
 abbrev pub memoryCells : ℕ
 memoryCells = slotCells * slots
@@ -35,13 +38,17 @@ stateCell k j = slotCell k (4 + j)
 abbrev pub metCell : ℕ → ℕ → ℕ
 metCell k r = slotCell k (12 + r)
 
+abbrev pub familyCell : ℕ → ℕ → ℕ
+familyCell k j = slotCell k (32 + j)
+
 -- what slot k holds
-pub record Holds (memory : List ℕ) (k person place levels : ℕ) (s : StateSets) (met : Above) : Type 0 where
+pub record Holds (memory : List ℕ) (k person place levels : ℕ) (s : StateSets) (met : Above) (found : Family) : Type 0 where
   pub levels-is : getD memory (slotCell k 0) 0 ≡ levels
   pub person-is : getD memory (slotCell k 1) 0 ≡ person
   pub place-is : getD memory (slotCell k 2) 0 ≡ place
   pub states-are : (j : ℕ) → j < mostAutomata → getD memory (stateCell k j) 0 ≡ getD (s .sets) j 0
   pub met-is : (r : ℕ) → r < mostCredentials → getD memory (metCell k r) 0 ≡ getD (met .persons) r 0
+  pub family-is : (j : ℕ) → j < familyWords → getD memory (familyCell k j) 0 ≡ getD (found .words) j 0
 
 -- slot k speaks of this goal, from these state sets, with as many levels or more, and all that stood in the way stands here too
 pub record Recalled (memory : List ℕ) (k person place levels : ℕ) (s : StateSets) (above : Above) : Type 0 where
@@ -52,14 +59,19 @@ pub record Recalled (memory : List ℕ) (k person place levels : ℕ) (s : State
   pub covered : (r : ℕ) → r < mostCredentials → part (getD memory (metCell k r) 0) (getD (above .persons) r 0) ≡ true
 
 -- slot k is written, and no other
-pub record Kept (k person place levels : ℕ) (s : StateSets) (met : Above) (before after : List ℕ) : Type 0 where
+pub record Kept (k person place levels : ℕ) (s : StateSets) (met : Above) (found : Family) (before after : List ℕ)
+    : Type 0 where
   pub room : length after ≡ length before
-  pub holds : Holds after k person place levels s met
+  pub holds : Holds after k person place levels s met found
   pub others : (x : ℕ) → (x < slotCell k 0) ⊎ (slotCell (k + 1) 0 ≤ x) → getD after x 0 ≡ getD before x 0
 
 -- the pairs that stood in the way in slot k
 abbrev pub MetAt : List ℕ → ℕ → Above → Type 0
 MetAt memory k met = (r : ℕ) → r < mostCredentials → getD (met .persons) r 0 ≡ getD memory (metCell k r) 0
+
+-- the family of slot k
+abbrev pub FamilyAt : List ℕ → ℕ → Family → Type 0
+FamilyAt memory k found = (j : ℕ) → j < familyWords → getD (found .words) j 0 ≡ getD memory (familyCell k j) 0
 
 -- the pairs of both
 abbrev pub Joined : Above → Above → Above → Type 0

@@ -1,25 +1,30 @@
-// What a search remembers of the goals that failed: how many levels were left, from which state sets they were asked, and which
-// pairs of the branch stood in the way. Below every branch that has these pairs they fail again.
-// specs/Failures.antt says what the cells hold.
+// What a search remembers of the goals that it asked: how many levels were left, from which state sets they were asked, which
+// pairs of the branch stood in the way, and a family of sets of automata. Below every branch that has these pairs they can meet
+// no set that the family does not cover; where it has none, they fail. specs/Failures.antt says what the cells hold.
 use automata::StateSets;
+use families::Family;
 use members::Above;
 use table::layout;
 ghost use mathlib.Core.Path.{_≡_};
 ghost use mathlib.Core.Bool.{true};
 ghost use Prim.Native.Nat.{_<_, _≤_};
 ghost use lib.ListN.{length};
+ghost use Rattle.families.specs.Families.{familyWords};
 ghost use Rattle.table.specs.Limits.{mostAutomata, mostCredentials, mostDepth};
-ghost use Rattle.failures.specs.Failures.{Joined, Kept, MetAt, Recalled, Spared, memoryCells, metCell, slots, stateCell};
+ghost use Rattle.failures.specs.Failures.{FamilyAt, Joined, Kept, MetAt, Recalled, Spared};
+ghost use Rattle.failures.specs.Failures.{familyCell, memoryCells, metCell, slots, stateCell};
 ghost use Rattle.failures.specs.Cells.{CoveredAt, StatesAt, Written};
 
-// Slots of thirty-two cells each.
+// Slots of forty cells each.
 const SLOTS: usize = 128;
 
-const SLOT_CELLS: usize = 32;
+const SLOT_CELLS: usize = 40;
 
 const FIRST_STATE: usize = 4;
 
 const FIRST_MET: usize = 12;
+
+const FIRST_WORD: usize = 32;
 
 pub const CELLS: usize = SLOT_CELLS * SLOTS;
 
@@ -45,7 +50,7 @@ pub fn slot(person: usize, place: usize, states: StateSets) -> usize
     (sum + sum / SLOTS + sum / SLOTS / SLOTS) % SLOTS
 }
 
-// Slot k tells that the goal fails below this branch, with so many levels left.
+// Slot k tells what the goal can meet below this branch, with so many levels left.
 pub fn recalls(
     memory: &[u32],
     k: usize,
@@ -129,7 +134,22 @@ pub fn met_at(memory: &[u32], k: usize) -> Above
     Above { persons: persons }
 }
 
-// Keeps in slot k that the goal failed.
+// The family of slot k.
+pub fn family_at(memory: &[u32], k: usize) -> Family
+    requires { ⌜ (length (now memory) ≡ memoryCells) × (k < slots) ⌝ }
+    ensures { λ r. ⌜ FamilyAt (now (memory .entry)) k r ⌝ }
+{
+    let from = SLOT_CELLS * k + FIRST_WORD;
+    let mut words = [0; families::WORDS];
+    let mut j = 0;
+    while j < families::WORDS {
+        words[j] = memory[from + j];
+        j += 1;
+    }
+    Family { words: words }
+}
+
+// Keeps in slot k that the goal can meet no set that the family does not cover.
 pub fn keep(
     memory: &mut [u32],
     k: usize,
@@ -138,10 +158,11 @@ pub fn keep(
     levels: usize,
     states: StateSets,
     met: Above,
+    found: Family,
 )
     requires { ⌜ (length (now memory) ≡ memoryCells) × (k < slots) ⌝ }
     requires { ⌜ (person < mostCredentials) × ((place < mostCredentials) × (levels ≤ mostDepth)) ⌝ }
-    ensures { λ r. ⌜ Kept k person place levels states met (now (memory .entry)) (now (memory .exit)) ⌝ }
+    ensures { λ r. ⌜ Kept k person place levels states met found (now (memory .entry)) (now (memory .exit)) ⌝ }
 {
     let at = SLOT_CELLS * k;
     memory[at] = levels as u32;
@@ -149,6 +170,7 @@ pub fn keep(
     memory[at + 2] = place as u32;
     put_states(memory, k, states);
     put_met(memory, k, met);
+    put_family(memory, k, found);
 }
 
 // Writes the state sets into slot k.
@@ -174,6 +196,19 @@ fn put_met(memory: &mut [u32], k: usize, met: Above)
     while r < ROLES {
         memory[from + r] = met.persons[r];
         r += 1;
+    }
+}
+
+// Writes the family into slot k.
+fn put_family(memory: &mut [u32], k: usize, found: Family)
+    requires { ⌜ (length (now memory) ≡ memoryCells) × (k < slots) ⌝ }
+    ensures { λ r. ⌜ Written (familyCell k 0) familyWords (found .words) (now (memory .entry)) (now (memory .exit)) ⌝ }
+{
+    let from = SLOT_CELLS * k + FIRST_WORD;
+    let mut j = 0;
+    while j < families::WORDS {
+        memory[from + j] = found.words[j];
+        j += 1;
     }
 }
 

@@ -9,13 +9,13 @@ use Rattle.failures.proofs.joined.Statement.{statement}
 use Rattle.failures.proofs.joined.Tie as tie
 
 abbrev Inv-loop : tie.InvT-loop
-Inv-loop one other persons₀ r₀ persons r = (r ≤ mostCredentials) × Made (either one other) r persons
+Inv-loop one other persons₀ r₀ persons r = (r ≤ mostCredentials) × Made mostCredentials (either one other) r persons
 
 abbrev μ-loop : tie.MeasureT-loop
 μ-loop one other persons₀ r₀ persons r = mostCredentials - r
 
 loop-holds : tie.Need-loop-holds Inv-loop μ-loop
-loop-holds c = (omega arith, made-none _ _ refl)
+loop-holds c = (omega arith, made-none _ _ _ refl)
 
 mul-persons : tie.Need-mul-persons Inv-loop μ-loop
 mul-persons c = search needs
@@ -42,7 +42,7 @@ loop-less : tie.Need-loop-less Inv-loop μ-loop
 loop-less c = search needs
 
 loop-again : tie.Need-loop-again Inv-loop μ-loop
-loop-again c = (omega arith, made-next _ _ _ _ (c .before .before .before .loop .inv .1) (omega arith) refl)
+loop-again c = (omega arith, made-next _ _ _ _ _ (c .before .before .before .loop .inv .1) (omega arith) refl)
 
 returns : tie.Need-returns Inv-loop μ-loop
 returns c = λ r l. c .before .loop .inv .1 .each r (omega arith)

@@ -1,4 +1,4 @@
--- `failures::keep` meets its contract: the three stretches of a slot are written. Assumes nothing.
+-- `failures::keep` meets its contract: the four stretches of a slot are written. Assumes nothing.
 use mathlib.Core.Path.{_∙_}
 use native.Mathlib.Omega.{arith}
 use lib.ListN.{length-set}
@@ -51,17 +51,28 @@ put-met-requires c κs =
     let pre = c .before .before .before .before .before .before .pre .0 in
     (c .before .before .before .put-states .ensures .room ∙ simp length-set (pre .0), pre .1)
 
+put-family-requires : tie.Need-put-family-requires
+put-family-requires c κs =
+    let met = c .before .before .before in
+    let states = met .before .before .before .before in
+    let pre = states .before .before .before .pre .0 in
+    (met .put-met .ensures .room ∙ states .put-states .ensures .room ∙ simp length-set (pre .0), pre .1)
+
 same-length : tie.Need-same-length
 same-length c =
-    c .before .before .put-met .ensures .room
-    ∙ c .before .before .before .before .before .before .put-states .ensures .room
-    ∙ simp length-set
+    let family = c .before .before in
+    let met = family .before .before .before .before in
+    let states = met .before .before .before .before in
+    family .put-family .ensures .room ∙ met .put-met .ensures .room ∙ states .put-states .ensures .room ∙ simp length-set
 
 returns : tie.Need-returns
 returns c =
-    let pre = c .before .before .before .before .before .before .before .before .before .pre .0 in
-    let states = c .before .before .before .before .before .before .put-states .ensures in
-    kept _ _ _ _ _ _ _ _ _ _ (head-written _ _ _ _ _ (pre .0) (pre .1)) states (c .before .before .put-met .ensures)
+    let family = c .before .before in
+    let met = family .before .before .before .before in
+    let states = met .before .before .before .before in
+    let pre = states .before .before .before .pre .0 in
+    kept _ _ _ _ _ _ _ _ _ _ _ _ (head-written _ _ _ _ _ (pre .0) (pre .1)) (states .put-states .ensures)
+    (met .put-met .ensures) (family .put-family .ensures)
 
 pub keep-spec : {M : Type 1} → statement M
 keep-spec =
@@ -81,5 +92,6 @@ keep-spec =
     slice-write-memory-3
     put-states-requires
     put-met-requires
+    put-family-requires
     same-length
     returns)

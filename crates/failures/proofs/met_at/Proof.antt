@@ -3,13 +3,13 @@ use mathlib.Core.Path.{refl}
 use Prim.Native.Nat.{_-_, _≤_}
 use native.Mathlib.Omega.{arith}
 use Rattle.table.specs.Limits.{mostCredentials}
-use Rattle.failures.proofs.Slots.{Made, made-none, met-next, metOf}
+use Rattle.failures.proofs.Slots.{Made, cell-next, cellsFrom, made-none}
 use borrow.Author.Needs.{needs}
 use Rattle.failures.proofs.met_at.Statement.{statement}
 use Rattle.failures.proofs.met_at.Tie as tie
 
 abbrev Inv-loop : tie.InvT-loop
-Inv-loop memory k from persons₀ r₀ persons r = (r ≤ mostCredentials) × Made (metOf memory k) r persons
+Inv-loop memory k from persons₀ r₀ persons r = (r ≤ mostCredentials) × Made mostCredentials (cellsFrom memory k 12) r persons
 
 abbrev μ-loop : tie.MeasureT-loop
 μ-loop memory k from persons₀ r₀ persons r = mostCredentials - r
@@ -21,7 +21,7 @@ add-from : tie.Need-add-from Inv-loop μ-loop
 add-from c = search needs
 
 loop-holds : tie.Need-loop-holds Inv-loop μ-loop
-loop-holds c = (omega arith, made-none _ _ refl)
+loop-holds c = (omega arith, made-none _ _ _ refl)
 
 add-persons : tie.Need-add-persons Inv-loop μ-loop
 add-persons c = search needs
@@ -45,10 +45,10 @@ loop-less : tie.Need-loop-less Inv-loop μ-loop
 loop-less c = search needs
 
 loop-again : tie.Need-loop-again Inv-loop μ-loop
-loop-again c = (omega arith, met-next _ _ _ _ (c .before .before .loop .inv .1) (omega arith))
+loop-again c = (omega arith, cell-next _ _ _ _ _ _ (c .before .before .loop .inv .1) (omega arith))
 
 returns : tie.Need-returns Inv-loop μ-loop
-unfolding metOf
+unfolding cellsFrom
 returns c = λ r l. c .before .loop .inv .1 .each r (omega arith)
 
 pub met-at-spec : {M : Type 1} → statement M
