@@ -10,13 +10,14 @@ use lib.ListN.{getD, getD-replicate, length, length-set, replicate, set}
 use lib.Seq.{getD-set-other, getD-set-same}
 use lib.Bits.{bitAnd, bitOr}
 use lib.Dec.{eqb}
-use borrow.Author.Tests.{eq-eqb, eqb-true, ne-eqb, not-false}
+use borrow.Author.Tests.{eq-eqb, eqb-true, ne-eqb, not-false, not-true}
 use Rattle.sets.specs.Logic.{_and_, _or_, anyBelow}
-use Rattle.sets.specs.Sets.{inSet}
+use Rattle.sets.specs.Sets.{inSet, part}
 use Rattle.sets.proofs.Tests.{and-both, and-first, and-is, and-is-off, and-none, and-second, any-not, any-on, any-reached}
-use Rattle.sets.proofs.Tests.{any-same, or-false, or-off, same-test}
+use Rattle.sets.proofs.Tests.{any-all, any-same, or-false, or-off, same-test}
 use Rattle.sets.proofs.Members.{below-members, inSet-and, inSet-or, inSet-pow, inSet-zero, meets-common, meets-some}
-use Rattle.families.specs.Families.{FamilyOf, Within, allSets, familyWords, inFamily}
+use Rattle.sets.proofs.Without.{part-fails}
+use Rattle.families.specs.Families.{FamilyOf, Within, allSets, familyWords, inFamily, isPart}
 use Rattle.families.specs.declared.Family.{Family}
 
 abbrev pub word : Family → ℕ → ℕ
@@ -152,9 +153,23 @@ module _ (f g : Family) where
           and-none true (ap not (and-second _ _ (sym (inSet-and (word f j) (word g j) s) ∙ ap (λ x. inSet x s) same ∙ e)))
       go s false e = and-is-off (not (inSet (word g j) s)) refl
 
-  pub within-all : (j : ℕ) → anyBelow beyond (32 * j) ≡ false → familyWords ≤ j → Within f g
-  within-all j none all X l h =
-      not-false (inFamily g X) (sym (and-is h refl) ∙ any-not beyond (32 * j) X none (omega arith))
+  pub within-all : (j : ℕ) → anyBelow beyond (32 * j) ≡ false → j ≡ familyWords → true ≡ isPart f g
+  unfolding isPart
+  within-all j none all = sym (ap not (any-all beyond (32 * j) allSets (omega arith) none))
+
+  pub within-not : (j : ℕ) → j < familyWords → Fits w32 (word f j) → (bitAnd (word f j) (word g j) ≡ word f j → ⊥)
+      → false ≡ isPart f g
+  unfolding isPart part
+  within-not j l few other =
+      let (s, one, none) = part-fails (word f j) (word g j) 32 (few .fits) (ne-eqb _ (word f j) other) in
+      let less = below-members (word f j) 32 s (few .fits) one in
+      sym (ap not (any-reached beyond allSets (32 * j + s) (omega arith)
+      (and-both (in-word f j s less ∙ one) (ap not (in-word g j s less ∙ none)))))
+
+  pub part-within : isPart f g ≡ true → Within f g
+  unfolding isPart
+  part-within none X l h =
+      not-false (inFamily g X) (sym (and-is h refl) ∙ any-not beyond allSets X (not-true (anyBelow beyond allSets) none) l)
 
 -- what a family has in common with itself
 pub itself : (f : Family) → anyBelow (common f f) allSets ≡ anyBelow (inFamily f) allSets

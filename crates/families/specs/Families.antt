@@ -2,7 +2,7 @@
 -- a family covers: a search keeps the greatest sets that it finds, and each part of them counts as found.
 use Prim.Native.Nat.{ℕ, _/_, _%_, _<_}
 use mathlib.Core.Path.{_≡_}
-use mathlib.Core.Bool.{Bool, true}
+use mathlib.Core.Bool.{Bool, not, true}
 use lib.ListN.{getD}
 use lib.Bits.{bitOr}
 use lib.Dec.{eqb}
@@ -27,6 +27,10 @@ FamilyOf p f = (X : ℕ) → X < allSets → inFamily f X ≡ p X
 -- each set of f is one of g
 abbrev pub Within : Family → Family → Type 0
 Within f g = (X : ℕ) → X < allSets → inFamily f X ≡ true → inFamily g X ≡ true
+
+-- the same as a test: no set is only in f
+unfoldable pub isPart : Family → Family → Bool
+isPart f g = not (anyBelow (λ X. inFamily f X and not (inFamily g X)) allSets)
 
 -- each set of f is a part of `most`
 abbrev pub Inside : Family → ℕ → Type 0

@@ -8,7 +8,7 @@ ghost use Prim.Native.Nat.{_<_, _≤_};
 ghost use lib.Dec.{eqb};
 ghost use Rattle.sets.specs.Logic.{_and_, _or_, anyBelow};
 ghost use Rattle.families.specs.Families;
-ghost use Rattle.families.specs.Families.{FamilyOf, Within, allSets, inFamily, joins, raises};
+ghost use Rattle.families.specs.Families.{FamilyOf, allSets, inFamily, isPart, joins, raises};
 ghost use Rattle.families.specs.Next.{Next};
 
 const ALL_SETS: AutomatonSet = 256;
@@ -82,7 +82,7 @@ impl Family {
 
     // Each set of the family is one of the other.
     pub fn is_part(self, other: Family) -> bool
-        ensures { λ r. ⌜ (r ≡ true → Within self other) ⌝ }
+        ensures { λ r. ⌜ r ≡ isPart self other ⌝ }
     {
         let mut j = 0;
         while j < WORDS {

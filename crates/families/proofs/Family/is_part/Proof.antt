@@ -4,9 +4,8 @@ use mathlib.Core.Bool.{false}
 use Prim.Native.Nat.{_*_, _-_, _≤_}
 use native.Mathlib.Omega.{arith}
 use Rattle.sets.specs.Logic.{anyBelow}
-use Rattle.sets.proofs.Tests.{false-true}
 use Rattle.families.specs.Families.{familyWords}
-use Rattle.families.proofs.Words.{beyond, none-below, within-all, within-next}
+use Rattle.families.proofs.Words.{beyond, none-below, within-all, within-next, within-not}
 use borrow.Author.Needs.{needs}
 use Rattle.families.proofs.Family.is_part.Statement.{statement}
 use Rattle.families.proofs.Family.is_part.Tie as tie
@@ -33,7 +32,7 @@ element-copy-out-if1 : tie.Need-element-copy-out-if1 Inv-loop μ-loop
 element-copy-out-if1 c = search needs
 
 returns : tie.Need-returns Inv-loop μ-loop
-returns c = λ wrong. absurd (false-true wrong)
+returns c = within-not _ _ _ (omega arith) (search needs) (c .if1 .taken)
 
 add-j : tie.Need-add-j Inv-loop μ-loop
 add-j c = search needs
@@ -45,7 +44,7 @@ loop-again : tie.Need-loop-again Inv-loop μ-loop
 loop-again c = (omega arith, within-next _ _ _ (c .before .before .before .before .loop .inv .1) (c .if1 .left))
 
 returns-2 : tie.Need-returns-2 Inv-loop μ-loop
-returns-2 c = λ told. within-all _ _ _ (c .before .loop .inv .1) (omega arith)
+returns-2 c = within-all _ _ _ (c .before .loop .inv .1) (omega arith)
 
 pub is-part-spec : {M : Type 1} → statement M
 is-part-spec =
