@@ -57,7 +57,7 @@ module _ (f : Family) (j v : ℕ) where
   own-word : j < length (f .words) → (s : ℕ) → s < 32 → inFamily (put f j v) (32 * j + s) ≡ inSet v s
   own-word there s l = in-word (put f j v) j s l ∙ ap (λ x. inSet x s) (getD-set-same (f .words) j v 0 there)
 
-  by-words : (p : ℕ → Bool) (X : ℕ) → j < length (f .words) → ((s : ℕ) → s < 32 → inSet v s ≡ p (32 * j + s))
+  pub by-words : (p : ℕ → Bool) (X : ℕ) → j < length (f .words) → ((s : ℕ) → s < 32 → inSet v s ≡ p (32 * j + s))
       → ((X / 32 ≡ j → ⊥) → inFamily f X ≡ p X) → inFamily (put f j v) X ≡ p X
   by-words p X there own other = go (ℕ-discrete (X / 32) j)
     where

@@ -17,6 +17,12 @@ allSets = 256
 abbrev pub familyWords : ℕ
 familyWords = 8
 
+abbrev pub wordBits : ℕ
+wordBits = 5
+
+abbrev pub wordSets : ℕ
+wordSets = 32
+
 unfoldable pub inFamily : Family → ℕ → Bool
 inFamily f X = inSet (getD (f .words) (X / 32) 0) (X % 32)
 
@@ -43,6 +49,13 @@ covers f X = anyBelow (λ Y. inFamily f Y and part X Y) allSets
 -- X is Y together with some set of g
 unfoldable pub raises : Family → ℕ → ℕ → Bool
 raises g Y X = anyBelow (λ Z. inFamily g Z and eqb (bitOr Y Z) X) allSets
+
+-- the same in a word: x is `low` together with some number of the word, and r has just these
+unfoldable pub spreads : ℕ → ℕ → ℕ → Bool
+spreads word low x = anyBelow (λ b. inSet word b and eqb (bitOr low b) x) wordSets
+
+abbrev pub Spread : ℕ → ℕ → ℕ → Type 0
+Spread word low r = (x : ℕ) → x < wordSets → inSet r x ≡ spreads word low x
 
 -- X is the union of a set of f and a set of g
 unfoldable pub joins : Family → Family → ℕ → Bool

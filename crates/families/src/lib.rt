@@ -1,6 +1,8 @@
 // Families: sets of sets of automata, for a search that has to know which automata some word each can be made to accept. A set of
 // automata is a number below 256, automaton k counting 2^(k-1), so a family is 256 bits. specs/Families.antt says what each
 // function makes; proofs/Covering.antt has the laws of what a family covers.
+mod spreading; // spreading.rt: bits put into all numbers of a word at once
+
 use sets::AutomatonSet;
 ghost use mathlib.Core.Path.{_≡_};
 ghost use mathlib.Core.Bool.{false, not, true};
@@ -138,18 +140,22 @@ impl Family {
         left
     }
 
-    // The unions of this set and a set of the family.
+    // The unions of this set and a set of the family, word by word: the high bits say to which word a word goes, and the low bits
+    // are put into its numbers.
     fn raised(self, set: AutomatonSet) -> Family
         requires { ⌜ set < allSets ⌝ }
         ensures { λ r. ⌜ FamilyOf (raises self set) r ⌝ }
     {
-        let mut all = Family::none();
-        let mut more = self.next(0);
-        while more < ALL_SETS {
-            all = all.with(set | more);
-            more = self.next(more + 1);
+        let high = (set / WORD_SETS) as usize;
+        let low = set % WORD_SETS;
+        let mut words = [0; WORDS];
+        let mut j = 0;
+        while j < WORDS {
+            let at = high | j;
+            words[at] = words[at] | spreading::spread(self.words[j], low);
+            j += 1;
         }
-        all
+        Family { words: words }
     }
 
     // The set is a part of `most` and together with some set of `later` in the family.

@@ -1,48 +1,62 @@
--- `families::Family::raised` meets its contract: the unions with each set before the one in hand are there. Assumes nothing.
-use Prim.Native.Nat.{_-_}
+-- `families::Family::raised` meets its contract: the first j words have gone where they belong. Assumes nothing.
+use Prim.Native.Nat.{_-_, _<_, _≤_}
 use native.Mathlib.Omega.{arith}
-use lib.Bits.{bitOr, or-lt}
-use lib.Dec.{eqb}
-use Rattle.families.specs.Families.{allSets, raises}
-use Rattle.families.proofs.Stepping.{Gathered, gathered-all, gathered-next, gathered-none}
+use Rattle.families.specs.Families.{familyWords}
+use Rattle.families.proofs.Raising.{RaisedTo, goes-inside, goesTo, raised-all, raised-next, raised-none}
 use borrow.Author.Needs.{needs}
 use Rattle.families.proofs.Family.raised.Statement.{statement}
 use Rattle.families.proofs.Family.raised.Tie as tie
 
 abbrev Inv-loop : tie.InvT-loop
-Inv-loop self set all₀ more₀ all more = Gathered (λ Y X. eqb (bitOr set Y) X) self more all
+Inv-loop set self high low words₀ j₀ words j = (j ≤ familyWords) × RaisedTo self set j (record { words = words })
 
 abbrev μ-loop : tie.MeasureT-loop
-μ-loop self set all₀ more₀ all more = allSets - more
+μ-loop set self high low words₀ j₀ words j = familyWords - j
 
-none-requires : tie.Need-none-requires Inv-loop μ-loop
-none-requires c κs = search needs
-
-next-requires : tie.Need-next-requires Inv-loop μ-loop
-next-requires c κs = search needs
+cast-high : tie.Need-cast-high Inv-loop μ-loop
+cast-high c = search needs
 
 loop-holds : tie.Need-loop-holds Inv-loop μ-loop
-loop-holds c = gathered-none _ _ _ _ (c .next .ensures) (c .before .none .ensures)
+loop-holds c = (omega arith, raised-none _ _)
 
-with-requires : tie.Need-with-requires Inv-loop μ-loop
-with-requires c κs = or-lt 8 _ _ (c .before .before .before .before .pre) (c .loop-test .taken)
+-- the word in hand goes to one of the eight
+inside : (at : tie.In-loop Inv-loop μ-loop) → goesTo (at .before .before .args .set) (at .before .loop .j) < familyWords
+inside at = goes-inside _ _ (at .before .before .pre) (at .loop-test .taken)
 
-add-next : tie.Need-add-next Inv-loop μ-loop
-add-next c = search needs
+mul-words : tie.Need-mul-words Inv-loop μ-loop
+mul-words c = record { fits = omega (arith, inside c) }
 
-next-requires-2 : tie.Need-next-requires-2 Inv-loop μ-loop
-next-requires-2 c κs = search needs
+array-read-words : tie.Need-array-read-words Inv-loop μ-loop
+array-read-words c = omega (arith, inside c, c .before .loop .inv .1 .room)
+
+mul-spread : tie.Need-mul-spread Inv-loop μ-loop
+mul-spread c = search needs
+
+element-copy-out-spread : tie.Need-element-copy-out-spread Inv-loop μ-loop
+element-copy-out-spread c = search needs
+
+spread-requires : tie.Need-spread-requires Inv-loop μ-loop
+spread-requires c κs = search needs
+
+mul-words-2 : tie.Need-mul-words-2 Inv-loop μ-loop
+mul-words-2 c = record { fits = omega (arith, inside (c .before .before)) }
+
+array-write-words : tie.Need-array-write-words Inv-loop μ-loop
+array-write-words c = omega (arith, inside (c .before .before), c .before .before .before .loop .inv .1 .room)
+
+add-j : tie.Need-add-j Inv-loop μ-loop
+add-j c = search needs
 
 loop-less : tie.Need-loop-less Inv-loop μ-loop
-loop-less c = omega (arith, c .next2 .ensures .later)
+loop-less c = search needs
 
 loop-again : tie.Need-loop-again Inv-loop μ-loop
 loop-again c =
-    gathered-next _ _ _ _ _ _ (c .before .before .before .loop .inv) (omega arith) (c .next2 .ensures) (c .before .with .ensures)
+    let at = c .before .before .before in
+    (omega arith, raised-next _ _ _ _ _ (at .before .pre) (omega arith) (at .loop .inv .1) (c .spread .ensures))
 
 returns : tie.Need-returns Inv-loop μ-loop
-unfolding raises
-returns c = gathered-all _ _ _ _ (c .before .loop .inv) (omega arith)
+returns c = raised-all _ _ _ _ (c .before .loop .inv .1) (omega arith)
 
 pub raised-spec : {M : Type 1} → statement M
 raised-spec =
@@ -50,12 +64,16 @@ raised-spec =
     (tie.spec
     Inv-loop
     μ-loop
-    none-requires
-    next-requires
+    cast-high
     loop-holds
-    with-requires
-    add-next
-    next-requires-2
+    mul-words
+    array-read-words
+    mul-spread
+    element-copy-out-spread
+    spread-requires
+    mul-words-2
+    array-write-words
+    add-j
     loop-less
     loop-again
     returns)
