@@ -1,5 +1,6 @@
--- docs/DEFINITION.md, "The first record": which credential and which middle a node of the first record has. `one` says which
--- goals can be proved below the node, and `word` whether a word may end at it.
+-- docs/DEFINITION.md, "The first record": which credential and which middle a node of the first record has. `all` says which
+-- goals can be proved together below the node, and `word` whether a word may end at it. What is below the node has to meet a set of
+-- the owed automata that is wanted: `wants` says which are.
 use Prim.Native.Nat.{ℕ, suc, _<_, _≤_}
 use mathlib.Core.Path.{_≡_}
 use mathlib.Core.List.{List, []}
@@ -7,12 +8,11 @@ use mathlib.Core.Bool.{Bool, true}
 use mathlib.Core.Option.{Option, none, some}
 use lib.ListN.{getD, length}
 use lib.Dec.{leb, ltb}
-use Rattle.sets.specs.Logic.{_and_, _or_}
+use Rattle.sets.specs.Logic.{_and_, _or_, anyBelow}
 use Rattle.sets.specs.Sets.{inSet, part, setOf}
 use Rattle.table.specs.Limits.{mostParts, mostPrincipals}
 use Rattle.table.specs.Layout.{credential, credentials}
 use Rattle.table.specs.declared.Goal.{Goal}
-use Rattle.automata.specs.Together.{acceptingSet}
 use Rattle.automata.specs.declared.StateSets.{StateSets}
 use Rattle.derivation.specs.Rules.{premises}
 use Rattle.derivation.specs.Held.{noGoal}
@@ -21,41 +21,56 @@ use Rattle.members.specs.Trying.{provedPremises}
 use Rattle.members.specs.Members.{askedCell, linkCell, rowCell}
 use Rattle.members.specs.declared.above.Above.{Above}
 pub use Rattle.search.specs.Search.{provesWith}
-use Rattle.search.specs.Search.{Stands, goalAt, proves, provesAt, usable}
+use Rattle.search.specs.Asking.{Fits, askedPairs}
+use Rattle.search.specs.declared.asking.Asked.{Asked}
+use Rattle.search.specs.Search.{AllStand, ends, goalAt, proves, provesAt, shares, usable}
 use Rattle.choice.specs.declared.Node.{Node}
 
+-- the goals can be proved such that together they meet a set that is wanted, where `one` says what each can meet
+unfoldable pub suits : {G : Type 0} → (G → ℕ → Bool) → ℕ → (ℕ → Bool) → List G → Bool
+suits one O wants goals = anyBelow (λ X. wants X and shares one O goals X) (suc O)
+
+-- a word may end where the automata have come to the state sets s: those of A accept it, and it meets a set that is wanted
+unfoldable pub endsWell : List ℕ → ℕ → ℕ → (ℕ → Bool) → StateSets → Bool
+endsWell t A O wants s = anyBelow (λ X. wants X and ends t A s X) (suc O)
+
+-- what is wanted still is where more is met: so many automata there are at most
+abbrev pub Upward : ℕ → (ℕ → Bool) → Type 0
+Upward O wants = (X Y : ℕ) → part X Y ≡ true → part Y O ≡ true → wants X ≡ true → wants Y ≡ true
+
 -- the least credential of the set that proves the goal
-unfoldable pub leastCredential : List ℕ → ℕ → (Goal → Bool) → Bool → Goal → ℕ
-leastCredential t S one word g = suc (least (provesWith t S one word g) (credentials t))
+unfoldable pub leastCredential : List ℕ → ℕ → (List Goal → Bool) → Bool → Goal → ℕ
+leastCredential t S all word g = suc (least (provesWith t S all word g) (credentials t))
 
 -- the least middle with which credential c proves the goal; 0 for every kind but 3: those apply with no other middle
-unfoldable pub leastMiddle : List ℕ → (Goal → Bool) → Bool → Goal → ℕ → ℕ
-leastMiddle t one word g c = least (λ m. provedPremises one word (premises t g c m)) (suc mostPrincipals)
+unfoldable pub leastMiddle : List ℕ → (List Goal → Bool) → Bool → Goal → ℕ → ℕ
+leastMiddle t all word g c = least (λ m. provedPremises all word (premises t g c m)) (suc mostPrincipals)
 
 -- the goals that a credential asks; none where it does not apply
 unfoldable pub asked : Option (List Goal) → List Goal
 asked none = []
 asked (some goals) = goals
 
--- the goals by the places of principal and role, each of them proved
-pub record Children (t : List ℕ) (S A levels : ℕ) (above : Above) (s : StateSets) (goals : List Goal) (len : ℕ)
-    (persons places : List ℕ) : Type 0 where
-  pub few : len ≤ mostParts
-  pub people : length persons ≡ mostParts
-  pub roles : length places ≡ mostParts
-  pub count : len ≡ length goals
-  pub stands : (k : ℕ) → k < len → Stands t (getD persons k 0) (getD places k 0)
-  pub proved : (k : ℕ) → k < len → provesAt t S A levels above s (getD persons k 0) (getD places k 0) ≡ true
-  pub goals-are : (k : ℕ) → k < len → goalAt t (getD persons k 0) (getD places k 0) ≡ getD goals k noGoal
+-- the goals by the places of principal and role, each of which can be proved
+pub record Children (t : List ℕ) (S A O levels : ℕ) (above : Above) (s : StateSets) (goals : List Goal) (node : Asked) : Type 0 where
+  pub fits : Fits node
+  pub count : node .len ≡ length goals
+  pub stands : AllStand t (askedPairs node)
+  pub proved : (k : ℕ) → k < node .len
+      → provesAt t S A O levels above s (getD (node .persons) k 0) (getD (node .places) k 0) 0 ≡ true
+  pub goals-are : (k : ℕ) → k < node .len
+      → goalAt t (getD (node .persons) k 0) (getD (node .places) k 0) ≡ getD goals k noGoal
 
--- the node's numbers are the least, and its children are what they ask; so many levels are left below the node
-pub record Chosen (t : List ℕ) (S A levels : ℕ) (above : Above) (s : StateSets) (g : Goal) (node : Node) : Type 0 where
+-- the node's numbers are the least, and its children are what they ask; so many levels are left below the node. Where it asks
+-- nothing a word ends well, and otherwise the goals that it asks suit what is wanted
+pub record Chosen (t : List ℕ) (S A O levels : ℕ) (above : Above) (s : StateSets) (wants : ℕ → Bool) (g : Goal) (node : Node) : Type 0 where
   pub credential-is : node .credential
-      ≡ leastCredential t S (proves t S A levels above s) (part A (acceptingSet t s)) g
+      ≡ leastCredential t S (suits (proves t S A O levels above s) O wants) (endsWell t A O wants s) g
   pub middle-is : node .middle
-      ≡ leastMiddle t (proves t S A levels above s) (part A (acceptingSet t s)) g (node .credential)
-  pub children : Children t S A levels above s (asked (premises t g (node .credential) (node .middle)))
-      (node .len) (node .persons) (node .places)
+      ≡ leastMiddle t (suits (proves t S A O levels above s) O wants) (endsWell t A O wants s) g (node .credential)
+  pub children : Children t S A O levels above s (asked (premises t g (node .credential) (node .middle))) (node .asked)
+  pub suited : (node .asked .len ≡ 0 → ⊥)
+      → suits (proves t S A O levels above s) O wants (asked (premises t g (node .credential) (node .middle))) ≡ true
 
 -- the node of credential i + 1, which is not of kind 3, and asks the first `len` roles of its cells
 pub record Unlinked (index : List ℕ) (person i len : ℕ) (node : Node) : Type 0 where

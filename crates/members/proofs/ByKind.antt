@@ -190,6 +190,13 @@ module _ (t : List ℕ) (wf : WellFormed t) (all : List Goal → Bool) (word : B
   unfolding provedPremises
   by-none h1 h2 h3 h4 = no-middle h3 ∙ ap (provedPremises all word) (sym (asks-none t g (credential t c) 0 h1 h2 h3 h4))
 
+-- one to four roles are asked of the goal's principal
+pub roles-few : (t : List ℕ) → WellFormed t → (c : ℕ) → Numbered (credentials t) c
+    → (credential t c .kind ≡ 2) ⊎ (credential t c .kind ≡ 4)
+    → (1 ≤ length (rolesAsked t (credential t c))) × (length (rolesAsked t (credential t c)) ≤ mostParts)
+roles-few t wf c there (inl kind) = rw (roles-2 t (credential t c) kind) (omega arith, omega arith)
+roles-few t wf c there (inr kind) = rw (roles-4 t (credential t c) kind) (parts-few t wf c there kind)
+
 -- where goals are proved one by one
 abbrev pub byMiddle : List ℕ → (Goal → Bool) → Goal → ℕ → ℕ → Bool
 byMiddle t one g c j =
@@ -206,17 +213,12 @@ module _ (t : List ℕ) (wf : WellFormed t) (one : Goal → Bool) (word : Bool) 
   abbrev pub allProved : List Role → Bool
   allProved roles = not (anyBelow (λ k. not (one (goal (g .principal) (padded roles k)))) mostParts)
 
-  -- one to four roles are asked of the goal's principal
-  roles-few : (credential t c .kind ≡ 2) ⊎ (credential t c .kind ≡ 4)
-      → (1 ≤ length (rolesAsked t (credential t c))) × (length (rolesAsked t (credential t c)) ≤ mostParts)
-  roles-few (inl kind) = rw (roles-2 t (credential t c) kind) (omega arith, omega arith)
-  roles-few (inr kind) = rw (roles-4 t (credential t c) kind) (parts-few t wf c there kind)
-
   pub by-parts : (credential t c .kind ≡ 2) ⊎ (credential t c .kind ≡ 4)
       → provesBy t (everyGoal one) word g c ≡ allProved (rolesAsked t (credential t c))
   by-parts kind =
       by-roles t wf (everyGoal one) word g c there own kind
-      ∙ every-padded one (goal (g .principal)) (rolesAsked t (credential t c)) (roles-few kind .0) (roles-few kind .1)
+      ∙ every-padded one (goal (g .principal)) (rolesAsked t (credential t c))
+      (roles-few t wf c there kind .0) (roles-few t wf c there kind .1)
 
   pub with-middle : credential t c .kind ≡ 3 → (j : ℕ) → j < credentials t → isPerson t j ≡ true
       → provedPremises (everyGoal one) word (premises t g c (middleAt t j)) ≡ byMiddle t one g c j

@@ -1,5 +1,5 @@
 -- Deciding automaton by automaton is exact: a derivation that complies either names no credential that bears the automaton, and
--- then it does without, or the automaton accepts its words. So the used set of an accepted record admits, and a set that does has
+-- then it does without, or its words are what the automaton demands by its mark. So the used set of an accepted record admits, and a set that does has
 -- such a used set as a part.
 use mathlib.Core.Path.{_≡_, refl, sym, ap, _∙_}
 use mathlib.Core.List.{List, [], _∷_}
@@ -10,8 +10,9 @@ use native.Mathlib.Omega.{arith}
 use native.Mathlib.Numerals.{sub-one}
 use native.Mathlib.Decide.{ℕ-discrete}
 use lib.Bits.{bitOr}
+use lib.Dec.{eqb}
 use borrow.Author.Tests.{eqb-false, eqb-true, lt-ltb, ne-eqb, not-true}
-use Rattle.table.specs.Layout.{automata, credential, credentials}
+use Rattle.table.specs.Layout.{automata, automaton, credential, credentials}
 use Rattle.table.specs.Holding.{WellFormed}
 use Rattle.table.specs.declared.Goal.{Goal}
 use Rattle.table.specs.declared.Query.{Query}
@@ -23,14 +24,14 @@ use Rattle.sets.proofs.Members.{inSet-or, inSet-pow, inSet-zero, members-below,
 use Rattle.sets.proofs.Members.{part-or-left, part-or-right, part-refl, part-shown, setOf-members}
 use Rattle.derivation.specs.Forest.{Derives, Forest, names, usedSet, written}
 use Rattle.derivation.specs.Rules.{goalOf}
-use Rattle.derivation.specs.Words.{Complies, usesAutomaton, words}
+use Rattle.derivation.specs.Words.{Complies, acceptsAll, acceptsSome, isMet, usesAutomaton, words}
 use Rattle.derivation.specs.Attached.{automataOf}
 use Rattle.derivation.specs.Accepted.{Accepted}
-use Rattle.search.specs.Search.{UsesOnly, provable}
-use Rattle.search.specs.Admits.{Admits, admits, admitsBy, without}
+use Rattle.search.specs.Search.{AllAccept, SomeAccept, UsesOnly, provable}
+use Rattle.search.specs.Admits.{Admits, admits, admitsBy, withEvery, withOwed, without}
 use Rattle.derivation.proofs.Using.{automaton-imposed, automaton-reached, automaton-shows, named-numbered, placed}
 use Rattle.derivation.proofs.Using.{used-at, used-named, uses-reached, uses-shows}
-use Rattle.search.proofs.Searching.{AllAccept, provable-by, provable-exact}
+use Rattle.search.proofs.Searching.{provable-by, provable-exact}
 
 -- more credentials have no fewer automata
 automata-mono : (t : List ℕ) (S S′ : ℕ) → part S S′ ≡ true → part (automataOf t S) (automataOf t S′) ≡ true
@@ -39,6 +40,10 @@ automata-mono t S S′ more =
     (λ k h.
     let by = automaton-shows t S k h in
     automaton-reached t S′ k (by .0) (by .1) (part-member S S′ (by .0) more (by .2)) (by .3))
+
+-- those that are owed, or those that are imposed, as the mark of automaton j + 1 asks
+unfoldable pub demanding : List ℕ → ℕ → ℕ → ℕ → ℕ
+demanding t A O j = pick (eqb (automaton t (suc j) .mark) 1) O A
 
 module _ (t : List ℕ) {l : ℕ} {b gs : List Goal} {f : Forest} (d : Derives t l b gs f) where
   -- a credential of the used set is named
@@ -52,12 +57,20 @@ module _ (t : List ℕ) {l : ℕ} {b gs : List Goal} {f : Forest} (d : Derives t
   pub part-used : (S : ℕ) → part (usedSet f) S ≡ true → UsesOnly f S
   part-used S among c named = part-member (usedSet f) S (c - 1) among (used-named t l b gs f d c named)
 
-  -- a forest within a set that meets every automaton of the set complies
-  pub accepts-complies : (S : ℕ) → UsesOnly f S → AllAccept t (automataOf t S) (words t [] f) → Complies t f
-  accepts-complies S only all c named constrained =
+  -- a forest within a set complies, where each automaton of the set is imposed or owed as its mark asks, and all are met
+  pub accepts-complies : (S A O : ℕ) → UsesOnly f S → ((j : ℕ) → inSet (automataOf t S) j ≡ true → inSet (demanding t A O j) j ≡ true)
+      → AllAccept t A (words t [] f) → SomeAccept t O (words t [] f) → Complies t f
+  unfolding isMet demanding pick
+  accepts-complies S A O only settled all some c named constrained =
       let k = credential t c .automaton in
       let next : suc (k - 1) ≡ k = omega arith in
-      rw next at (all (k - 1) (automaton-imposed t S c (named-numbered d c named) (only c named) (sym next)))
+      let here = settled (k - 1) (automaton-imposed t S c (named-numbered d c named) (only c named) (sym next)) in
+      rw next at (go (k - 1) (eqb (automaton t (suc (k - 1)) .mark) 1) here)
+    where
+      go : (j : ℕ) (b : Bool) → inSet (pick b O A) j ≡ true
+          → pick b (acceptsSome t (suc j) (words t [] f)) (acceptsAll t (suc j) (words t [] f)) ≡ true
+      go j true owed = some j owed
+      go j false imposed = all j imposed
 
 -- what is left out: those of S that bear automaton k, and no others
 module _ (t : List ℕ) (S k : ℕ) where
@@ -76,42 +89,81 @@ module _ (t : List ℕ) (S k : ℕ) where
   without-part : part (without t S k) S ≡ true
   without-part = part-shown (without t S k) S (λ i h. without-shows i h .0)
 
--- each automaton from k on that a credential of S bears is imposed
-abbrev Settled : List ℕ → ℕ → ℕ → ℕ → Type 0
-Settled t S A k = (j : ℕ) → k ≤ j → inSet (automataOf t S) j ≡ true → inSet A j ≡ true
+-- each automaton from k on that a credential of S bears is imposed or owed, by its mark
+abbrev Settled : List ℕ → ℕ → ℕ → ℕ → ℕ → Type 0
+Settled t S A O k = (j : ℕ) → k ≤ j → inSet (automataOf t S) j ≡ true → inSet (demanding t A O j) j ≡ true
 
--- at first there is nothing from k on, and one automaton more is settled where fewer credentials bear it or more is imposed
-settled-first : (t : List ℕ) → WellFormed t → (S A : ℕ) → Settled t S A (automata t)
-settled-first t wf S A j beyond h =
+-- at first there is nothing from k on, and one automaton more is settled where fewer credentials bear it or more is demanded
+settled-first : (t : List ℕ) → WellFormed t → (S A O : ℕ) → Settled t S A O (automata t)
+settled-first t wf S A O j beyond h =
     let by = automaton-shows t S j h in
     let there = wf-credential t wf (suc (by .0)) (record { first = omega arith; last = by .1 }) .automaton in
     absurd (omega (arith, by .3))
 
-module _ (t : List ℕ) (S A k : ℕ) (before : Settled t S A (suc k)) where
-  settled-next : (S′ A′ : ℕ) → part S′ S ≡ true → part A A′ ≡ true → (inSet (automataOf t S′) k ≡ true → inSet A′ k ≡ true)
-      → Settled t S′ A′ k
-  settled-next S′ A′ fewer more here j from h = go (ℕ-discrete j k)
+demanding-mono : (t : List ℕ) (A A′ O O′ : ℕ) → part A A′ ≡ true → part O O′ ≡ true → (j : ℕ)
+    → inSet (demanding t A O j) j ≡ true → inSet (demanding t A′ O′ j) j ≡ true
+unfolding demanding pick
+demanding-mono t A A′ O O′ more more′ j h = go (eqb (automaton t (suc j) .mark) 1) h
+  where
+    go : (b : Bool) → inSet (pick b O A) j ≡ true → inSet (pick b O′ A′) j ≡ true
+    go true = part-member O O′ j more′
+    go false = part-member A A′ j more
+
+-- with automaton k + 1 each set has what it had, and the one that its mark asks has it
+module _ (t : List ℕ) (A O k : ℕ) where
+  every-more : part A (withEvery t A k) ≡ true
+  unfolding withEvery pick
+  every-more = go (eqb (automaton t (suc k) .mark) 1)
     where
-      go : Dec (j ≡ k) → inSet A′ j ≡ true
+      go : (b : Bool) → part A (pick b A (bitOr A (2 ^ k))) ≡ true
+      go true = part-refl A
+      go false = part-or-left A (2 ^ k)
+
+  owed-more : part O (withOwed t O k) ≡ true
+  unfolding withOwed pick
+  owed-more = go (eqb (automaton t (suc k) .mark) 1)
+    where
+      go : (b : Bool) → part O (pick b (bitOr O (2 ^ k)) O) ≡ true
+      go true = part-or-left O (2 ^ k)
+      go false = part-refl O
+
+  demanding-one : inSet (demanding t (withEvery t A k) (withOwed t O k) k) k ≡ true
+  unfolding demanding withEvery withOwed pick
+  demanding-one = go (eqb (automaton t (suc k) .mark) 1)
+    where
+      has : (X : ℕ) → inSet (bitOr X (2 ^ k)) k ≡ true
+      has X = part-member (2 ^ k) (bitOr X (2 ^ k)) k (part-or-right X (2 ^ k)) (own-bit k)
+
+      go : (b : Bool) → inSet (pick b (pick b (bitOr O (2 ^ k)) O) (pick b A (bitOr A (2 ^ k)))) k ≡ true
+      go true = has O
+      go false = has A
+
+module _ (t : List ℕ) (S A O k : ℕ) (before : Settled t S A O (suc k)) where
+  settled-next : (S′ A′ O′ : ℕ) → part S′ S ≡ true → part A A′ ≡ true → part O O′ ≡ true
+      → (inSet (automataOf t S′) k ≡ true → inSet (demanding t A′ O′ k) k ≡ true) → Settled t S′ A′ O′ k
+  settled-next S′ A′ O′ fewer more more′ here j from h = go (ℕ-discrete j k)
+    where
+      go : Dec (j ≡ k) → inSet (demanding t A′ O′ j) j ≡ true
       go (yes e) = rw e (here (rw e at h))
       go (no other) =
-          part-member A A′ j more (before j (omega arith) (part-member _ _ j (automata-mono t S′ S fewer) h))
+          demanding-mono t A A′ O O′ more more′ j
+          (before j (omega arith) (part-member _ _ j (automata-mono t S′ S fewer) h))
 
-  settled-unborne : inSet (automataOf t S) k ≡ false → Settled t S A k
+  settled-unborne : inSet (automataOf t S) k ≡ false → Settled t S A O k
   settled-unborne none =
-      settled-next S A (part-refl S) (part-refl A) (λ borne. absurd (false-true (sym none ∙ borne)))
+      settled-next S A O (part-refl S) (part-refl A) (part-refl O) (λ borne. absurd (false-true (sym none ∙ borne)))
 
-  settled-without : Settled t (without t S (suc k)) A k
+  settled-without : Settled t (without t S (suc k)) A O k
   settled-without =
-      settled-next (without t S (suc k)) A (without-part t S (suc k)) (part-refl A)
+      settled-next (without t S (suc k)) A O (without-part t S (suc k)) (part-refl A) (part-refl O)
       (λ borne.
       let by = automaton-shows t (without t S (suc k)) k borne in
       absurd (without-shows t S (suc k) (by .0) (by .2) .1 (by .3)))
 
-  settled-imposed : Settled t S (bitOr A (2 ^ k)) k
-  settled-imposed =
-      settled-next S (bitOr A (2 ^ k)) (part-refl S) (part-or-left A (2 ^ k))
-      (λ borne. part-member (2 ^ k) (bitOr A (2 ^ k)) k (part-or-right A (2 ^ k)) (own-bit k))
+  settled-met : Settled t S (withEvery t A k) (withOwed t O k) k
+  settled-met =
+      settled-next S (withEvery t A k) (withOwed t O k) (part-refl S) (every-more t A O k) (owed-more t A O k)
+      (λ borne. demanding-one t A O k)
 
 -- a choice that holds, by the test that made it; and one between two that hold
 pick-either : {A : Type 0} (b : Bool) {x y : Bool} → (x ≡ true → A) → (b ≡ false → y ≡ true → A) → pick b x y ≡ true → A
@@ -136,26 +188,27 @@ module _ (t : List ℕ) (wf : WellFormed t) (q : Query) where
       }
 
   -- where every automaton from k on is settled, what is decided of the others is a derivation that complies
-  decided-shown : (k S A : ℕ) → provable t q S A ≡ true → Settled t S A k → admitsBy t q S A k ≡ true → Admits t q S
+  decided-shown : (k S A O : ℕ) → provable t q S A O ≡ true → Settled t S A O k → admitsBy t q S A O k ≡ true → Admits t q S
   unfolding admitsBy
-  decided-shown zero S A proved settled h =
-      let p = provable-exact t wf q S A .0 proved in
+  decided-shown zero S A O proved settled h =
+      let p = provable-exact t wf q S A O .0 proved in
       record {
         forest = p .forest;
         derives = p .derives;
         usesOnly = p .usesOnly;
         complies =
-            accepts-complies t (p .derives) S (p .usesOnly) (λ j borne. p .accepted j (settled j (omega arith) borne));
+            accepts-complies t (p .derives) S A O (p .usesOnly) (λ j borne. settled j (omega arith) borne) (p .accepted) (p .owed);
       }
-  decided-shown (suc k) S A proved settled h =
+  decided-shown (suc k) S A O proved settled h =
       let fewer = without t S (suc k) in
-      let more = bitOr A (2 ^ k) in
+      let every = withEvery t A k in
+      let owed = withOwed t O k in
       pick-either (inSet (automataOf t S) k)
       (or-either
       (λ out. admits-more fewer S (without-part t S (suc k))
-      (decided-shown k fewer A (and-first _ _ out) (settled-without t S A k settled) (and-second _ _ out)))
-      (λ in′. decided-shown k S more (and-first _ _ in′) (settled-imposed t S A k settled) (and-second _ _ in′)))
-      (λ none. decided-shown k S A proved (settled-unborne t S A k settled none)) h
+      (decided-shown k fewer A O (and-first _ _ out) (settled-without t S A O k settled) (and-second _ _ out)))
+      (λ in′. decided-shown k S every owed (and-first _ _ in′) (settled-met t S A O k settled) (and-second _ _ in′)))
+      (λ none. decided-shown k S A O proved (settled-unborne t S A O k settled none)) h
 
   module _ {f : Forest} (d : Derives t (q .depth) [] (goalOf q ∷ []) f) (complies : Complies t f) where
     -- a derivation that does not use automaton k does without its credentials, and one that does meets it
@@ -165,47 +218,67 @@ module _ (t : List ℕ) (wf : WellFormed t) (q : Query) where
         without-reached t S k (c - 1) (at .0) (only c named)
         (λ own. false-true (sym unused ∙ uses-reached t k f c named (rw (at .1) at own)))
 
-    accepts-used : (k A : ℕ) → AllAccept t A (words t [] f) → usesAutomaton t f (suc k) ≡ true
-        → AllAccept t (bitOr A (2 ^ k)) (words t [] f)
-    accepts-used k A all used j h =
-        or-either (all j)
-        (λ here.
+    -- what a used automaton demands
+    used-met : (k : ℕ) → usesAutomaton t f (suc k) ≡ true → isMet t (suc k) (words t [] f) ≡ true
+    used-met k used =
         let by = uses-shows t (suc k) f used in
-        let same = eqb-true k j (sym (inSet-pow k j) ∙ here) in
-        rw (← same, ← by .2) (complies (by .0) (by .1) (λ z. omega (arith, by .2))))
-        (sym (inSet-or A (2 ^ k) j) ∙ h)
+        rw (← by .2) (complies (by .0) (by .1) (λ z. omega (arith, by .2)))
+
+    -- one automaton more of a set
+    one-more : {P : ℕ → Type 0} (X k : ℕ) → ((j : ℕ) → inSet X j ≡ true → P j) → P k
+        → (j : ℕ) → inSet (bitOr X (2 ^ k)) j ≡ true → P j
+    one-more X k all here j h =
+        or-either (all j) (λ one. rw (eqb-true k j (sym (inSet-pow k j) ∙ one)) at here) (sym (inSet-or X (2 ^ k) j) ∙ h)
+
+    accepts-used : (k A O : ℕ) → AllAccept t A (words t [] f) → SomeAccept t O (words t [] f) → usesAutomaton t f (suc k) ≡ true
+        → AllAccept t (withEvery t A k) (words t [] f) × SomeAccept t (withOwed t O k) (words t [] f)
+    unfolding isMet withEvery withOwed pick
+    accepts-used k A O all some used = go (eqb (automaton t (suc k) .mark) 1) (used-met k used)
+      where
+        go : (b : Bool) → pick b (acceptsSome t (suc k) (words t [] f)) (acceptsAll t (suc k) (words t [] f)) ≡ true
+            → AllAccept t (pick b A (bitOr A (2 ^ k))) (words t [] f) × SomeAccept t (pick b (bitOr O (2 ^ k)) O) (words t [] f)
+        go true met = (all, one-more {P = λ j. acceptsSome t (suc j) (words t [] f) ≡ true} O k some met)
+        go false met = (one-more {P = λ j. acceptsAll t (suc j) (words t [] f) ≡ true} A k all met, some)
 
     -- a derivation that complies is found, whichever automata are left
-    found-decided : (k S A : ℕ) → UsesOnly f S → AllAccept t A (words t [] f) → admitsBy t q S A k ≡ true
+    found-decided : (k S A O : ℕ) → UsesOnly f S → AllAccept t A (words t [] f) → SomeAccept t O (words t [] f)
+        → admitsBy t q S A O k ≡ true
     unfolding admitsBy
-    found-decided zero S A only all = refl
-    found-decided (suc k) S A only all =
-        pick-both _ (go (usesAutomaton t f (suc k)) refl (found-decided k)) (found-decided k S A only all)
+    found-decided zero S A O only all some = refl
+    found-decided (suc k) S A O only all some =
+        pick-both _ (go (usesAutomaton t f (suc k)) refl (found-decided k)) (found-decided k S A O only all some)
       where
         fewer : ℕ
         fewer = without t S (suc k)
 
-        more : ℕ
-        more = bitOr A (2 ^ k)
+        every : ℕ
+        every = withEvery t A k
+
+        owed : ℕ
+        owed = withOwed t O k
 
         go : (b : Bool) → usesAutomaton t f (suc k) ≡ b
-            → ((S A : ℕ) → UsesOnly f S → AllAccept t A (words t [] f) → admitsBy t q S A k ≡ true)
-            → ((provable t q fewer A and admitsBy t q fewer A k) or (provable t q S more and admitsBy t q S more k)) ≡ true
+            → ((S A O : ℕ) → UsesOnly f S → AllAccept t A (words t [] f) → SomeAccept t O (words t [] f)
+            → admitsBy t q S A O k ≡ true)
+            → ((provable t q fewer A O and admitsBy t q fewer A O k) or (provable t q S every owed and admitsBy t q S every owed k))
+            ≡ true
         go true used decided =
-            let met = accepts-used k A all used in
-            or-second _ (and-both (provable-by t wf q S more d only met) (decided S more only met))
+            let met = accepts-used k A O all some used in
+            or-second _ (and-both (provable-by t wf q S every owed d only (met .0) (met .1)) (decided S every owed only (met .0) (met .1)))
         go false unused decided =
             let kept = only-without (suc k) S only unused in
-            or-first _ (and-both (provable-by t wf q fewer A d kept all) (decided fewer A kept all))
+            or-first _ (and-both (provable-by t wf q fewer A O d kept all some) (decided fewer A O kept all some))
 
   pub admits-exact : (S : ℕ) → (admits t q S ≡ true) ↔ Admits t q S
   unfolding admits
   admits-exact S = (
-    (λ h. decided-shown (automata t) S 0 (and-first _ _ h) (settled-first t wf S 0) (and-second _ _ h)),
+    (λ h. decided-shown (automata t) S 0 0 (and-first _ _ h) (settled-first t wf S 0 0) (and-second _ _ h)),
     (λ a.
-        let none : AllAccept t 0 (words t [] (a .forest)) = λ k h. absurd (false-true (sym (inSet-zero k) ∙ h)) in
-        and-both (provable-by t wf q S 0 (a .derives) (a .usesOnly) none)
-        (found-decided (a .derives) (a .complies) (automata t) S 0 (a .usesOnly) none)),
+        let ws = words t [] (a .forest) in
+        let all : AllAccept t 0 ws = λ k h. absurd (false-true (sym (inSet-zero k) ∙ h)) in
+        let some : SomeAccept t 0 ws = λ k h. absurd (false-true (sym (inSet-zero k) ∙ h)) in
+        and-both (provable-by t wf q S 0 0 (a .derives) (a .usesOnly) all some)
+        (found-decided (a .derives) (a .complies) (automata t) S 0 0 (a .usesOnly) all some)),
   )
 
   pub admits-mono : (S S′ : ℕ) → part S S′ ≡ true → admits t q S ≡ true → admits t q S′ ≡ true

@@ -17,7 +17,7 @@ use Rattle.table.specs.declared.Credential.{Credential}
 use Rattle.table.specs.declared.Query.{Query}
 use Rattle.derivation.specs.Attached.{automataOf}
 use Rattle.search.specs.Search.{provable}
-use Rattle.search.specs.Admits.{admitsBy, without}
+use Rattle.search.specs.Admits.{admitsBy, withEvery, withOwed, without}
 
 -- the credentials of S among the first n that do not bear automaton k
 abbrev pub withoutTo : List ℕ → ℕ → ℕ → ℕ → ℕ
@@ -42,54 +42,57 @@ module _ (t : List ℕ) (S k i kept : ℕ) (so-far : kept ≡ withoutTo t S k i)
         set-more _ kept i so-far (and-both inside spared)
 
 -- nothing is left to decide
-pub decided-last : (t : List ℕ) (q : Query) (S A k : ℕ) → k ≡ 0 → true ≡ admitsBy t q S A k
+pub decided-last : (t : List ℕ) (q : Query) (S A O k : ℕ) → k ≡ 0 → true ≡ admitsBy t q S A O k
 unfolding admitsBy
-decided-last t q S A k none = rw none
+decided-last t q S A O k none = rw none
 
 -- automaton k is there and some credential of the set bears it
 pub record Borne (t : List ℕ) (S k : ℕ) : Type 0 where
   pub there : k ≡ 0 → ⊥
   pub borne : inSet (automataOf t S) (k - 1) ≡ true
 
--- it can be done without, or imposed
-unfoldable pub spared : List ℕ → Query → ℕ → ℕ → ℕ → Bool
-spared t q S A k = provable t q (without t S k) A and admitsBy t q (without t S k) A (k - 1)
+-- it can be done without, or met
+unfoldable pub spared : List ℕ → Query → ℕ → ℕ → ℕ → ℕ → Bool
+spared t q S A O k = provable t q (without t S k) A O and admitsBy t q (without t S k) A O (k - 1)
 
-unfoldable imposed : List ℕ → Query → ℕ → ℕ → ℕ → Bool
-imposed t q S A k = provable t q S (bitOr A (2 ^ (k - 1))) and admitsBy t q S (bitOr A (2 ^ (k - 1))) (k - 1)
+unfoldable imposed : List ℕ → Query → ℕ → ℕ → ℕ → ℕ → Bool
+imposed t q S A O k =
+    provable t q S (withEvery t A (k - 1)) (withOwed t O (k - 1))
+    and admitsBy t q S (withEvery t A (k - 1)) (withOwed t O (k - 1)) (k - 1)
 
-decided : (t : List ℕ) (q : Query) (S A k : ℕ) → (k ≡ 0 → ⊥)
-    → admitsBy t q S A k
-    ≡ pick (inSet (automataOf t S) (k - 1)) (spared t q S A k or imposed t q S A k) (admitsBy t q S A (k - 1))
+decided : (t : List ℕ) (q : Query) (S A O k : ℕ) → (k ≡ 0 → ⊥)
+    → admitsBy t q S A O k
+    ≡ pick (inSet (automataOf t S) (k - 1)) (spared t q S A O k or imposed t q S A O k) (admitsBy t q S A O (k - 1))
 unfolding admitsBy spared imposed
-decided t q S A zero there = absurd (there refl)
-decided t q S A (suc k) there = rw (sub-one (suc k))
+decided t q S A O zero there = absurd (there refl)
+decided t q S A O (suc k) there = rw (sub-one (suc k))
 
-module _ (t : List ℕ) (q : Query) (S A k : ℕ) where
+module _ (t : List ℕ) (q : Query) (S A O k : ℕ) where
   -- what is told of the set without it, which the code holds as `fewer`, is whether it can be done without
   pub spared-told : {fewer : ℕ} {told : Bool} → fewer ≡ without t S k
-      → told ≡ (provable t q fewer A and admitsBy t q fewer A (k - 1)) → told ≡ spared t q S A k
+      → told ≡ (provable t q fewer A O and admitsBy t q fewer A O (k - 1)) → told ≡ spared t q S A O k
   unfolding spared
-  spared-told left e = e ∙ ap (λ x. provable t q x A and admitsBy t q x A (k - 1)) left
+  spared-told left e = e ∙ ap (λ x. provable t q x A O and admitsBy t q x A O (k - 1)) left
 
-  pub decided-unborne : (k ≡ 0 → ⊥) → inSet (automataOf t S) (k - 1) ≡ false → admitsBy t q S A (k - 1) ≡ admitsBy t q S A k
+  pub decided-unborne : (k ≡ 0 → ⊥) → inSet (automataOf t S) (k - 1) ≡ false
+      → admitsBy t q S A O (k - 1) ≡ admitsBy t q S A O k
   unfolding pick
-  decided-unborne there none = rw (decided t q S A k there, none)
+  decided-unborne there none = rw (decided t q S A O k there, none)
 
   module _ (is : Borne t S k) where
-    pub decided-spared : spared t q S A k ≡ true → true ≡ admitsBy t q S A k
+    pub decided-spared : spared t q S A O k ≡ true → true ≡ admitsBy t q S A O k
     unfolding pick _or_
-    decided-spared out = rw (decided t q S A k (is .there), is .borne, out)
+    decided-spared out = rw (decided t q S A O k (is .there), is .borne, out)
 
-    -- it cannot be done without; what the code learns of imposing it, with the constraints that it holds as `more`
-    module _ (stays : spared t q S A k ≡ false) {more : ℕ} {proves : Bool} (holds : more ≡ bitOr A (2 ^ (k - 1)))
-        (told : proves ≡ provable t q S more) where
-      by-imposing : admitsBy t q S A k ≡ (provable t q S more and admitsBy t q S more (k - 1))
+    -- it cannot be done without; what the code learns of meeting it, with the automata that it holds as `every` and `owed`
+    module _ (stays : spared t q S A O k ≡ false) {every owed : ℕ} {proves : Bool} (holds : every ≡ withEvery t A (k - 1))
+        (owes : owed ≡ withOwed t O (k - 1)) (told : proves ≡ provable t q S every owed) where
+      by-imposing : admitsBy t q S A O k ≡ (provable t q S every owed and admitsBy t q S every owed (k - 1))
       unfolding pick _or_ imposed
-      by-imposing = rw (decided t q S A k (is .there), is .borne, stays, holds)
+      by-imposing = rw (decided t q S A O k (is .there), is .borne, stays, holds, owes)
 
-      pub decided-neither : not proves ≡ true → false ≡ admitsBy t q S A k
+      pub decided-neither : not proves ≡ true → false ≡ admitsBy t q S A O k
       decided-neither refused = sym (by-imposing ∙ and-is-off _ (failed told refused))
 
-      pub decided-imposed : not proves ≡ false → {on : Bool} → on ≡ admitsBy t q S more (k - 1) → on ≡ admitsBy t q S A k
+      pub decided-imposed : not proves ≡ false → {on : Bool} → on ≡ admitsBy t q S every owed (k - 1) → on ≡ admitsBy t q S A O k
       decided-imposed proved goes = sym (by-imposing ∙ and-is (passed told proved) (sym goes))

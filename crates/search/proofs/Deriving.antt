@@ -33,7 +33,7 @@ within-through t S levels g c m goals applies own tried each =
     let defines = and-second _ _ (picked _ _ goals applies .0) in
     let asked = within-asked (eqb (length goals) 0) each in
     any-reached _ (credentials t) (c - 1) (at .0)
-    (rw (at .1) (and-both (and-both own defines) (tried-proves t (within t S levels) true g c m tried (rw applies asked))))
+    (rw (at .1) (and-both (and-both own defines) (tried-proves t (everyGoal (within t S levels)) true g c m tried (rw applies asked))))
   where
     within-asked : (b : Bool) {all : Bool} → all ≡ true → pick b true all ≡ true
     within-asked b e = rw e (pick-same b refl)

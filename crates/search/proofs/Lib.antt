@@ -1,6 +1,7 @@
 -- Laws that belong to no one function; crates above cite those marked `pub mod`.
 pub mod Within
 pub mod Naming
+pub mod Pairs
 pub mod Sharing
 pub mod Owing
 pub mod Placing
@@ -8,6 +9,7 @@ pub mod Exact
 pub mod Failing
 pub mod Trying
 pub mod Testing
+pub mod Judging
 pub mod Leaving
 pub mod Below
 pub mod Starting

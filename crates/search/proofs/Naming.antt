@@ -61,12 +61,12 @@ pub record IsMiddle (t : List ℕ) (c m : ℕ) : Type 0 where
   pub linking : credential t c .kind ≡ 3 → personAt t m < credentials t
   pub other : (credential t c .kind ≡ 3 → ⊥) → m ≡ 0
 
-pub tried-proves : (t : List ℕ) (one : Goal → Bool) (word : Bool) (g : Goal) (c m : ℕ) → IsMiddle t c m
-    → provedPremises one word (premises t g c m) ≡ true → provesBy t one word g c ≡ true
+pub tried-proves : (t : List ℕ) (all : List Goal → Bool) (word : Bool) (g : Goal) (c m : ℕ) → IsMiddle t c m
+    → provedPremises all word (premises t g c m) ≡ true → provesBy t all word g c ≡ true
 unfolding provesBy pick
-tried-proves t one word g c m tried h = go (ℕ-discrete (credential t c .kind) 3)
+tried-proves t all word g c m tried h = go (ℕ-discrete (credential t c .kind) 3)
   where
-    go : Dec (credential t c .kind ≡ 3) → provesBy t one word g c ≡ true
+    go : Dec (credential t c .kind ≡ 3) → provesBy t all word g c ≡ true
     go (yes three) =
         let there = tried .linking three in
         let stands = person-stands t m there in

@@ -1,102 +1,111 @@
 -- The search by places: a goal whose principal and role stand at places of the table, what the table of members says of it, and
 -- what a credential asks, cell by cell of the index.
 use mathlib.Core.Path.{_≡_, refl, sym, ap, ap₂, _∙_}
-use mathlib.Core.List.{List}
+use mathlib.Core.List.{List, [], _∷_, map}
 use mathlib.Core.Bool.{Bool, true, false, not}
 use mathlib.Core.Option.{Option, none, some}
 use mathlib.Core.Logic.{_⊎_, ⊎-elim}
 use Prim.Native.Nat.{ℕ, zero, suc, _+_, _<_, _≤_}
+use native.Mathlib.Nat.{add-zero, zero-add}
 use native.Mathlib.Numerals.{add-one}
 use native.Mathlib.Omega.{arith}
 use native.Mathlib.Decide.{decLt}
-use lib.ListN.{getD}
+use lib.ListN.{getD, length}
+use lib.Bits.{bitOr}
 use lib.Dec.{eqb, ltb}
 use borrow.Author.Tests.{eq-eqb, eqb-true, le-ltb, lt-ltb, ltb-true, ne-eqb}
 use Rattle.sets.specs.Logic.{_and_, anyBelow, pick}
 use Rattle.sets.specs.Sets.{inSet, part}
 use Rattle.sets.proofs.Tests.{and-both, and-first, and-is, and-is-off, and-none, and-second, and-true, any-shows, failed}
 use Rattle.sets.proofs.Tests.{false-true, refuted, same-test}
+use Rattle.sets.proofs.Members.{part-zero}
 use Rattle.table.specs.Layout.{Numbered, credential, credentials, principal, role, sameRole}
 use Rattle.table.specs.Holding.{WellFormed}
 use Rattle.table.specs.declared.Role.{Role}
 use Rattle.table.specs.declared.Credential.{Credential}
 use Rattle.table.specs.declared.Goal.{Goal}
-use Rattle.automata.specs.Together.{acceptingSet}
 use Rattle.automata.specs.declared.StateSets.{StateSets}
 use Rattle.derivation.specs.Rules.{goal, premises}
 use Rattle.derivation.proofs.Ruling.{Rule, rule-applied}
 use Rattle.derivation.proofs.Ruling.Rule.{membership, containment, linking, intersection}
 use Rattle.members.specs.Places.{isPerson, personAt, roleAt}
 use Rattle.members.specs.Above.{withGoal}
-use Rattle.members.specs.Trying.{mayUse, provedPremises, provesBy}
+use Rattle.members.specs.Trying.{everyGoal, mayUse, provedPremises, provesBy}
 use Rattle.members.specs.Members.{Members, askedCell, lesser, linkCell, listed, padded, rolesAsked, rowCell, within}
 use Rattle.members.proofs.Places.{is-person, role-defined, person-stands, role-few, role-stands}
-use Rattle.members.proofs.Stepping.{any-mono, proves-by-mono}
-use Rattle.members.proofs.ByKind.{any-same, by-membership, by-middles, by-parts, byMiddle, middleRole}
+use Rattle.members.proofs.Stepping.{all-by-mono, any-mono}
+use Rattle.members.proofs.ByKind.{any-same, by-goals, by-membership, by-parts, by-roles, each-part, middleGoals, middleRole}
+use Rattle.members.proofs.ByKind.{roles-few}
 use Rattle.members.specs.declared.above.Above.{Above}
-use Rattle.search.specs.Search.{Searched, Stands, Tried, goalAt, proves, provesAt, stepped}
+use Rattle.search.specs.Asking.{Pair, pair, rolePairs}
+use Rattle.search.specs.Search.{Searched, Stands, Tried, ends, goalAt, proves, provesAt, shares, stepped}
+use Rattle.search.proofs.Owing.{proves-less}
+use Rattle.search.proofs.Sharing.{every-by, first-unshared, second-unshared, shares-each}
 
 -- what the search proves with so many levels left, below a branch, from state sets s
-module _ (t : List ℕ) (S A : ℕ) where
-  -- what the search proves, members by levels have
-  pub proves-within : (levels : ℕ) (above : Above) (s : StateSets) (g : Goal) → proves t S A levels above s g ≡ true
+module _ (t : List ℕ) (S A O : ℕ) where
+  -- what the search proves, whatever it is to meet, members by levels have
+  pub proves-within : (levels : ℕ) (above : Above) (s : StateSets) (g : Goal) (X : ℕ) → proves t S A O levels above s g X ≡ true
       → within t S levels g ≡ true
   unfolding proves within
-  proves-within zero above s g h = h
-  proves-within (suc levels) above s g h =
-      let below = stepped t A (g .role) s in
+  proves-within zero above s g X h = h
+  proves-within (suc levels) above s g X h =
+      let below = stepped t (bitOr A O) (g .role) s in
       let deeper = withGoal t above g in
+      let one = proves t S A O levels deeper below in
       any-mono _ _ (credentials t) (λ c l both.
       and-both (and-first _ _ both)
-      (proves-by-mono (proves t S A levels deeper below) (within t S levels) (proves-within levels deeper below)
-      (part A (acceptingSet t below)) true (λ e. refl) t g (suc c) (and-second _ _ both)))
+      (all-by-mono (λ goals. shares one O goals X) (everyGoal (within t S levels))
+      (λ goals. shares-each one O (within t S levels) (proves-within levels deeper below) goals X)
+      (ends t A below X) true (λ e. refl) t g (suc c) (and-second _ _ both)))
       (and-second _ _ h)
 
   -- a role that nobody defines has no member
-  undefined-unproved : (levels : ℕ) (above : Above) (s : StateSets) (g : Goal) → credentials t ≤ roleAt t (g .role)
-      → proves t S A levels above s g ≡ false
+  undefined-unproved : (levels : ℕ) (above : Above) (s : StateSets) (g : Goal) (X : ℕ) → credentials t ≤ roleAt t (g .role)
+      → proves t S A O levels above s g X ≡ false
   unfolding proves mayUse
-  undefined-unproved zero above s g beyond = refl
-  undefined-unproved (suc levels) above s g beyond =
+  undefined-unproved zero above s g X beyond = refl
+  undefined-unproved (suc levels) above s g X beyond =
       refuted _ (λ h.
       let (c, l, both) = any-shows _ (credentials t) (and-second _ _ h) in
       let there = role-defined t (g .role) c l (and-second _ _ (and-first _ _ both)) in
       omega arith)
 
   -- the principal at `person` in a role, by the role's place
-  pub proves-at : (levels : ℕ) (above : Above) (s : StateSets) (person : ℕ) (r : Role)
-      → provesAt t S A levels above s person (roleAt t r)
-      ≡ proves t S A levels above s (goal (principal (credential t (suc person) .first)) r)
+  pub proves-at : (levels : ℕ) (above : Above) (s : StateSets) (person : ℕ) (r : Role) (X : ℕ)
+      → provesAt t S A O levels above s person (roleAt t r) X
+      ≡ proves t S A O levels above s (goal (principal (credential t (suc person) .first)) r) X
   unfolding provesAt
-  proves-at levels above s person r = go (decLt (roleAt t r) (credentials t))
+  proves-at levels above s person r X = go (decLt (roleAt t r) (credentials t))
     where
       go : Dec (roleAt t r < credentials t)
-          → (ltb (roleAt t r) (credentials t) and proves t S A levels above s (goalAt t person (roleAt t r)))
-          ≡ proves t S A levels above s (goal (principal (credential t (suc person) .first)) r)
+          → (ltb (roleAt t r) (credentials t) and proves t S A O levels above s (goalAt t person (roleAt t r)) X)
+          ≡ proves t S A O levels above s (goal (principal (credential t (suc person) .first)) r) X
       go (yes there) = and-is (lt-ltb _ _ there) (rw (role-stands t r there))
       go (no beyond) =
           and-is-off _ (le-ltb (roleAt t r) (credentials t) (omega arith))
-          ∙ sym (undefined-unproved levels above s (goal (principal (credential t (suc person) .first)) r) (omega arith))
+          ∙ sym (undefined-unproved levels above s (goal (principal (credential t (suc person) .first)) r) X (omega arith))
 
   -- what the row does not have is not proved
   module _ {levels last : ℕ} {rows : List ℕ} (members : Members t S levels last rows) (above : Above) (s : StateSets) where
-    pub unnamed-unproved : (g : Goal) → credentials t ≤ personAt t (g .principal .0) → proves t S A levels above s g ≡ false
+    pub unnamed-unproved : (g : Goal) (X : ℕ) → credentials t ≤ personAt t (g .principal .0)
+        → proves t S A O levels above s g X ≡ false
     unfolding listed
-    unnamed-unproved g beyond =
+    unnamed-unproved g X beyond =
         refuted _ (λ h.
-        let there = members .every levels (omega arith) g (proves-within levels above s g h) in
+        let there = members .every levels (omega arith) g (proves-within levels above s g X h) in
         false-true (sym (le-ltb _ _ beyond) ∙ and-first _ _ there))
 
-    unlisted-at : (person place : ℕ) (r : Role) → isPerson t person ≡ true → place ≡ roleAt t r
+    unlisted-at : (person place : ℕ) (r : Role) (X : ℕ) → isPerson t person ≡ true → place ≡ roleAt t r
         → inSet (getD rows (rowCell (lesser levels last) place) 0) person ≡ false
-        → provesAt t S A levels above s person place ≡ false
+        → provesAt t S A O levels above s person place X ≡ false
     unfolding listed
-    unlisted-at person place r named at off =
+    unlisted-at person place r X named at off =
         let g = goal (principal (credential t (suc person) .first)) r in
         let missing = rw (← is-person t person named .1, at) at off in
-        ap (provesAt t S A levels above s person) at ∙ proves-at levels above s person r
+        ap (λ x. provesAt t S A O levels above s person x X) at ∙ proves-at levels above s person r X
         ∙ refuted _ (λ h.
-        let there = members .every levels (omega arith) g (proves-within levels above s g h) in
+        let there = members .every levels (omega arith) g (proves-within levels above s g X h) in
         false-true (sym missing ∙ and-second _ _ there))
 
 -- fewer levels
@@ -130,34 +139,39 @@ stands-at t person r there named =
     }
 
 -- what is said of a goal by its places
-module _ (t : List ℕ) (S A levels : ℕ) (above : Above) (s : StateSets) (person place : ℕ) where
-  pub level-none : levels ≡ 0 → false ≡ provesAt t S A levels above s person place
+module _ (t : List ℕ) (S A O levels : ℕ) (above : Above) (s : StateSets) (person place X : ℕ) where
+  pub level-none : levels ≡ 0 → false ≡ provesAt t S A O levels above s person place X
   unfolding provesAt proves
   level-none nothing = rw nothing (sym (and-none (ltb place (credentials t)) refl))
 
-  pub place-none : credentials t ≤ place → false ≡ provesAt t S A levels above s person place
+  pub place-none : credentials t ≤ place → false ≡ provesAt t S A O levels above s person place X
   unfolding provesAt
   place-none beyond = sym (and-is-off _ (le-ltb place (credentials t) beyond))
 
   pub place-unlisted : {row last : ℕ} {rows : List ℕ} {told : Bool} → Members t S levels last rows → Stands t person place
       → place < credentials t → row ≡ lesser levels last → told ≡ inSet (getD rows (rowCell row place) 0) person
-      → not told ≡ true → false ≡ provesAt t S A levels above s person place
+      → not told ≡ true → false ≡ provesAt t S A O levels above s person place X
   place-unlisted members stands there the-row e off =
-      sym (unlisted-at t S A members above s person place (credential t (suc place) .role) (stands .named)
+      sym (unlisted-at t S A O members above s person place (credential t (suc place) .role) X (stands .named)
       (sym (stands .first there)) (rw the-row at (failed e off)))
 
--- credential i + 1 proves its own goal
-abbrev pub provesOwn : List ℕ → ℕ → ℕ → ℕ → Above → StateSets → Bool → ℕ → ℕ → Bool
-provesOwn t S A levels above s word person i = provesBy t (proves t S A levels above s) word (goalAt t person i) (suc i)
+-- credential i + 1 proves its own goal, and what is to be met with it
+abbrev pub provesOwn : List ℕ → ℕ → ℕ → ℕ → ℕ → Above → StateSets → ℕ → ℕ → ℕ → Bool
+provesOwn t S A O levels above s person i X =
+    provesBy t (λ goals. shares (proves t S A O levels above s) O goals X) (ends t A s X) (goalAt t person i) (suc i)
 
--- where a test says which goals are proved, by places: the principal is not in role k of those that credential i + 1 asks; the
--- principal at j is a middle with which it proves the goal
+-- what kind 3 asks, by places, where the principal at j is the middle
+abbrev pub linkPairs : List ℕ → ℕ → ℕ → ℕ → List Pair
+linkPairs index person i j =
+    pair j (getD index (askedCell i 0) 0) ∷ pair person (getD index (linkCell i j) 0) ∷ []
+
+-- where a test says which goals are proved, by places: the principal at j is a middle with which credential i + 1 proves its goal
+abbrev pub middleTried : List ℕ → List ℕ → (Pair → ℕ → Bool) → ℕ → ℕ → ℕ → ℕ → ℕ → Bool
+middleTried t index at O person i X = λ j. isPerson t j and shares at O (linkPairs index person i j) X
+
+-- where nothing is owed: the principal is not in role k of those that credential i + 1 asks
 abbrev pub partMissed : List ℕ → (ℕ → ℕ → Bool) → ℕ → ℕ → ℕ → Bool
 partMissed index at person i = λ k. not (at person (getD index (askedCell i k) 0))
-
-abbrev pub middleTried : List ℕ → List ℕ → (ℕ → ℕ → Bool) → ℕ → ℕ → ℕ → Bool
-middleTried t index at person i = λ j.
-    isPerson t j and at j (getD index (askedCell i 0) 0) and at person (getD index (linkCell i j) 0)
 
 -- the roles that credential i + 1 asks, and what kind 3 asks of the principal where the middle stands at j
 abbrev pub partRole : List ℕ → ℕ → ℕ → Role
@@ -194,19 +208,22 @@ module _ {t index arcs rows : List ℕ} {S levels last : ℕ} (searched : Search
   own =
       and-both (eq-eqb (credential t (suc i) .role .owner .0) _ refl) (eq-eqb (credential t (suc i) .role .name .0) _ refl)
 
-  module _ (A : ℕ) (above : Above) (s : StateSets) where
-    abbrev one : Goal → Bool
-    one = proves t S A levels above s
+  module _ (A O : ℕ) (above : Above) (s : StateSets) where
+    abbrev one : Goal → ℕ → Bool
+    one = proves t S A O levels above s
 
-    abbrev found : ℕ → ℕ → Bool
-    found = provesAt t S A levels above s
+    abbrev found : Pair → ℕ → Bool
+    found = λ (p : Pair) Y. provesAt t S A O levels above s (p .person) (p .place) Y
+
+    abbrev all : ℕ → List Goal → Bool
+    all X = λ goals. shares one O goals X
 
     -- kind 1: it names the principal at `person`
-    pub cell-named : (word : Bool) → credential t (suc i) .kind ≡ 1
-        → provesOwn t S A levels above s word person i ≡ (eqb (getD index (askedCell i 0) 0) person and word)
-    cell-named word kind =
-        by-membership t (searched .wellFormed) one word (goalAt t person i) (suc i) numbered own kind
-        ∙ ap (λ b. b and word) (same-test _ _ to from)
+    pub cell-named : (X : ℕ) → credential t (suc i) .kind ≡ 1
+        → provesOwn t S A O levels above s person i X ≡ (eqb (getD index (askedCell i 0) 0) person and ends t A s X)
+    cell-named X kind =
+        by-membership t (searched .wellFormed) (all X) (ends t A s X) (goalAt t person i) (suc i) numbered own kind
+        ∙ ap (λ b. b and ends t A s X) (same-test _ _ to from)
       where
         at : getD index (askedCell i 0) 0 ≡ personAt t (credential t (suc i) .first)
         at = searched .indexed .named i (tried .there) kind
@@ -224,71 +241,132 @@ module _ {t index arcs rows : List ℕ} {S levels last : ℕ} (searched : Search
             let stands = person-stands t (credential t (suc i) .first) (rw same (tried .who)) in
             eq-eqb _ _ (sym (stands .1) ∙ ap (λ k. credential t (suc k) .first) same)
 
+    -- goals that stand at places share as these do
+    roles-share : (roles : List Role) (k : ℕ)
+        → ((n : ℕ) → n < length roles → getD index (askedCell i (k + n)) 0 ≡ roleAt t (padded roles n)) → (X : ℕ)
+        → shares one O (map (λ (r : Role). goal (principal (credential t (suc person) .first)) r) roles) X
+        ≡ shares found O (rolePairs index person i (length roles) k) X
+    unfolding shares rolePairs padded
+    roles-share [] k at X = refl
+    roles-share (r ∷ roles) k at X =
+        any-same _ _ (suc O) (λ Y l.
+        ap₂ _and_
+        (sym (ap (λ x. provesAt t S A O levels above s person x Y) (rw (add-zero k) at (at 0 (omega arith)) ∙ ap (roleAt t) (first roles))
+        ∙ proves-at t S A O levels above s person r Y))
+        (any-same _ _ (suc O) (λ Z m. ap (λ b. b and part X (bitOr Y Z))
+        (roles-share roles (suc k) (λ n few. next roles n few (at (suc n) (omega arith))) Z))))
+      where
+        first : (roles : List Role) → padded (r ∷ roles) 0 ≡ r
+        first [] = refl
+        first (q ∷ roles) = refl
+
+        next : (roles : List Role) (n : ℕ) → n < length roles → getD index (askedCell i (k + suc n)) 0 ≡ roleAt t (padded (r ∷ roles) (suc n))
+            → getD index (askedCell i (suc k + n)) 0 ≡ roleAt t (padded roles n)
+        next [] n few e = absurd (omega arith)
+        next (q ∷ roles) n few e = let same : suc k + n ≡ k + suc n = omega arith in rw same e
+
     -- kinds 2 and 4: the principal is in each role that it asks
-    pub cell-parts : (word : Bool) → (credential t (suc i) .kind ≡ 2) ⊎ (credential t (suc i) .kind ≡ 4)
-        → provesOwn t S A levels above s word person i ≡ not (anyBelow (partMissed index found person i) 4)
-    cell-parts word kind =
-        by-parts t (searched .wellFormed) one word (goalAt t person i) (suc i) numbered own kind
-        ∙ ap not (any-same _ _ 4 (λ k l. ap not
-        (sym (proves-at t S A levels above s person (partRole t i k)) ∙ ap (found person) (sym (part-cell kind k l)))))
+    pub cell-roles : (X : ℕ) → (credential t (suc i) .kind ≡ 2) ⊎ (credential t (suc i) .kind ≡ 4)
+        → provesOwn t S A O levels above s person i X
+        ≡ shares found O (rolePairs index person i (length (rolesAsked t (credential t (suc i)))) 0) X
+    cell-roles X kind =
+        let few = roles-few t (searched .wellFormed) (suc i) numbered kind .1 in
+        by-roles t (searched .wellFormed) (all X) (ends t A s X) (goalAt t person i) (suc i) numbered own kind
+        ∙ roles-share (rolesAsked t (credential t (suc i))) 0
+        (λ n l. rw (zero-add n) (part-cell kind n (omega arith))) X
 
     -- kind 3: with a middle that stands at j, and with some middle
-    pub cell-middle : credential t (suc i) .kind ≡ 3 → (j : ℕ) → j < credentials t
-        → (isPerson t j and byMiddle t one (goalAt t person i) (suc i) j) ≡ middleTried t index found person i j
-    cell-middle kind j l = go (isPerson t j) refl
+    pub cell-middle : (X : ℕ) → credential t (suc i) .kind ≡ 3 → (j : ℕ) → j < credentials t
+        → (isPerson t j and all X (middleGoals t (goalAt t person i) (suc i) j)) ≡ middleTried t index found O person i X j
+    unfolding shares
+    cell-middle X kind j l = go (isPerson t j) refl
       where
         go : (b : Bool) → isPerson t j ≡ b
-            → (isPerson t j and byMiddle t one (goalAt t person i) (suc i) j) ≡ middleTried t index found person i j
+            → (isPerson t j and all X (middleGoals t (goalAt t person i) (suc i) j)) ≡ middleTried t index found O person i X j
         go true e =
             let first = ap (roleAt t) (sym (linking-role t (suc i) kind)) ∙ sym (first-cell kind) in
             ap (λ b. isPerson t j and b)
-            (ap₂ _and_
-            (sym (proves-at t S A levels above s j (middleRole t (suc i))) ∙ ap (found j) first)
-            (sym (proves-at t S A levels above s person (linkedRole t i j)) ∙ ap (found person) (sym (second-cell kind j l e))))
+            (any-same _ _ (suc O) (λ Y m. ap₂ _and_
+            (sym (proves-at t S A O levels above s j (middleRole t (suc i)) Y)
+            ∙ ap (λ x. provesAt t S A O levels above s j x Y) first)
+            (any-same _ _ (suc O) (λ Z m′. ap (λ b. b and part X (bitOr Y Z))
+            (any-same _ _ (suc O) (λ W m″. ap (λ b. b and anyBelow (λ U. eqb U 0 and part Z (bitOr W U)) (suc O))
+            (sym (proves-at t S A O levels above s person (linkedRole t i j) W)
+            ∙ ap (λ x. provesAt t S A O levels above s person x W) (sym (second-cell kind j l e)))))))))
         go false e = and-is-off _ e ∙ sym (and-is-off _ e)
 
-    pub cell-middles : (word : Bool) → credential t (suc i) .kind ≡ 3
-        → provesOwn t S A levels above s word person i ≡ anyBelow (middleTried t index found person i) (credentials t)
-    cell-middles word kind =
-        by-middles t (searched .wellFormed) one word (goalAt t person i) (suc i) numbered own kind
-        ∙ any-same _ _ (credentials t) (cell-middle kind)
+    pub cell-middles : (X : ℕ) → credential t (suc i) .kind ≡ 3
+        → provesOwn t S A O levels above s person i X ≡ anyBelow (middleTried t index found O person i X) (credentials t)
+    cell-middles X kind =
+        by-goals t (searched .wellFormed) (all X) (ends t A s X) (goalAt t person i) (suc i) numbered own kind
+        ∙ any-same _ _ (credentials t) (cell-middle X kind)
 
     -- a part whose mask has not the principal is not proved
-    pub part-unlisted : (credential t (suc i) .kind ≡ 2) ⊎ (credential t (suc i) .kind ≡ 4) → (k : ℕ) → k < 4
+    pub part-unlisted : (X : ℕ) → (credential t (suc i) .kind ≡ 2) ⊎ (credential t (suc i) .kind ≡ 4) → (k : ℕ) → k < 4
         → inSet (getD rows (rowCell (lesser levels last) (getD index (askedCell i k) 0)) 0) person ≡ false
-        → provesAt t S A levels above s person (getD index (askedCell i k) 0) ≡ false
-    part-unlisted kind k l =
-        unlisted-at t S A (searched .members) above s person _ (partRole t i k) (tried .named) (part-cell kind k l)
+        → provesAt t S A O levels above s person (getD index (askedCell i k) 0) X ≡ false
+    part-unlisted X kind k l =
+        unlisted-at t S A O (searched .members) above s person _ (partRole t i k) X (tried .named) (part-cell kind k l)
 
     -- a middle is tried where the masks have both
-    pub middle-unlisted : credential t (suc i) .kind ≡ 3 → (j : ℕ) → j < credentials t
+    pub middle-unlisted : (X : ℕ) → credential t (suc i) .kind ≡ 3 → (j : ℕ) → j < credentials t
         → (inSet (getD rows (rowCell (lesser levels last) (getD index (askedCell i 0) 0)) 0) j
         and inSet (getD rows (rowCell (lesser levels last) (getD index (linkCell i j) 0)) 0) person and isPerson t j) ≡ false
-        → middleTried t index found person i j ≡ false
-    middle-unlisted kind j l off = go (isPerson t j) refl (inSet (mask (getD index (askedCell i 0) 0)) j) refl
+        → middleTried t index found O person i X j ≡ false
+    middle-unlisted X kind j l off = go (isPerson t j) refl (inSet (mask (getD index (askedCell i 0) 0)) j) refl
       where
         mask : ℕ → ℕ
         mask place = getD rows (rowCell (lesser levels last) place) 0
 
         go : (b : Bool) → isPerson t j ≡ b → (a : Bool) → inSet (mask (getD index (askedCell i 0) 0)) j ≡ a
-            → middleTried t index found person i j ≡ false
+            → middleTried t index found O person i X j ≡ false
         go false e a f = and-is-off _ e
         go true e false f =
-            and-none (isPerson t j) (and-is-off _
-            (unlisted-at t S A (searched .members) above s j _ (partRole t i 0) e (first-cell kind) f))
+            and-none (isPerson t j) (first-unshared found O _ _ X
+            (λ Y. unlisted-at t S A O (searched .members) above s j _ (partRole t i 0) Y e (first-cell kind) f))
         go true e true f =
             let second = inSet (mask (getD index (linkCell i j) 0)) person in
             let missing = sym (and-is f (ap (λ b. second and b) e ∙ and-true second)) ∙ off in
-            and-none (isPerson t j) (and-none (found j (getD index (askedCell i 0) 0))
-            (unlisted-at t S A (searched .members) above s person _ (linkedRole t i j) (tried .named) (second-cell kind j l e)
-            missing))
+            and-none (isPerson t j) (second-unshared found O _ _ X
+            (λ Y. unlisted-at t S A O (searched .members) above s person _ (linkedRole t i j) Y (tried .named)
+            (second-cell kind j l e) missing))
+
+    -- whatever is to be met, each role is proved
+    pub own-part : (X : ℕ) → (credential t (suc i) .kind ≡ 2) ⊎ (credential t (suc i) .kind ≡ 4)
+        → provesOwn t S A O levels above s person i X ≡ true → (k : ℕ) → k < 4
+        → provesAt t S A O levels above s person (getD index (askedCell i k) 0) 0 ≡ true
+    own-part X kind h k l =
+        let each = all-by-mono (all X) (everyGoal (λ g. one g 0))
+        (λ goals. shares-each one O (λ g. one g 0) (λ g Y. proves-less t S A O levels above s g Y 0 (part-zero Y)) goals X)
+        (ends t A s X) true (λ e. refl) t (goalAt t person i) (suc i) h in
+        ap (λ x. provesAt t S A O levels above s person x 0) (part-cell kind k l)
+        ∙ proves-at t S A O levels above s person (partRole t i k) 0
+        ∙ each-part t (searched .wellFormed) (λ g. one g 0) true (goalAt t person i) (suc i) numbered own each kind k l
+
+  -- where nothing is owed, kinds 2 and 4 by each role alone
+  module _ (A O : ℕ) (zero : O ≡ 0) (above : Above) (s : StateSets) where
+    abbrev alone : ℕ → ℕ → Bool
+    alone p r = provesAt t S A O levels above s p r 0
+
+    all-same : provesOwn t S A O levels above s person i 0
+        ≡ provesBy t (everyGoal (λ g. proves t S A O levels above s g 0)) (ends t A s 0) (goalAt t person i) (suc i)
+    all-same = rw zero (every-by (proves t S A 0 levels above s) (ends t A s 0) t (goalAt t person i) (suc i))
+
+    pub cell-parts : (credential t (suc i) .kind ≡ 2) ⊎ (credential t (suc i) .kind ≡ 4)
+        → provesOwn t S A O levels above s person i 0 ≡ not (anyBelow (partMissed index alone person i) 4)
+    cell-parts kind =
+        all-same
+        ∙ by-parts t (searched .wellFormed) (λ g. proves t S A O levels above s g 0) (ends t A s 0) (goalAt t person i) (suc i)
+        numbered own kind
+        ∙ ap not (any-same _ _ 4 (λ k l. ap not
+        (sym (proves-at t S A O levels above s person (partRole t i k) 0) ∙ ap (alone person) (sym (part-cell kind k l)))))
 
 -- a credential of no known kind proves nothing
-pub proved-some : (one : Goal → Bool) (word : Bool) (asked : Option (List Goal)) → provedPremises one word asked ≡ true
+pub proved-some : (all : List Goal → Bool) (word : Bool) (asked : Option (List Goal)) → provedPremises all word asked ≡ true
     → (goals : List Goal) × (asked ≡ some goals)
 unfolding provedPremises
-proved-some one word none h = absurd (false-true h)
-proved-some one word (some goals) h = (goals, refl)
+proved-some all word none h = absurd (false-true h)
+proved-some all word (some goals) h = (goals, refl)
 
 -- credential i + 1 has been read as x
 module _ (t : List ℕ) (i : ℕ) (x : Credential) (read : x ≡ credential t (i + 1)) where
@@ -298,13 +376,13 @@ module _ (t : List ℕ) (i : ℕ) (x : Credential) (read : x ≡ credential t (i
   pub kind-read : (k : ℕ) → x .kind ≡ k → credential t (suc i) .kind ≡ k
   kind-read k e = sym same-kind ∙ e
 
-  pub kind-other : (one : Goal → Bool) (word : Bool) (g : Goal) → (x .kind ≡ 1 → ⊥) → (x .kind ≡ 2 → ⊥) → (x .kind ≡ 3 → ⊥)
-      → (x .kind ≡ 4 → ⊥) → false ≡ provesBy t one word g (suc i)
+  pub kind-other : (all : List Goal → Bool) (word : Bool) (g : Goal) → (x .kind ≡ 1 → ⊥) → (x .kind ≡ 2 → ⊥) → (x .kind ≡ 3 → ⊥)
+      → (x .kind ≡ 4 → ⊥) → false ≡ provesBy t all word g (suc i)
   unfolding provesBy pick
-  kind-other one word g n1 n2 n3 n4 =
+  kind-other all word g n1 n2 n3 n4 =
       rw (ne-eqb (credential t (suc i) .kind) 3 (λ three. n3 (same-kind ∙ three)))
       (sym (refuted _ (λ h.
-      let (goals, applies) = proved-some one word (premises t g (suc i) 0) h in
+      let (goals, applies) = proved-some all word (premises t g (suc i) 0) h in
       by-rule goals (rule-applied t g (suc i) 0 goals applies))))
     where
       by-rule : (goals : List Goal) → Rule t g (credential t (suc i)) 0 goals → ⊥

@@ -87,13 +87,13 @@ some-imposed A k h empty = false-true (sym (inSet-zero k) ∙ rw empty at h)
 
 -- where something is imposed or owed, and no more is owed than O, automata are asked for
 pub demanded-asked : (A O X k : ℕ) → X ≤ O → inSet (bitOr A X) k ≡ true → bitOr A O ≡ 0 → ⊥
-demanded-asked A O X k few demanded none =
+demanded-asked A O X k few demanded empty =
     or-either
-    (λ imposed. some-imposed (bitOr A O) k (inSet-or A O k ∙ or-first _ imposed) none)
+    (λ imposed. some-imposed (bitOr A O) k (inSet-or A O k ∙ or-first _ imposed) empty)
     (λ owed.
-    let nothing = part-le O 0 (rw none at (part-or-right A O)) in
-    let empty : X ≡ 0 = omega arith in
-    some-imposed X k owed empty)
+    let nothing = part-le O 0 (rw empty at (part-or-right A O)) in
+    let unowed : X ≡ 0 = omega arith in
+    some-imposed X k owed unowed)
     (sym (inSet-or A X k) ∙ demanded)
 
 -- a word ends, where the automata of A are imposed and those of X owed, no more than O
@@ -113,9 +113,9 @@ module _ (t : List ℕ) (wf : WellFormed t) (A O X : ℕ) (few : X ≤ O) (s : S
 
   one-word-demanded : AllAccept t A (word ∷ []) → SomeAccept t X (word ∷ []) → ends t A s X ≡ true
   unfolding ends acceptsAll acceptsSome
-  one-word-demanded all some =
+  one-word-demanded all met =
       part-shown (bitOr A X) _ (λ k h. led-accepts k h ∙
-      or-either (λ imposed. sym (and-true _) ∙ all k imposed) (λ owed. sym (or-false _) ∙ some k owed)
+      or-either (λ imposed. sym (and-true _) ∙ all k imposed) (λ owed. sym (or-false _) ∙ met k owed)
       (sym (inSet-or A X k) ∙ h))
 
 module _ (t : List ℕ) (A : ℕ) (ws more : List (List Role)) where
@@ -162,11 +162,11 @@ module _ (t : List ℕ) (X : ℕ) (ws : List (List Role)) where
 -- what is owed of all words is shared out between two parts of them
 pub met-shared : (t : List ℕ) (X : ℕ) (ws more : List (List Role)) → SomeAccept t X (ws ++ more)
     → part X (bitOr (metBy t X ws) (metBy t X more)) ≡ true
-met-shared t X ws more some =
+met-shared t X ws more met =
     part-shown X _ (λ k h.
     inSet-or (metBy t X ws) (metBy t X more) k
     ∙ or-either (λ first. or-first _ (met-has t X ws k h first)) (λ second. or-second _ (met-has t X more k h second))
-    (sym (accepts-some-append t (suc k) ws more) ∙ some k h))
+    (sym (accepts-some-append t (suc k) ws more) ∙ met k h))
 
 -- the words of a node: its own where it asks nothing, and otherwise those of its children
 unfoldable pub nodeWords : List ℕ → List Goal → List Role → Forest → List (List Role)
@@ -199,10 +199,10 @@ pub words-alone : (t : List ℕ) → WellFormed t → (Y : ℕ) (g : Goal) (c m 
     → SomeAccept t Y (words t w (node c m children siblings))
     → SomeAccept t Y (nodeWords t goals (w ++ (g .role ∷ [])) children)
 unfolding words acceptsSome
-words-alone t wf Y g c m goals applies w children siblings done some k h =
+words-alone t wf Y g c m goals applies w children siblings done met k h =
     sym (or-false _)
     ∙ sym (accepts-some-append t (suc k) (nodeWords t goals (w ++ (g .role ∷ [])) children) [])
-    ∙ rw (node-words t wf g c m goals applies w children siblings) at (some k h)
+    ∙ rw (node-words t wf g c m goals applies w children siblings) at (met k h)
 
 -- a goal that is derived through a credential has a place: the credential defines its role, and some simple membership names its
 -- principal
@@ -244,14 +244,14 @@ module _ (t : List ℕ) (wf : WellFormed t) (S A O : ℕ) where
       → (f : Forest) → Derives t levels (g ∷ branch) goals f → UsesOnly f S
       → AllAccept t A (nodeWords t goals (w ++ (g .role ∷ [])) f) → SomeAccept t Y (nodeWords t goals (w ++ (g .role ∷ [])) f)
       → Shown t S A Z (suc levels) branch w rest → Shown t S A X (suc levels) branch w (g ∷ rest)
-  shown-node X Y Z levels both branch w g c m goals rest applies new own f d only all some after =
+  shown-node X Y Z levels both branch w g c m goals rest applies new own f d only all met after =
       record {
         forest = node c m f (after .forest);
         derives = step applies new d (after .derives);
         usesOnly = only-node S c m f (after .forest) own only (after .usesOnly);
         accepted = rw (node-words t wf g c m goals applies w f (after .forest)) (accept-both t A _ _ all (after .accepted));
         owed =
-            rw (node-words t wf g c m goals applies w f (after .forest)) (some-both t _ _ X Y Z both some (after .owed));
+            rw (node-words t wf g c m goals applies w f (after .forest)) (some-both t _ _ X Y Z both met (after .owed));
       }
 
   -- what is shown of one goal, beside what follows
@@ -259,10 +259,10 @@ module _ (t : List ℕ) (wf : WellFormed t) (S A O : ℕ) where
       → (w : List Role) → Derives t levels branch (g ∷ []) f → UsesOnly f S → AllAccept t A (words t w f)
       → SomeAccept t Y (words t w f) → Shown t S A Z levels branch w rest → Shown t S A X levels branch w (g ∷ rest)
   shown-beside {g = g} X Y Z both w
-      (step {c = c} {m = m} {goals = goals} {children = ch} {siblings = si} applies new d later) only all some after =
+      (step {c = c} {m = m} {goals = goals} {children = ch} {siblings = si} applies new d later) only all met after =
       shown-node X Y Z _ both _ w g c m goals _ applies new (only-here S c m ch si only)
       ch d (only-below S c m ch si only) (words-split t wf A g c m goals applies w ch si all .0)
-      (words-alone t wf Y g c m goals applies w ch si later some) after
+      (words-alone t wf Y g c m goals applies w ch si later met) after
 
   -- goal by goal, each with its share
   shares-shown : (levels : ℕ) (branch : List Goal) (w : List Role) (one : Goal → ℕ → Bool)
@@ -357,10 +357,10 @@ module _ (t : List ℕ) (wf : WellFormed t) (S A O : ℕ) where
       → (AllAccept t A (words t word f) → SomeAccept t X (words t word f) → all goals ≡ true)
       → pick (eqb (length goals) 0) (ends t A s X) (all goals) ≡ true
   unfolding nodeWords pick
-  node-accepted [] all s word f X few led accepted some below = one-word-demanded t wf A O X few s word led accepted some
-  node-accepted (h ∷ goals) all s word f X few led accepted some below =
+  node-accepted [] all s word f X few led accepted met below = one-word-demanded t wf A O X few s word led accepted met
+  node-accepted (h ∷ goals) all s word f X few led accepted met below =
       let nonzero = ne-eqb (suc (length goals)) 0 (λ e. omega arith) in
-      rw nonzero (below (rw nonzero at accepted) (rw nonzero at some))
+      rw nonzero (below (rw nonzero at accepted) (rw nonzero at met))
 
   -- what a forest derives is found, below any branch, set of places, word and state sets that belong together
   abbrev Found : ℕ → List Goal → List Goal → Forest → Type 0
@@ -377,7 +377,7 @@ module _ (t : List ℕ) (wf : WellFormed t) (S A O : ℕ) where
       → (X : ℕ) → X ≤ O → SomeAccept t X (nodeWords t goals (w ++ (g .role ∷ [])) f)
       → Found levels (g ∷ branch) goals f
       → proves t S A O (suc levels) above s g X ≡ true
-  node-proves {levels} {branch} {goals} {f} above on w s g c m applies new own d led all X few some each =
+  node-proves {levels} {branch} {goals} {f} above on w s g c m applies new own d led all X few met each =
       let word = w ++ (g .role ∷ []) in
       let below = stepped t (bitOr A O) (g .role) s in
       let after = led-on t (bitOr A O) s w (g .role) led in
@@ -385,31 +385,31 @@ module _ (t : List ℕ) (wf : WellFormed t) (S A O : ℕ) where
       let on′ = on-next t (wf .sized .counted .fewCredentials) branch above g on in
       proves-through levels above s g X c m goals applies (sym (on .same g (has-place wf g c m goals applies d)) ∙ new) own
       (middle-tried wf g c m goals applies d)
-      (node-accepted goals (λ gs. shares (proves t S A O levels deeper below) O gs X) below word f X few after all some
-      (λ all′ some′. each deeper on′ word below after all′ X few some′))
+      (node-accepted goals (λ gs. shares (proves t S A O levels deeper below) O gs X) below word f X few after all met
+      (λ all′ met′. each deeper on′ word below after all′ X few met′))
 
   -- what is derived is found
   pub derived-proves : {levels : ℕ} {branch goals : List Goal} {f : Forest} → Derives t levels branch goals f → UsesOnly f S
       → Found levels branch goals f
   unfolding shares words acceptsSome
-  derived-proves done only above on w s led all X few some = eq-eqb X 0 (nothing-met X some)
+  derived-proves done only above on w s led all X few met = eq-eqb X 0 (nothing-met X met)
     where
       nothing-met : (X : ℕ) → ((k : ℕ) → inSet X k ≡ true → false ≡ true) → X ≡ 0
-      nothing-met X none = same-members X 0 (λ k. refuted (inSet X k) (λ h. false-true (none k h)) ∙ sym (inSet-zero k))
-  derived-proves (step {c = c} {m = m} {goals = goals} {g = g} {children = ch} {siblings = si} applies new d later)
-      only above on w s led all X few some =
+      nothing-met X never = same-members X 0 (λ k. refuted (inSet X k) (λ h. false-true (never k h)) ∙ sym (inSet-zero k))
+  derived-proves (step {c = c} {m = m} {goals = goals} {rest = rest} {g = g} {children = ch} {siblings = si} applies new d later)
+      only above on w s led all X few met =
       let own = nodeWords t goals (w ++ (g .role ∷ [])) ch in
       let each = words-split t wf A g c m goals applies w ch si all in
       let Y = metBy t X own in
       let Z = metBy t X (words t w si) in
       let less = part-le Y X (met-few t X own) in
       let less′ = part-le Z X (met-few t X (words t w si)) in
-      shares-reached (proves t S A O _ above s) O g _ X Y Z (omega arith) (omega arith)
+      shares-reached (proves t S A O _ above s) O g rest X Y Z (omega arith) (omega arith)
       (node-proves above on w s g c m applies new (only-here S c m ch si only) d led (each .0) Y (omega arith)
       (met-accepts t X own) (derived-proves d (only-below S c m ch si only)))
       (derived-proves later (only-later S c m ch si only) above on w s led (each .1) Z (omega arith)
       (met-accepts t X (words t w si)))
-      (met-shared t X own (words t w si) (rw (node-words t wf g c m goals applies w ch si) at some))
+      (met-shared t X own (words t w si) (rw (node-words t wf g c m goals applies w ch si) at met))
 
 module _ (t : List ℕ) (wf : WellFormed t) (q : Query) where
   pub provable-exact : (S A O : ℕ) → (provable t q S A O ≡ true) ↔ Provable t q S A O
@@ -441,8 +441,8 @@ module _ (t : List ℕ) (wf : WellFormed t) (q : Query) where
   pub provable-by : (S A O : ℕ) {f : Forest} → Derives t (q .depth) [] (goalOf q ∷ []) f → UsesOnly f S
       → AllAccept t A (words t [] f) → SomeAccept t O (words t [] f)
       → provable t q S A O ≡ true
-  provable-by S A O {f} d only all some =
-      provable-exact S A O .1 (record { forest = f; derives = d; usesOnly = only; accepted = all; owed = some })
+  provable-by S A O {f} d only all met =
+      provable-exact S A O .1 (record { forest = f; derives = d; usesOnly = only; accepted = all; owed = met })
 
   -- more credentials prove no less, and fewer automata forbid no more
   pub provable-mono : (S S′ A A′ O O′ : ℕ) → part S S′ ≡ true → part A′ A ≡ true → part O′ O ≡ true → provable t q S A O ≡ true

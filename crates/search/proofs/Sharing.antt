@@ -2,18 +2,20 @@
 use mathlib.Core.Path.{_≡_, refl, sym, ap, ap₂, _∙_}
 use mathlib.Core.List.{List, [], _∷_}
 use mathlib.Core.Bool.{Bool, true, false}
-use Prim.Native.Nat.{ℕ, suc, _≤_}
+use Prim.Native.Nat.{ℕ, zero, suc, _<_, _≤_}
 use native.Mathlib.Omega.{arith}
+use lib.ListN.{getD, length}
 use lib.Bits.{bitOr}
 use lib.Dec.{eqb}
 use borrow.Author.Tests.{eq-eqb, eqb-true}
 use Rattle.sets.specs.Logic.{_and_, _or_, anyBelow}
 use Rattle.sets.specs.Sets.{inSet, part}
 use Rattle.sets.proofs.Tests.{and-both, and-first, and-second, and-true, any-mono, any-reached}
-use Rattle.sets.proofs.Tests.{any-same, any-shows, false-true, or-either, or-first, or-second, refuted}
+use Rattle.sets.proofs.Tests.{any-same, any-shows, false-true, or-either, or-first, or-second, refuted, same-test}
 use Rattle.sets.proofs.Members.{inSet-or, inSet-zero, part-antisym, part-member, part-or, part-refl, part-trans, part-zero}
 use Rattle.table.specs.declared.Goal.{Goal}
-use Rattle.members.specs.Trying.{everyGoal}
+use Rattle.members.specs.Trying.{everyGoal, provesBy}
+use Rattle.members.proofs.Stepping.{all-by-mono}
 use Rattle.search.specs.Search.{shares}
 
 -- a part of nothing is nothing
@@ -69,10 +71,10 @@ module _ {G : Type 0} (one : G → ℕ → Bool) (O : ℕ) where
   shares-alone less g X h =
       let by = shares-shows g [] X h in
       let none : by .others ≡ 0 = eqb-true (by .others) 0 (by .proves-others) in
-      less (by .first) X g (alone (by .others) none (by .together)) (by .proves-first)
+      less (by .first) X g (alone (by .first) (by .others) none (by .together)) (by .proves-first)
     where
-      alone : {Y : ℕ} (Z : ℕ) → Z ≡ 0 → part X (bitOr Y Z) ≡ true → part X Y ≡ true
-      alone {Y} Z none all = part-trans X (bitOr Y Z) Y all (part-or Y Z Y (part-refl Y) (rw none (part-zero Y)))
+      alone : (Y Z : ℕ) → Z ≡ 0 → part X (bitOr Y Z) ≡ true → part X Y ≡ true
+      alone Y Z none all = part-trans X (bitOr Y Z) Y all (part-or Y Z Y (part-refl Y) (rw none (part-zero Y)))
 
 -- where one test passes whenever another does
 module _ {G : Type 0} (one one′ : G → ℕ → Bool) (O : ℕ) where
@@ -135,3 +137,39 @@ module _ {G : Type 0} (one : G → ℕ → Bool) (O A k : ℕ)
       (λ imposed. false-true (sym (none g (by .first) (inSet-or A (by .first) k ∙ or-first _ imposed)) ∙ by .proves-first))
       (λ owed. owed-unshared (g ∷ goals) X owed h)
       (sym (inSet-or A X k) ∙ demanded))
+
+-- a goal that is not proved, whatever it meets, leaves nothing proved
+pub first-unshared : {G : Type 0} (one : G → ℕ → Bool) (O : ℕ) (g : G) (goals : List G) (X : ℕ) → ((Y : ℕ) → one g Y ≡ false)
+    → shares one O (g ∷ goals) X ≡ false
+first-unshared one O g goals X none =
+    refuted _ (λ h.
+    let by = shares-shows one O g goals X h in
+    false-true (sym (none (by .first)) ∙ by .proves-first))
+
+pub second-unshared : {G : Type 0} (one : G → ℕ → Bool) (O : ℕ) (g h : G) (X : ℕ) → ((Y : ℕ) → one h Y ≡ false)
+    → shares one O (g ∷ h ∷ []) X ≡ false
+second-unshared one O g h X none =
+    refuted _ (λ is.
+    let by = shares-shows one O g (h ∷ []) X is in
+    false-true (sym (first-unshared one O h [] (by .others) none) ∙ by .proves-others))
+
+-- what a credential proves, where nothing is owed
+pub every-by : (one : Goal → ℕ → Bool) (word : Bool) (t : List ℕ) (g : Goal) (c : ℕ)
+    → provesBy t (λ goals. shares one 0 goals 0) word g c ≡ provesBy t (everyGoal (λ h. one h 0)) word g c
+every-by one word t g c =
+    same-test _ _
+    (all-by-mono _ _ (λ goals h. sym (shares-every one goals) ∙ h) word word (λ e. e) t g c)
+    (all-by-mono _ _ (λ goals h. shares-every one goals ∙ h) word word (λ e. e) t g c)
+
+-- each goal of the list is proved, even where it has nothing to meet
+pub shares-member : {G : Type 0} (one : G → ℕ → Bool) (O : ℕ) (other : G)
+    → ((g : G) (Y : ℕ) → one g Y ≡ true → one g 0 ≡ true) → (goals : List G) (X : ℕ) → shares one O goals X ≡ true
+    → (k : ℕ) → k < length goals → one (getD goals k other) 0 ≡ true
+shares-member one O other less [] X h k l = absurd (omega arith)
+shares-member one O other less (g ∷ goals) X h k l = go k l (shares-shows one O g goals X h) (shares-member one O other less goals)
+  where
+    go : (k : ℕ) → k < length (g ∷ goals) → Shared one O g goals X
+        → ((X : ℕ) → shares one O goals X ≡ true → (k : ℕ) → k < length goals → one (getD goals k other) 0 ≡ true)
+        → one (getD (g ∷ goals) k other) 0 ≡ true
+    go zero l by rest = less g (by .first) (by .proves-first)
+    go (suc k) l by rest = rest (by .others) (by .proves-others) k (omega arith)

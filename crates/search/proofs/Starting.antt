@@ -5,8 +5,13 @@ use mathlib.Core.Bool.{Bool, true, false, not}
 use Prim.Native.Nat.{ℕ, _<_, _≤_}
 use native.Mathlib.Omega.{arith}
 use lib.ListN.{getD}
+use lib.Bits.{bitOr}
 use borrow.Author.Tests.{lt-ltb}
-use Rattle.sets.proofs.Tests.{and-both, and-second, failed, passed}
+use Rattle.sets.proofs.Tests.{and-both, and-second, failed, passed, same-test}
+use Rattle.sets.proofs.Members.{part-or-left, part-or-right, part-refl}
+use Rattle.families.specs.Families.{allSets, inFamily}
+use Rattle.families.specs.declared.Family.{Family}
+use Rattle.families.proofs.Covering.{inside-most}
 use Rattle.table.specs.Layout.{credentials, principal}
 use Rattle.table.specs.Holding.{WellFormed}
 use Rattle.table.specs.Checks.{Valid}
@@ -21,7 +26,8 @@ use Rattle.members.specs.Above.{nothingAbove}
 use Rattle.members.specs.Members.{Aimed, Indexed, Members, goalPerson, goalRole, listed}
 use Rattle.members.proofs.Places.{person-is, person-stands}
 use Rattle.search.specs.Search.{Prepared, Searched, Stands, proves, provable, provesAt}
-use Rattle.search.specs.Failing.{mayBeProved}
+use Rattle.search.specs.Failing.{Told, goalTest, mayBeProved}
+use Rattle.search.proofs.Sharing.{part-none}
 use Rattle.search.proofs.Below.{goal-unlisted}
 use Rattle.search.proofs.Exact.{members-exact}
 use Rattle.search.proofs.Placing.{proves-at, stands-at, unnamed-unproved}
@@ -50,11 +56,11 @@ module _ {t : List ℕ} {q : Query} {index arcs : List ℕ} (prepared : Prepared
   at-person = who ∙ prepared .aimed .goalsPerson
 
   -- nobody names the principal
-  pub goal-unnamed : (S A depth : ℕ) {last : ℕ} {rows : List ℕ} → depth ≡ q .depth → Members t S depth last rows
-      → credentials t ≤ person → false ≡ provable t q S A
+  pub goal-unnamed : (S A O depth : ℕ) {last : ℕ} {rows : List ℕ} → depth ≡ q .depth → Members t S depth last rows
+      → credentials t ≤ person → false ≡ provable t q S A O
   unfolding provable
-  goal-unnamed S A depth levels members beyond =
-      sym (unnamed-unproved t S A (rw levels at members) nothingAbove (startingSets t) (goalOf q) (rw (← at-person) beyond))
+  goal-unnamed S A O depth levels members beyond =
+      sym (unnamed-unproved t S A O (rw levels at members) nothingAbove (startingSets t) (goalOf q) O (rw (← at-person) beyond))
 
   module _ (there : person < credentials t) {place : ℕ} (role-at : place ≡ getD index goalRole 0) where
     at-place : place ≡ roleAt t (goalOf q .role)
@@ -68,29 +74,43 @@ module _ {t : List ℕ} {q : Query} {index arcs : List ℕ} (prepared : Prepared
         rw (at-person, at-place)
         (stands-at t (personAt t (q .principal .0)) (goalOf q .role) inside (person-is t (q .principal .0) inside))
 
-    pub goal-found : (S A depth : ℕ) (s : StateSets) {found : Bool} → depth ≡ q .depth → s ≡ startingSets t
-        → found ≡ provesAt t S A depth nothingAbove s person place → found ≡ provable t q S A
-    unfolding provable
-    goal-found S A depth s levels starts e =
+    pub goal-found : (S A O X depth : ℕ) (s : StateSets) → depth ≡ q .depth → s ≡ startingSets t
+        → provesAt t S A O depth nothingAbove s person place X
+        ≡ proves t S A O (q .depth) nothingAbove (startingSets t) (goalOf q) X
+    goal-found S A O X depth s levels starts =
         let named = ap principal (person-stands t (q .principal .0) inside .1) in
-        rw (at-person, at-place, levels, starts) at e
-        ∙ proves-at t S A (q .depth) nothingAbove (startingSets t) (personAt t (q .principal .0)) (goalOf q .role)
-        ∙ ap (λ p. proves t S A (q .depth) nothingAbove (startingSets t) (goal p (goalOf q .role))) named
+        rw (at-person, at-place, levels, starts)
+        (proves-at t S A O (q .depth) nothingAbove (startingSets t) (personAt t (q .principal .0)) (goalOf q .role) X
+        ∙ ap (λ p. proves t S A O (q .depth) nothingAbove (startingSets t) (goal p (goalOf q .role)) X) named)
 
-    -- the row of the depth tells who is none, and where no automaton is imposed, who is one
-    module _ (S A depth : ℕ) {last : ℕ} {rows : List ℕ} (levels : depth ≡ q .depth) (members : Members t S (q .depth) last rows)
+    -- what is found of the goal
+    pub goal-told : (S A O depth : ℕ) (s : StateSets) → O < allSets → depth ≡ q .depth → s ≡ startingSets t
+        → {found : Family} → Told O (goalTest t S A O depth s person place) nothingAbove found
+        → {has : Bool} → has ≡ inFamily found O → has ≡ provable t q S A O
+    unfolding provable
+    goal-told S A O depth s few levels starts {found} told {has} e =
+        e ∙ same-test (inFamily found O) _
+        (λ is. sym (goal-found S A O O depth s levels starts) ∙ told .finds .passes O few is)
+        (λ h. inside-most found O (told .finds .inside)
+        (told .all O (part-refl O) (goal-found S A O O depth s levels starts ∙ h)))
+
+    -- the row of the depth tells who is none, and where no automaton is asked for, who is one
+    module _ (S A O depth : ℕ) {last : ℕ} {rows : List ℕ} (levels : depth ≡ q .depth) (members : Members t S (q .depth) last rows)
         {told : Bool} (e : told ≡ mayBeProved t rows last person place depth) where
       pub goal-missing : {index′ arcs′ : List ℕ} → Searched t index′ arcs′ rows S depth last → not told ≡ true
-          → false ≡ provable t q S A
+          → false ≡ provable t q S A O
+      unfolding provable
       goal-missing searched off =
-          goal-found S A depth (startingSets t) levels refl
-          (sym (goal-unlisted t S A depth (startingSets t) person place goal-stands searched (failed e off) nothingAbove))
+          sym (goal-unlisted t S A O depth (startingSets t) person place goal-stands searched (failed e off) O nothingAbove)
+          ∙ goal-found S A O O depth (startingSets t) levels refl
 
-      pub goal-listed : A ≡ 0 → not told ≡ false → true ≡ provable t q S A
+      pub goal-listed : bitOr A O ≡ 0 → not told ≡ false → true ≡ provable t q S A O
       unfolding provable listed mayBeProved
       goal-listed free on =
           let g = goalOf q in
           let row = rw (levels, at-person, at-place) at (and-second _ _ (and-second _ _ (passed e on))) in
-          sym (members .only (q .depth) (omega arith) g (and-both (lt-ltb _ _ inside) row))
-          ∙ members-exact t (prepared .wellFormed) S (q .depth) (startingSets t) g
-          ∙ ap (λ x. proves t S x (q .depth) nothingAbove (startingSets t) g) (sym free)
+          let no-imposed : A ≡ 0 = part-none (bitOr A O) A free (part-or-left A O) in
+          let no-owed : O ≡ 0 = part-none (bitOr A O) O free (part-or-right A O) in
+          rw (no-imposed, no-owed)
+          (sym (members .only (q .depth) (omega arith) g (and-both (lt-ltb _ _ inside) row))
+          ∙ members-exact t (prepared .wellFormed) S (q .depth) (startingSets t) g)

@@ -1,23 +1,22 @@
 -- The steps of the search's loops, over plain variables: from credential to credential, from part to part, from middle to middle.
 use mathlib.Core.Path.{_≡_, refl, sym, ap, ap₂, _∙_}
-use mathlib.Core.List.{List}
+use mathlib.Core.List.{List, _∷_, []}
 use mathlib.Core.Bool.{Bool, true, false, not}
 use mathlib.Core.Logic.{_⊎_}
 use Prim.Native.Nat.{ℕ, zero, suc, _+_, _-_, _<_}
 use native.Mathlib.Omega.{arith}
-use native.Mathlib.Numerals.{sub-one}
+use native.Mathlib.Numerals.{add-one, sub-one}
 use lib.ListN.{getD}
-use lib.Bits.{bitAnd}
+use lib.Bits.{bitAnd, bitOr}
 use lib.Dec.{eqb}
 use borrow.Author.Tests.{eq-eqb, eqb-true, lt-ltb, ne-eqb}
-use Rattle.sets.specs.Logic.{_and_, anyBelow}
-use Rattle.sets.specs.Sets.{inSet, part}
-use Rattle.sets.proofs.Tests.{and-both, and-is, and-is-off, and-none, and-second, any-all, any-next, any-not, any-reached}
-use Rattle.sets.proofs.Tests.{any-shows, failed, passed, same-test}
+use Rattle.sets.specs.Logic.{_and_, _or_, anyBelow}
+use Rattle.sets.specs.Sets.{inSet}
+use Rattle.sets.proofs.Tests.{and-both, and-is, and-is-off, and-second, any-all, any-next, any-not, any-reached, any-shows}
+use Rattle.sets.proofs.Tests.{failed, false-true, or-false, refuted, same-test}
 use Rattle.sets.proofs.Members.{inSet-and}
 use Rattle.table.specs.Layout.{credential, credentials, principal, role, sameRole}
 use Rattle.table.specs.declared.Goal.{Goal}
-use Rattle.automata.specs.Together.{acceptingSet}
 use Rattle.automata.specs.declared.StateSets.{StateSets}
 use Rattle.derivation.specs.Rules.{goal}
 use Rattle.members.specs.Places.{isPerson, roleAt}
@@ -26,34 +25,38 @@ use Rattle.members.specs.Trying.{mayUse, provesBy}
 use Rattle.members.specs.Members.{Indexed, askedCell, lesser, linkCell, roleCell, rowCell}
 use Rattle.members.specs.Levels.{askedMask, askedMembers}
 use Rattle.members.proofs.Places.{is-person, place-same, same-place}
-use Rattle.search.proofs.Placing.{cell-middles, cell-parts, first-cell, linkedRole, middle-unlisted, middleTried}
-use Rattle.search.proofs.Placing.{part-cell, part-unlisted, partMissed, partRole, provesOwn, second-cell, stands-at}
+use Rattle.search.proofs.Placing.{cell-parts, first-cell, linkedRole, middle-unlisted, middleTried, own-part, part-cell}
+use Rattle.search.proofs.Placing.{part-unlisted, partMissed, partRole, provesOwn, second-cell, stands-at}
 use Rattle.members.specs.declared.above.Above.{Above}
-use Rattle.search.specs.Search.{Searched, Stands, Tried, askedBefore, goalAt, proves, provesAt, provesWith, stepped, usable}
+use Rattle.search.specs.Asking.{Pair, pair}
+use Rattle.search.specs.Search.{Searched, Stands, Tried, askedBefore, ends, goalAt, proves, provesAt, provesWith, shares}
+use Rattle.search.specs.Search.{stepped, usable}
+use Rattle.search.specs.Failing.{anyTest}
 
 -- levels are left: the goal is decided one level further down
-step-down : (t : List ℕ) (S A levels : ℕ) (above : Above) (s : StateSets) (g : Goal) → (levels ≡ 0 → ⊥)
-    → let below = stepped t A (g .role) s in
-    let one = proves t S A (levels - 1) (withGoal t above g) below in
-    (not (isAbove t above g) and anyBelow (provesWith t S one (part A (acceptingSet t below)) g) (credentials t))
-    ≡ proves t S A levels above s g
+step-down : (t : List ℕ) (S A O levels : ℕ) (above : Above) (s : StateSets) (g : Goal) (X : ℕ) → (levels ≡ 0 → ⊥)
+    → let below = stepped t (bitOr A O) (g .role) s in
+    let one = proves t S A O (levels - 1) (withGoal t above g) below in
+    (not (isAbove t above g)
+    and anyBelow (provesWith t S (λ goals. shares one O goals X) (ends t A below X) g) (credentials t))
+    ≡ proves t S A O levels above s g X
 unfolding proves
-step-down t S A zero above s g left = absurd (left refl)
-step-down t S A (suc l) above s g left = rw (sub-one (suc l))
+step-down t S A O zero above s g X left = absurd (left refl)
+step-down t S A O (suc l) above s g X left = rw (sub-one (suc l))
 
-module _ (t : List ℕ) (S A levels : ℕ) (above : Above) (s : StateSets) (person place : ℕ) (stands : Stands t person place)
+module _ (t : List ℕ) (S A O levels : ℕ) (above : Above) (s : StateSets) (person place X : ℕ) (stands : Stands t person place)
     (there : place < credentials t) (left : levels ≡ 0 → ⊥) where
-  pub place-step : (not (pairAbove above person place) and anyBelow (provesWith t S
-      (proves t S A (levels - 1) (withPair above person place) (stepped t A (credential t (suc place) .role) s))
-      (part A (acceptingSet t (stepped t A (credential t (suc place) .role) s))) (goalAt t person place)) (credentials t))
-      ≡ provesAt t S A levels above s person place
+  pub place-step : (not (pairAbove above person place)
+      and anyTest t S A O (levels - 1) (stepped t (bitOr A O) (credential t (suc place) .role) s) person place X
+      (withPair above person place))
+      ≡ provesAt t S A O levels above s person place X
   unfolding provesAt _and_ proves isAbove withGoal
   place-step =
       rw (lt-ltb place (credentials t) there)
       (rw (stands .first there, is-person t person (stands .named) .1) at
-      (step-down t S A levels above s (goalAt t person place) left))
+      (step-down t S A O levels above s (goalAt t person place) X left))
 
-  pub place-again : pairAbove above person place ≡ true → false ≡ provesAt t S A levels above s person place
+  pub place-again : pairAbove above person place ≡ true → false ≡ provesAt t S A O levels above s person place X
   place-again again = sym (and-is-off _ (ap not again)) ∙ place-step
 
 -- credential i + 1 may be used for the role at a place if it is allowed and defines the role
@@ -86,24 +89,24 @@ module _ {t index : List ℕ} (indexed : Indexed t index) {person place : ℕ} (
   usable-role on = same-role (and-second _ _ on)
 
   -- and it proves the goal, or not
-  module _ (one : Goal → Bool) (word : Bool) {may : Bool} (told : may ≡ usable index S place i) where
+  module _ (all : List Goal → Bool) (word : Bool) {may : Bool} (told : may ≡ usable index S place i) where
     abbrev tried : ℕ → Bool
-    tried = provesWith t S one word (goalAt t person place)
+    tried = provesWith t S all word (goalAt t person place)
 
-    pub next-unused : anyBelow tried i ≡ false → may ≡ false → anyBelow tried (i + 1) ≡ false
-    next-unused before off = any-next tried i before (and-is-off _ (sym usable-is ∙ sym told ∙ off))
+    pub next-unused : may ≡ false → anyBelow tried (i + 1) ≡ anyBelow tried i
+    unfolding anyBelow
+    next-unused off =
+        rw (add-one i) (ap (λ b. anyBelow tried i or b) (and-is-off _ (sym usable-is ∙ sym told ∙ off)) ∙ or-false _)
 
-    module _ (on : may ≡ true) {by : Bool} (e : by ≡ provesBy t one word (goalAt t person i) (suc i)) where
-      by-is : by ≡ provesBy t one word (goalAt t person place) (suc i)
-      by-is =
-          e ∙ ap (λ r. provesBy t one word (goal (principal (credential t (suc person) .first)) r) (suc i))
-          (usable-role (sym told ∙ on))
-
-      pub passes-here : by ≡ true → tried i ≡ true
-      passes-here proved = and-both (sym usable-is ∙ sym told ∙ on) (sym by-is ∙ proved)
-
-      pub next-unproved : anyBelow tried i ≡ false → by ≡ false → anyBelow tried (i + 1) ≡ false
-      next-unproved before off = any-next tried i before (and-none _ (sym by-is ∙ off))
+    -- it may be used: one more is tried
+    pub next-tried : may ≡ true
+        → anyBelow tried (i + 1) ≡ (anyBelow tried i or provesBy t all word (goalAt t person i) (suc i))
+    unfolding anyBelow
+    next-tried on =
+        rw (add-one i) (ap (λ b. anyBelow tried i or b)
+        (and-is (sym usable-is ∙ sym told ∙ on)
+        (ap (λ r. provesBy t all word (goal (principal (credential t (suc person) .first)) r) (suc i))
+        (sym (usable-role (sym told ∙ on))))))
 
 -- the search among the roles before role k
 pub asked-here : (index : List ℕ) (i k j : ℕ) → j < k → getD index (askedCell i j) 0 ≡ getD index (askedCell i k) 0
@@ -145,11 +148,6 @@ mask-missed index rows level i person off =
     let each = inSet-and (bitAnd a b) (bitAnd c d) person ∙ ap₂ _and_ (inSet-and a b person) (inSet-and c d person) in
     missed (λ k. inSet (askedMask index rows level i k) person) (sym each ∙ off)
 
--- what is read of the index stands for it
-at-cell : (t : List ℕ) (S A levels : ℕ) (above : Above) (s : StateSets) (person place cell : ℕ) {b : Bool} → place ≡ cell
-    → b ≡ provesAt t S A levels above s person place → b ≡ provesAt t S A levels above s person cell
-at-cell t S A levels above s person place cell read e = e ∙ ap (provesAt t S A levels above s person) read
-
 -- from part to part: the roles that a credential of kind 2 or 4 asks have places, and what is found of them decides what it
 -- proves
 module _ {t index arcs rows : List ℕ} {S levels last : ℕ} (searched : Searched t index arcs rows S levels last) {person i : ℕ}
@@ -158,35 +156,34 @@ module _ {t index arcs rows : List ℕ} {S levels last : ℕ} (searched : Search
   stands-part k l place e =
       rw (e, part-cell searched tried kind k l) (stands-at t person (partRole t i k) (tried .who) (tried .named))
 
-  module _ (A : ℕ) (above : Above) (s : StateSets) where
+  -- who is not in all masks is not proved, whatever is to be met
+  pub parts-unlisted : (A O : ℕ) (above : Above) (s : StateSets) (X : ℕ) {held : Bool}
+      → held ≡ inSet (askedMembers index rows (lesser levels last) i) person → not held ≡ true
+      → provesOwn t S A O levels above s person i X ≡ false
+  parts-unlisted A O above s X e off =
+      let (k, l, missing) = mask-missed index rows (lesser levels last) i person (failed e off) in
+      refuted _ (λ h.
+      false-true (sym (part-unlisted searched tried A O above s 0 kind k l missing)
+      ∙ own-part searched tried A O above s X kind h k l))
+
+  -- where nothing is owed
+  module _ (A O : ℕ) (zero : O ≡ 0) (above : Above) (s : StateSets) where
     abbrev misses : ℕ → Bool
-    misses = partMissed index (provesAt t S A levels above s) person i
+    misses = partMissed index (λ p r. provesAt t S A O levels above s p r 0) person i
 
-    part-failed : (word : Bool) (k : ℕ) → k < 4 → provesAt t S A levels above s person (getD index (askedCell i k) 0) ≡ false
-        → false ≡ provesOwn t S A levels above s word person i
-    part-failed word k l off =
-        sym (cell-parts searched tried A above s word kind ∙ ap not (any-reached _ 4 k l (ap not off)))
+    pub part-failed : (k place : ℕ) → k < 4 → place ≡ getD index (askedCell i k) 0
+        → provesAt t S A O levels above s person place 0 ≡ false → provesOwn t S A O levels above s person i 0 ≡ false
+    part-failed k place l read off =
+        cell-parts searched tried A O zero above s kind
+        ∙ ap not (any-reached _ 4 k l (ap not (sym (ap (λ x. provesAt t S A O levels above s person x 0) read) ∙ off)))
 
-    pub parts-unlisted : (word : Bool) (row set : ℕ) {held : Bool} → row ≡ lesser levels last
-        → set ≡ askedMembers index rows row i → held ≡ inSet set person → not held ≡ true
-        → false ≡ provesOwn t S A levels above s word person i
-    parts-unlisted word row set the-row the-set e off =
-        let (k, l, missing) = mask-missed index rows (lesser levels last) i person (rw (the-set, the-row) at (failed e off)) in
-        part-failed word k l (part-unlisted searched tried A above s kind k l missing)
+    pub all-proved : (k : ℕ) → k ≡ 4 → anyBelow misses k ≡ false → provesOwn t S A O levels above s person i 0 ≡ true
+    all-proved k e none = cell-parts searched tried A O zero above s kind ∙ ap not (any-all _ k 4 e none)
 
-    pub all-proved : (word : Bool) (k : ℕ) → k ≡ 4 → anyBelow misses k ≡ false
-        → true ≡ provesOwn t S A levels above s word person i
-    all-proved word k e none = sym (cell-parts searched tried A above s word kind ∙ ap not (any-all _ k 4 e none))
-
-    module _ (k place : ℕ) {one : Bool} (read : place ≡ getD index (askedCell i k) 0)
-        (told : one ≡ provesAt t S A levels above s person place) where
-      pub part-unproved : (word : Bool) → k < 4 → not one ≡ true → false ≡ provesOwn t S A levels above s word person i
-      part-unproved word l off =
-          part-failed word k l (failed (at-cell t S A levels above s person place _ read told) off)
-
-      pub part-proved : anyBelow misses k ≡ false → not one ≡ false → anyBelow misses (k + 1) ≡ false
-      part-proved before on =
-          any-next misses k before (ap not (passed (at-cell t S A levels above s person place _ read told) on))
+    pub part-proved : (k place : ℕ) → place ≡ getD index (askedCell i k) 0
+        → provesAt t S A O levels above s person place 0 ≡ true → anyBelow misses k ≡ false → anyBelow misses (k + 1) ≡ false
+    part-proved k place read on before =
+        any-next misses k before (ap not (sym (ap (λ x. provesAt t S A O levels above s person x 0) read) ∙ on))
 
     -- a role that was asked before is proved with it
     pub part-repeated : (k : ℕ) → anyBelow misses k ≡ false → askedBefore index i k ≡ true → anyBelow misses (k + 1) ≡ false
@@ -195,7 +192,7 @@ module _ {t index arcs rows : List ℕ} {S levels last : ℕ} (searched : Search
         let (j, l, same) = any-shows _ k asked in
         let cells = eqb-true (getD index (askedCell i j) 0) (getD index (askedCell i k) 0) same in
         any-next misses k before
-        (sym (ap (λ place. not (provesAt t S A levels above s person place)) cells) ∙ any-not misses k j before l)
+        (sym (ap (λ place. not (provesAt t S A O levels above s person place 0)) cells) ∙ any-not misses k j before l)
 
 -- credential i + 1, of kind 3, is tried with the principal at j as the middle: the row told whether both are in their roles
 pub record Middle (t index arcs rows : List ℕ) (S levels last person i row j first second : ℕ) (told : Bool) : Type 0 where
@@ -208,15 +205,6 @@ pub record Middle (t index arcs rows : List ℕ) (S levels last person i row j f
   pub second-is : second ≡ getD index (linkCell i j) 0
   pub told-is : told
       ≡ (inSet (getD rows (rowCell row first) 0) j and inSet (getD rows (rowCell row second) 0) person and isPerson t j)
-
--- no middle is left
-pub linked-none : {t index arcs rows : List ℕ} {S levels last : ℕ} → Searched t index arcs rows S levels last → {person i : ℕ}
-    → Tried t person i → credential t (suc i) .kind ≡ 3 → (A : ℕ) (above : Above) (s : StateSets) (word : Bool) (j : ℕ)
-    → j ≡ credentials t
-    → anyBelow (middleTried t index (provesAt t S A levels above s) person i) j ≡ false
-    → false ≡ provesOwn t S A levels above s word person i
-linked-none searched tried kind A above s word j e none =
-    sym (cell-middles searched tried A above s word kind ∙ any-all _ j _ e none)
 
 -- from middle to middle
 module _ {t index arcs rows : List ℕ} {S levels last person i row j first second : ℕ} {told : Bool}
@@ -235,24 +223,23 @@ module _ {t index arcs rows : List ℕ} {S levels last person i row j first seco
         rw (middle .second-is, second-cell (middle .searched) (middle .tried) (middle .kind) j (middle .there) named)
         (stands-at t person (linkedRole t i j) (middle .tried .who) (middle .tried .named))
 
-  module _ (A : ℕ) (above : Above) (s : StateSets) where
-    abbrev found : ℕ → ℕ → Bool
-    found = provesAt t S A levels above s
+  module _ (A O : ℕ) (above : Above) (s : StateSets) (X : ℕ) where
+    abbrev found : Pair → ℕ → Bool
+    found = λ (p : Pair) Y. provesAt t S A O levels above s (p .person) (p .place) Y
 
     abbrev tries-middle : ℕ → Bool
-    tries-middle = middleTried t index found person i
+    tries-middle = middleTried t index found O person i X
 
-    pub linked-found : (word : Bool) {one two : Bool} → told ≡ true → one ≡ found j first → one ≡ true → two ≡ found person second
-        → two ≡ true → true ≡ provesOwn t S A levels above s word person i
-    linked-found word on e proved e′ proved′ =
-        let in-first = sym (at-cell t S A levels above s j first _ (middle .first-is) e) ∙ proved in
-        let in-second = sym (at-cell t S A levels above s person second _ (middle .second-is) e′) ∙ proved′ in
-        sym (cell-middles (middle .searched) (middle .tried) A above s word (middle .kind)
-        ∙ any-reached tries-middle _ j (middle .there) (and-both (named on) (and-both in-first in-second)))
+    pub linked-skipped : told ≡ false → anyBelow tries-middle (j + 1) ≡ anyBelow tries-middle j
+    unfolding anyBelow
+    linked-skipped off =
+        let none = rw (middle .row-is, middle .first-is, middle .second-is) at (sym (middle .told-is) ∙ off) in
+        rw (add-one j) (ap (λ b. anyBelow tries-middle j or b)
+        (middle-unlisted (middle .searched) (middle .tried) A O above s X (middle .kind) j (middle .there) none) ∙ or-false _)
 
-    module _ (before : anyBelow tries-middle j ≡ false) where
-      pub linked-skipped : told ≡ false → anyBelow tries-middle (j + 1) ≡ false
-      linked-skipped off =
-          let none = rw (middle .row-is, middle .first-is, middle .second-is) at (sym (middle .told-is) ∙ off) in
-          any-next tries-middle j before
-          (middle-unlisted (middle .searched) (middle .tried) A above s (middle .kind) j (middle .there) none)
+    pub linked-tried : told ≡ true
+        → anyBelow tries-middle (j + 1) ≡ (anyBelow tries-middle j or shares found O (pair j first ∷ pair person second ∷ []) X)
+    unfolding anyBelow
+    linked-tried on =
+        rw (add-one j, middle .first-is, middle .second-is)
+        (ap (λ b. anyBelow tries-middle j or b) (and-is (named on) refl))

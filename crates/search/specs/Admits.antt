@@ -1,19 +1,22 @@
 -- docs/DEFINITION.md, "Words" and "The list": whether some accepted record uses only credentials of a set. `Admits` says it by
 -- derivations; `admits` decides it automaton by automaton: each one that a credential of the set bears is either done without,
--- by leaving its credentials out, or imposed on every word (proofs/Admitting.antt).
-use Prim.Native.Nat.{ℕ, zero, suc, _^_}
+-- by leaving its credentials out, or imposed on every word or owed some word, by its mark (proofs/Admitting.antt).
+use Prim.Native.Nat.{ℕ, zero, suc, _-_, _^_, _<_}
+use mathlib.Core.Path.{_≡_}
 use mathlib.Core.List.{List, [], _∷_}
 use mathlib.Core.Bool.{Bool, true, not}
 use lib.Bits.{bitOr}
 use lib.Dec.{eqb}
 use Rattle.sets.specs.Logic.{_and_, _or_, pick}
 use Rattle.sets.specs.Sets.{inSet, setOf}
-use Rattle.table.specs.Layout.{automata, credential, credentials}
+use Rattle.table.specs.Layout.{automata, automaton, credential, credentials}
 use Rattle.table.specs.declared.Query.{Query}
 use Rattle.derivation.specs.Rules.{goalOf}
 use Rattle.derivation.specs.Forest.{Derives, Forest}
 use Rattle.derivation.specs.Words.{Complies}
 use Rattle.derivation.specs.Attached.{automataOf}
+use Rattle.families.specs.Families.{allSets}
+use Rattle.search.specs.declared.Terms.{Terms}
 use Rattle.search.specs.Search.{UsesOnly, provable}
 
 -- some derivation of the queried membership uses only credentials of the set S, and complies
@@ -27,15 +30,32 @@ pub record Admits (t : List ℕ) (q : Query) (S : ℕ) : Type 0 where
 unfoldable pub without : List ℕ → ℕ → ℕ → ℕ
 without t S k = setOf (λ c. inSet S c and not (eqb (credential t (suc c) .automaton) k)) (credentials t)
 
--- where S proves under A: of the automata from k down to 1 each that a credential of S bears can be done without or imposed
-unfoldable pub admitsBy : List ℕ → Query → ℕ → ℕ → ℕ → Bool
-admitsBy t q S A zero = true
-admitsBy t q S A (suc k) =
+-- automaton k + 1 is imposed on every word, or owed some word, by its mark
+unfoldable pub withEvery : List ℕ → ℕ → ℕ → ℕ
+withEvery t A k = pick (eqb (automaton t (suc k) .mark) 1) A (bitOr A (2 ^ k))
+
+unfoldable pub withOwed : List ℕ → ℕ → ℕ → ℕ
+withOwed t O k = pick (eqb (automaton t (suc k) .mark) 1) (bitOr O (2 ^ k)) O
+
+-- the terms of a search with automaton k
+pub record Demands (t : List ℕ) (terms : Terms) (k : ℕ) (more : Terms) : Type 0 where
+  pub allowed-is : more .allowed ≡ terms .allowed
+  pub every-is : more .constraints ≡ withEvery t (terms .constraints) (k - 1)
+  pub owed-is : more .owed ≡ withOwed t (terms .owed) (k - 1)
+  pub last-is : more .last ≡ terms .last
+  pub few : more .owed < allSets
+
+-- where S proves with A imposed and O owed: of the automata from k down to 1 each that a credential of S bears can be done
+-- without or be met
+unfoldable pub admitsBy : List ℕ → Query → ℕ → ℕ → ℕ → ℕ → Bool
+admitsBy t q S A O zero = true
+admitsBy t q S A O (suc k) =
     let fewer = without t S (suc k) in
-    let more = bitOr A (2 ^ k) in
+    let every = withEvery t A k in
+    let owed = withOwed t O k in
     pick (inSet (automataOf t S) k)
-    ((provable t q fewer A and admitsBy t q fewer A k) or (provable t q S more and admitsBy t q S more k))
-    (admitsBy t q S A k)
+    ((provable t q fewer A O and admitsBy t q fewer A O k) or (provable t q S every owed and admitsBy t q S every owed k))
+    (admitsBy t q S A O k)
 
 unfoldable pub admits : List ℕ → Query → ℕ → Bool
-admits t q S = provable t q S 0 and admitsBy t q S 0 (automata t)
+admits t q S = provable t q S 0 0 and admitsBy t q S 0 0 (automata t)

@@ -1,24 +1,27 @@
--- What the search answers and remembers. A test that is asked below a branch passes, or it fails, and then the answer has the pairs
--- of the branch that stood in the way: it fails below every branch that has them. So a failure need not be found twice.
-use Prim.Native.Nat.{ℕ, suc, _<_}
+-- What the search answers and remembers. It asks which sets of automata can be met below a branch. The answer has sets that can,
+-- a family, and the pairs of the branch that stood in the way of all others: what the family does not cover fails below every
+-- branch that has these pairs. So a failure need not be found twice.
+use Prim.Native.Nat.{ℕ, suc, _<_, _≤_}
 use mathlib.Core.Path.{_≡_}
-use mathlib.Core.List.{List}
+use mathlib.Core.List.{List, []}
 use mathlib.Core.Bool.{Bool, true, false, not}
 use lib.ListN.{getD, length}
 use lib.Dec.{eqb, ltb}
 use Rattle.sets.specs.Logic.{_and_, anyBelow}
 use Rattle.sets.specs.Sets.{inSet, part}
+use Rattle.families.specs.Families.{Inside, Within, allSets, covers, inFamily, isPart}
+use Rattle.families.specs.declared.Family.{Family}
 use Rattle.table.specs.Limits.{mostAutomata, mostCredentials}
 use Rattle.table.specs.Layout.{credentials}
-use Rattle.automata.specs.Together.{acceptingSet}
 use Rattle.automata.specs.declared.StateSets.{StateSets}
 use Rattle.members.specs.Above.{pairAbove}
 use Rattle.members.specs.declared.above.Above.{Above}
 use Rattle.members.specs.Trying.{provesBy}
 use Rattle.members.specs.Members.{lesser, rowCell}
 use Rattle.failures.specs.Failures.{Holds, memoryCells, slots}
-use Rattle.search.specs.declared.seeking.Answer.{Answer}
-use Rattle.search.specs.Search.{goalAt, proves, provesAt, provesWith}
+use Rattle.search.specs.Asking.{Pair}
+use Rattle.search.specs.declared.asking.Asked.{Asked}
+use Rattle.search.specs.Search.{ends, goalAt, proves, provesAt, provesWith, shares}
 
 -- a cell for every place of a role
 abbrev pub Wide : Above → Type 0
@@ -37,38 +40,88 @@ pub record Failed (test : Above → Bool) (above met : Above) : Type 0 where
   pub covered : Covers met above
   pub fails : Fails test met
 
--- the answer to a test below a branch
-pub record Judged (test : Above → Bool) (above : Above) (answer : Answer) : Type 0 where
-  pub passes : answer .proved ≡ true → test above ≡ true
-  pub failed : answer .proved ≡ false → Failed test above (answer .met)
+-- what the family does not cover of the parts of O fails below every branch on which these pairs stand
+abbrev pub Bounds : ℕ → (ℕ → Above → Bool) → Family → Above → Type 0
+Bounds O test found met = (X : ℕ) → part X O ≡ true → covers found X ≡ false → Fails (test X) met
 
--- each slot of the memory has a goal that fails where what it has met stands on the branch
-pub record Remembered (t : List ℕ) (S A : ℕ) (memory : List ℕ) : Type 0 where
+-- each set of the family is a part of O, and can be met below this branch
+pub record Finds (O : ℕ) (test : ℕ → Above → Bool) (above : Above) (found : Family) : Type 0 where
+  pub inside : Inside found O
+  pub passes : (X : ℕ) → X < allSets → inFamily found X ≡ true → test X above ≡ true
+
+-- the answer to a test below a branch: what can be met, and what stood in the way of all else
+pub record Judged (O : ℕ) (test : ℕ → Above → Bool) (above : Above) (found : Family) (met : Above) : Type 0 where
+  pub finds : Finds O test above found
+  pub covered : Covers met above
+  pub bounds : Bounds O test found met
+
+-- the same where nobody asks for more than the family `wanted`: what is found may have all of that
+pub record Sought (O : ℕ) (test : ℕ → Above → Bool) (above : Above) (wanted found : Family) (met : Above) : Type 0 where
+  pub finds : Finds O test above found
+  pub covered : Covers met above
+  pub bounds : isPart wanted found ≡ false → Bounds O test found met
+
+-- each slot of the memory has a goal, and a family that has all that it can meet where what it has met stands on the branch
+pub record Remembered (t : List ℕ) (S A O : ℕ) (memory : List ℕ) : Type 0 where
+  pub few : O < allSets
   pub room : length memory ≡ memoryCells
-  pub each : (k person place levels : ℕ) (s : StateSets) (met : Above) → k < slots → length (s .sets) ≡ mostAutomata
-      → Holds memory k person place levels s met → Fails (λ above. provesAt t S A levels above s person place) met
+  pub each : (k person place levels : ℕ) (s : StateSets) (met : Above) (found : Family) → k < slots
+      → length (s .sets) ≡ mostAutomata → Holds memory k person place levels s met found
+      → Bounds O (λ X above. provesAt t S A O levels above s person place X) found met
 
--- What is asked below a branch, with so many levels left, where the automata have come to the state sets s: the principal at
--- `person` in the role at `place`
-abbrev pub goalTest : List ℕ → ℕ → ℕ → ℕ → StateSets → ℕ → ℕ → Above → Bool
-goalTest t S A levels s person place = λ above. provesAt t S A levels above s person place
+-- what a search tells of a branch: sets that can be met below it, and each that can is included in one of them
+pub record Told (O : ℕ) (test : ℕ → Above → Bool) (above : Above) (found : Family) : Type 0 where
+  pub finds : Finds O test above found
+  pub all : (X : ℕ) → part X O ≡ true → test X above ≡ true → covers found X ≡ true
+
+-- the family, or O alone where the family has it
+pub record Trimmed (found : Family) (O : ℕ) (rest : Family) : Type 0 where
+  pub fewer : Within rest found
+  pub alike : Inside found O → (X : ℕ) → covers found X ≡ true → covers rest X ≡ true
+
+-- What is asked below a branch, with so many levels left, where the automata have come to the state sets s, and a set X is to be
+-- met: the principal at `person` in the role at `place`
+abbrev pub goalTest : List ℕ → ℕ → ℕ → ℕ → ℕ → StateSets → ℕ → ℕ → ℕ → Above → Bool
+goalTest t S A O levels s person place = λ X above. provesAt t S A O levels above s person place X
 
 -- credential i + 1 proves it to be in its role
-abbrev pub ownTest : List ℕ → ℕ → ℕ → ℕ → StateSets → ℕ → ℕ → Above → Bool
-ownTest t S A levels s person i = λ above.
-    provesBy t (proves t S A levels above s) (part A (acceptingSet t s)) (goalAt t person i) (suc i)
+abbrev pub ownTest : List ℕ → ℕ → ℕ → ℕ → ℕ → StateSets → ℕ → ℕ → ℕ → Above → Bool
+ownTest t S A O levels s person i = λ X above.
+    provesBy t (λ goals. shares (proves t S A O levels above s) O goals X) (ends t A s X) (goalAt t person i) (suc i)
 
 -- some credential of the set proves it to be in the role at `place`
-abbrev pub anyTest : List ℕ → ℕ → ℕ → ℕ → StateSets → ℕ → ℕ → Above → Bool
-anyTest t S A levels s person place = λ above.
-    anyBelow (provesWith t S (proves t S A levels above s) (part A (acceptingSet t s)) (goalAt t person place)) (credentials t)
+abbrev pub anyTest : List ℕ → ℕ → ℕ → ℕ → ℕ → StateSets → ℕ → ℕ → ℕ → Above → Bool
+anyTest t S A O levels s person place = λ X above.
+    anyBelow (provesWith t S (λ goals. shares (proves t S A O levels above s) O goals X) (ends t A s X) (goalAt t person place))
+    (credentials t)
 
--- the principal at j is in one role, and the one at `person` in another
-abbrev pub linkTest : List ℕ → ℕ → ℕ → ℕ → StateSets → ℕ → ℕ → ℕ → ℕ → Above → Bool
-linkTest t S A levels s j first person second = λ above.
-    provesAt t S A levels above s j first and provesAt t S A levels above s person second
+-- goals by their places, which share out what is owed
+abbrev pub sharedTest : List ℕ → ℕ → ℕ → ℕ → ℕ → StateSets → List Pair → ℕ → Above → Bool
+sharedTest t S A O levels s pairs = λ X above.
+    shares (λ (p : Pair) Y. provesAt t S A O levels above s (p .person) (p .place) Y) O pairs X
 
 -- levels are left, the role is defined, and by the row of the levels the principal is in it
 unfoldable pub mayBeProved : List ℕ → List ℕ → ℕ → ℕ → ℕ → ℕ → Bool
 mayBeProved t rows last person place levels =
     not (eqb levels 0) and ltb place (credentials t) and inSet (getD rows (rowCell (lesser levels last) place) 0) person
+
+-- a goal that may be sought: levels are left, and principal and role have places
+pub record Open (t : List ℕ) (levels person place : ℕ) : Type 0 where
+  pub left : levels ≡ 0 → ⊥
+  pub there : place < credentials t
+  pub few-persons : person < mostCredentials
+  pub few-places : place < mostCredentials
+
+-- where an owed automaton is dead, only the others can be met: `most` has them
+pub record Left (O dead most : ℕ) : Type 0 where
+  pub few : most < allSets
+  pub lost : (k : ℕ) → inSet O k ≡ true → inSet most k ≡ false → inSet dead k ≡ true
+
+abbrev pub noFamily : Family
+noFamily = record { words = [] }
+
+-- what each of the goals that are asked can meet, from goal k on
+abbrev pub LaterJudged : List ℕ → ℕ → ℕ → ℕ → ℕ → StateSets → Asked → ℕ → Above → List Family → Above → Type 0
+LaterJudged t S A O levels s asked k above each met =
+    (j : ℕ) → k ≤ j → j < asked .len
+    → Judged O (goalTest t S A O levels s (getD (asked .persons) j 0) (getD (asked .places) j 0)) above (getD each j noFamily) met

@@ -1,3 +1,4 @@
+pub mod Asking
 pub mod Search
 pub mod Failing
 pub mod Promised

@@ -6,7 +6,7 @@ use Prim.Native.Nat.{ℕ, zero, suc, _-_, _<_, _≤_}
 use mathlib.Core.Path.{_≡_}
 use mathlib.Core.List.{List, [], _∷_}
 use mathlib.Core.Bool.{Bool, true, false, not}
-use lib.ListN.{getD}
+use lib.ListN.{getD, length}
 use lib.Bits.{bitOr}
 use lib.Dec.{eqb, ltb}
 use Rattle.sets.specs.Logic.{_and_, anyBelow, pick}
@@ -30,6 +30,7 @@ use Rattle.members.specs.Above.{isAbove, nothingAbove, withGoal}
 use Rattle.members.specs.declared.above.Above.{Above}
 use Rattle.members.specs.Trying.{mayUse, provesBy}
 use Rattle.members.specs.Members.{Aimed, Indexed, Members, askedCell, roleCell}
+use Rattle.search.specs.Asking.{Pair, pair}
 
 -- a search is asked of an accepted table and a valid query, with their index and an index of arcs
 pub record Prepared (t : List ℕ) (q : Query) (index arcs : List ℕ) : Type 0 where
@@ -127,6 +128,11 @@ pub record Tried (t : List ℕ) (person i : ℕ) : Type 0 where
   pub there : i < credentials t
   pub who : person < credentials t
   pub named : isPerson t person ≡ true
+
+-- the principal and the role of each goal stand at their places
+abbrev pub AllStand : List ℕ → List Pair → Type 0
+AllStand t pairs =
+    (k : ℕ) → k < length pairs → Stands t (getD pairs k (pair 0 0) .person) (getD pairs k (pair 0 0) .place)
 
 -- by the index, credential i + 1 is in the set and defines the role at `place`
 unfoldable pub usable : List ℕ → ℕ → ℕ → ℕ → Bool

@@ -1,9 +1,10 @@
-// Whether the allowed credentials prove a goal when every word must be accepted by each of some automata, and the tests of which
-// the search is made. Goals are asked by the places of principal and role (crate members).
+// What the allowed credentials can meet of the owed automata when they prove a goal and every word must be accepted by each of
+// some others, and the tests of which the search is made. Goals are asked by the places of principal and role (crate members).
 use crate::Terms;
 use crate::seeking;
 use automata::Moved;
 use automata::StateSets;
+use families::Family;
 use members::Above;
 use members::ROW;
 use sets::AutomatonSet;
@@ -15,23 +16,24 @@ use table::layout;
 ghost use mathlib.Core.Path.{_≡_};
 ghost use Prim.Native.Nat.{suc, _<_, _≤_};
 ghost use lib.ListN.{getD, length};
+ghost use lib.Bits.{bitAnd};
 ghost use lib.Dec.{eqb};
-ghost use Rattle.sets.specs.Logic.{_and_};
+ghost use Rattle.sets.specs.Logic.{_and_, _or_};
+ghost use Rattle.families.specs.Families.{FamilyOf, allSets, inFamily, isPart};
 ghost use Rattle.table.specs.Layout.{credential, credentials};
 ghost use Rattle.table.specs.Holding.{WellFormed};
 ghost use Rattle.sets.specs.Sets.{inSet, meets, part};
 ghost use Rattle.automata.specs.Arcs.{Arcs};
 ghost use Rattle.automata.specs.Together.{acceptingSet};
 ghost use Rattle.members.specs.Places.{isPerson};
-ghost use Rattle.members.specs.Trying.{provesBy};
 ghost use Rattle.members.specs.Members.{Indexed, Placed, askedCell, lesser, rowCell, tableCells};
 ghost use Rattle.members.specs.Levels.{askedMembers};
 ghost use Rattle.search.specs.Search;
-ghost use Rattle.search.specs.Search.{Searched, Stands, Tried, askedBefore, goalAt, proves, provesAt, usable};
-ghost use Rattle.search.specs.Failing.{mayBeProved};
+ghost use Rattle.search.specs.Search.{Searched, Stands, Tried, askedBefore, usable};
+ghost use Rattle.search.specs.Failing.{Left, Told, Trimmed, goalTest, mayBeProved, ownTest};
 
-// The principal at `person` is proved to be in the role at `place`, with so many levels left, by some allowed credential, where the
-// pairs `above` stand on the branch.
+// What can be met where the principal at `person` is proved to be in the role at `place`, with so many levels left, by some allowed
+// credential, and the pairs `above` stand on the branch.
 pub fn goal_search(
     table: &[Number],
     index: &[u8],
@@ -43,10 +45,12 @@ pub fn goal_search(
     levels: usize,
     states: StateSets,
     above: Above,
-) -> bool
+) -> Family
     requires { ⌜ Searched (now table) (now index) (now arcs) (now rows) (terms .allowed) levels (terms .last) ⌝ }
     requires { ⌜ Stands (now table) person place ⌝ }
-    ensures { λ r. ⌜ r ≡ provesAt (now (table .entry)) (terms .allowed) (terms .constraints) levels above states person place ⌝ }
+    requires { ⌜ terms .owed < allSets ⌝ }
+    ensures { λ r. ⌜ Told (terms .owed) (goalTest (now (table .entry)) (terms .allowed) (terms .constraints) (terms .owed)
+        levels states person place) above r ⌝ }
 {
     let mut memory = [0; failures::CELLS];
     let answer = seeking::seek_goal(
@@ -62,11 +66,11 @@ pub fn goal_search(
         above,
         &mut memory,
     );
-    answer.proved
+    answer.found
 }
 
-// Credential i + 1 proves the goal, with some middle; so many levels are left for what it asks. One that asks nothing needs no
-// memory.
+// What can be met where credential i + 1 proves the goal, with some middle; so many levels are left for what it asks. One that asks
+// nothing needs no memory.
 pub fn credential_search(
     table: &[Number],
     index: &[u8],
@@ -78,16 +82,16 @@ pub fn credential_search(
     levels: usize,
     states: StateSets,
     above: Above,
-) -> bool
+) -> Family
     requires { ⌜ Searched (now table) (now index) (now arcs) (now rows) (terms .allowed) levels (terms .last) ⌝ }
     requires { ⌜ Tried (now table) person i ⌝ }
-    ensures { λ r. ⌜ r ≡ provesBy (now (table .entry))
-        (proves (now (table .entry)) (terms .allowed) (terms .constraints) levels above states)
-        (part (terms .constraints) (acceptingSet (now (table .entry)) states)) (goalAt (now (table .entry)) person i) (suc i) ⌝ }
+    requires { ⌜ terms .owed < allSets ⌝ }
+    ensures { λ r. ⌜ Told (terms .owed) (ownTest (now (table .entry)) (terms .allowed) (terms .constraints) (terms .owed)
+        levels states person i) above r ⌝ }
 {
     let credential = layout::credential(table, i + 1);
     if credential.kind == SIMPLE_MEMBERSHIP {
-        return ends_word(table, index, arcs, terms.constraints, person, i, states);
+        return ends_word(table, index, arcs, terms, person, i, states);
     }
     let mut memory = [0; failures::CELLS];
     let answer = seeking::seek_through(
@@ -103,30 +107,48 @@ pub fn credential_search(
         above,
         &mut memory,
     );
-    answer.proved
+    answer.found
 }
 
-// Credential i + 1, of kind 1, proves the goal: it names the principal, and each of the automata accepts the word that ends here.
+// What credential i + 1, of kind 1, meets: where it names the principal, and each of the imposed automata accepts the word that ends
+// here, those of the owed that accept it.
 pub fn ends_word(
     table: &[Number],
     index: &[u8],
     arcs: &[StateSet],
-    constraints: AutomatonSet,
+    terms: Terms,
     person: usize,
     i: usize,
     states: StateSets,
-) -> bool
+) -> Family
     requires { ⌜ WellFormed (now table) ⌝ }
     requires { ⌜ Arcs (now table) (now arcs) ⌝ }
     requires { ⌜ Placed (now index) ⌝ }
     requires { ⌜ i < 20 ⌝ }
-    ensures { λ r. ⌜ r ≡ (eqb (getD (now (index .entry)) (askedCell i 0) 0) person
-        and part constraints (acceptingSet (now (table .entry)) states)) ⌝ }
+    requires { ⌜ terms .owed < allSets ⌝ }
+    ensures { λ r. ⌜ FamilyOf (λ X. eqb (getD (now (index .entry)) (askedCell i 0) 0) person
+        and part (terms .constraints) (acceptingSet (now (table .entry)) states)
+        and eqb (bitAnd (terms .owed) (acceptingSet (now (table .entry)) states)) X) r ⌝ }
 {
     if members::asked_cell(index, i, 0) != person {
-        return false;
+        return Family::none();
     }
-    constraints & states.accepting(table, arcs) == constraints
+    let accepting = states.accepting(table, arcs);
+    if terms.constraints & accepting != terms.constraints {
+        return Family::none();
+    }
+    Family::only(terms.owed & accepting)
+}
+
+// What can be met at best is found, or all that is wanted.
+pub fn is_enough(found: Family, most: AutomatonSet, wanted: Family) -> bool
+    requires { ⌜ most < allSets ⌝ }
+    ensures { λ r. ⌜ r ≡ (inFamily found most or isPart wanted found) ⌝ }
+{
+    if found.has(most) {
+        return true;
+    }
+    wanted.is_part(found)
 }
 
 // A principal stands at j who is in the first role, and the one at `person` is in the second, by the row.
@@ -219,22 +241,22 @@ pub fn is_listed(rows: &[CredentialSet], row: usize, person: usize, place: usize
     sets::has(rows[ROW * row + place], person)
 }
 
-// The state sets moved on by the role at `place`, with the automata that are dead there; where no automaton is imposed nobody
-// asks for them.
+// The state sets moved on by the role at `place`, with the automata that are dead there; where no automaton is asked for nobody
+// needs them.
 pub fn stepped(
     table: &[Number],
     arcs: &[StateSet],
-    constraints: AutomatonSet,
+    asked: AutomatonSet,
     place: usize,
     states: StateSets,
 ) -> Moved
     requires { ⌜ WellFormed (now table) ⌝ }
     requires { ⌜ Arcs (now table) (now arcs) ⌝ }
     requires { ⌜ place < credentials (now table) ⌝ }
-    ensures { λ r. ⌜ r ≡ Search.steppedOn (now (table .entry)) constraints
+    ensures { λ r. ⌜ r ≡ Search.steppedOn (now (table .entry)) asked
         (credential (now (table .entry)) (suc place) .role) states ⌝ }
 {
-    if constraints == 0 {
+    if asked == 0 {
         return Moved {
             states: states,
             dead: 0,
@@ -262,7 +284,8 @@ pub fn may_use(index: &[u8], allowed: CredentialSet, place: usize, i: usize) -> 
     members::role_cell(index, i) == place
 }
 
-// A chain that names a role more than once proves it once: every word is judged alike, whichever of them it goes through.
+// Where nothing is owed, a chain that names a role more than once proves it once: every word is judged alike, whichever of them it
+// goes through.
 pub fn is_asked_before(index: &[u8], i: usize, k: usize) -> bool
     requires { ⌜ Placed (now index) ⌝ }
     requires { ⌜ (i < 20) × (k < 4) ⌝ }
@@ -277,4 +300,23 @@ pub fn is_asked_before(index: &[u8], i: usize, k: usize) -> bool
         j += 1;
     }
     false
+}
+
+// The family, or the owed set alone where the family has it: whoever meets that meets all.
+pub fn trimmed(found: Family, owed: AutomatonSet) -> Family
+    requires { ⌜ owed < allSets ⌝ }
+    ensures { λ r. ⌜ Trimmed found owed r ⌝ }
+{
+    if found.has(owed) {
+        return Family::only(owed);
+    }
+    found
+}
+
+// The owed automata that are not dead.
+pub fn left_owed(owed: AutomatonSet, dead: AutomatonSet) -> AutomatonSet
+    requires { ⌜ owed < allSets ⌝ }
+    ensures { λ r. ⌜ Left owed dead r ⌝ }
+{
+    owed ^ (owed & dead)
 }

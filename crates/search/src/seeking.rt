@@ -1,9 +1,13 @@
 // The search itself: a goal through some credential, and a credential through the goals of its premises, each one level further
-// down. What failed is remembered with the pairs of the branch that stood in the way, so that it is not sought again where they
-// stand (crate failures).
+// down. It finds which sets of the owed automata can be met. Where nothing is owed that is the empty set, or none at all. What could
+// not be met is remembered with the pairs of the branch that stood in the way, so that it is not sought again where they stand
+// (crate failures).
 use crate::Terms;
+use crate::asking;
+use crate::asking::Asked;
 use crate::goals;
 use automata::StateSets;
+use families::Family;
 use members::Above;
 use sets::CredentialSet;
 use sets::StateSet;
@@ -14,22 +18,33 @@ use table::SIMPLE_CONTAINMENT;
 use table::SIMPLE_MEMBERSHIP;
 use table::layout;
 ghost use mathlib.Core.Path.{_≡_};
-ghost use mathlib.Core.Bool.{true, false};
+ghost use mathlib.Core.Bool.{false};
+ghost use mathlib.Core.List.{[], _∷_};
 ghost use mathlib.Core.Logic.{_⊎_};
 ghost use Prim.Native.Nat.{suc, _<_};
+ghost use lib.ListN.{getD, length};
+ghost use lib.Bits.{bitOr};
+ghost use lib.Dec.{eqb};
+ghost use Rattle.families.specs.Families.{FamilyOf};
+ghost use Rattle.table.specs.Limits.{mostParts};
 ghost use Rattle.table.specs.Layout.{credential, credentials};
-ghost use Rattle.members.specs.Above.{nothingAbove};
-ghost use Rattle.search.specs.Search.{Searched, Stands, Tried, stepped};
-ghost use Rattle.search.specs.Failing.{Judged, Remembered, anyTest, goalTest, linkTest, ownTest};
+ghost use Rattle.members.specs.Above.{nothingAbove, pairAbove};
+ghost use Rattle.failures.specs.Failures.{slots};
+ghost use Rattle.search.specs.Asking.{Fits, askedPairs, pair};
+ghost use Rattle.search.specs.Search.{AllStand, Searched, Stands, Tried, stepped};
+ghost use Rattle.search.specs.Failing.{Bounds, Covers, Judged, Open, Remembered, Sought, anyTest, goalTest, ownTest};
+ghost use Rattle.search.specs.Failing.{LaterJudged, sharedTest};
 
-// What is found of a goal or of a credential: that it is proved; or that it is not, and which pairs of the branch stood in the way.
+// What is found of a goal or of a credential: sets that can be met where it is proved, and which pairs of the branch stood in the way
+// of all that these do not include.
 pub struct Answer {
-    pub proved: bool,
+    pub found: Family,
     pub met: Above,
 }
 
 // The principal at `person` in the role at `place`, with so many levels left. Only what the table of members has is sought, no
-// pair twice on the branch, and nothing that is known to fail here.
+// pair twice on the branch, and nothing that is known to fail here: of a goal that is remembered no more is wanted than what it could
+// meet then, and otherwise all that is owed.
 pub fn seek_goal(
     table: &[Number],
     index: &[u8],
@@ -45,9 +60,9 @@ pub fn seek_goal(
 ) -> Answer
     requires { ⌜ Searched (now table) (now index) (now arcs) (now rows) (terms .allowed) levels (terms .last) ⌝ }
     requires { ⌜ Stands (now table) person place ⌝ }
-    requires { ⌜ Remembered (now table) (terms .allowed) (terms .constraints) (now memory) ⌝ }
-    ensures { λ r. ⌜ Judged (goalTest (now (table .entry)) (terms .allowed) (terms .constraints) levels states person place) above r
-        × Remembered (now (table .entry)) (terms .allowed) (terms .constraints) (now (memory .exit)) ⌝ }
+    requires { ⌜ Remembered (now table) (terms .allowed) (terms .constraints) (terms .owed) (now memory) ⌝ }
+    ensures { λ r. ⌜ Judged (terms .owed) (goalTest (now (table .entry)) (terms .allowed) (terms .constraints) (terms .owed) levels states person place) above (r .found) (r .met)
+        × Remembered (now (table .entry)) (terms .allowed) (terms .constraints) (terms .owed) (now (memory .exit)) ⌝ }
 {
     if !goals::may_be_proved(table, rows, terms.last, person, place, levels) {
         return failed(Above::nothing());
@@ -57,15 +72,82 @@ pub fn seek_goal(
         return failed(itself.with(person, place));
     }
     let slot = failures::slot(person, place, states);
-    if failures::recalls(memory, slot, person, place, levels, states, above) {
-        return failed(failures::met_at(memory, slot));
+    if !failures::recalls(memory, slot, person, place, levels, states, above) {
+        return seek_wanted(
+            table,
+            index,
+            arcs,
+            rows,
+            terms,
+            Family::only(terms.owed),
+            Above::nothing(),
+            slot,
+            person,
+            place,
+            levels,
+            states,
+            above,
+            memory,
+        );
     }
+    let known = failures::family_at(memory, slot);
+    let met = failures::met_at(memory, slot);
+    if known.is_none() {
+        return failed(met);
+    }
+    seek_wanted(
+        table,
+        index,
+        arcs,
+        rows,
+        terms,
+        known,
+        met,
+        slot,
+        person,
+        place,
+        levels,
+        states,
+        above,
+        memory,
+    )
+}
+
+// The same goal once more, of which it is known that where the pairs `met` stand it can meet no more than `wanted`. Less is
+// remembered.
+fn seek_wanted(
+    table: &[Number],
+    index: &[u8],
+    arcs: &[StateSet],
+    rows: &[CredentialSet],
+    terms: Terms,
+    wanted: Family,
+    met: Above,
+    slot: usize,
+    person: usize,
+    place: usize,
+    levels: usize,
+    states: StateSets,
+    above: Above,
+    memory: &mut [u32],
+) -> Answer
+    requires { ⌜ Searched (now table) (now index) (now arcs) (now rows) (terms .allowed) levels (terms .last) ⌝ }
+    requires { ⌜ Stands (now table) person place × Open (now table) levels person place ⌝ }
+    requires { ⌜ (pairAbove above person place ≡ false) × (slot < slots) ⌝ }
+    requires { ⌜ Covers met above × Bounds (terms .owed) (goalTest (now table) (terms .allowed) (terms .constraints) (terms .owed)
+        levels states person place) wanted met ⌝ }
+    requires { ⌜ Remembered (now table) (terms .allowed) (terms .constraints) (terms .owed) (now memory) ⌝ }
+    ensures { λ r. ⌜ Judged (terms .owed) (goalTest (now (table .entry)) (terms .allowed) (terms .constraints) (terms .owed)
+        levels states person place) above (r .found) (r .met)
+        × Remembered (now (table .entry)) (terms .allowed) (terms .constraints) (terms .owed) (now (memory .exit)) ⌝ }
+{
     let answer = seek_below(
         table,
         index,
         arcs,
         rows,
         terms,
+        wanted,
         person,
         place,
         levels - 1,
@@ -73,22 +155,25 @@ pub fn seek_goal(
         above.with(person, place),
         memory,
     );
-    if answer.proved {
-        return proved();
+    let found = answer.found;
+    if wanted.is_part(found) {
+        return answered(found, met);
     }
-    let met = failures::without(answer.met, person, place);
-    failures::keep(memory, slot, person, place, levels, states, met);
-    failed(met)
+    let less = failures::without(answer.met, person, place);
+    failures::keep(memory, slot, person, place, levels, states, less, found);
+    answered(found, less)
 }
 
 // Some allowed credential proves the goal, which stands on the branch now; so many levels are left for what it asks. Where an
-// imposed automaton is dead no word is accepted, so the branch is left.
+// imposed automaton is dead no word is accepted, so the branch is left; an owed one that is dead is met no more, so nobody waits for
+// it. No more credentials are tried once all that is wanted is found.
 fn seek_below(
     table: &[Number],
     index: &[u8],
     arcs: &[StateSet],
     rows: &[CredentialSet],
     terms: Terms,
+    wanted: Family,
     person: usize,
     place: usize,
     levels: usize,
@@ -98,17 +183,19 @@ fn seek_below(
 ) -> Answer
     requires { ⌜ Searched (now table) (now index) (now arcs) (now rows) (terms .allowed) levels (terms .last) ⌝ }
     requires { ⌜ Stands (now table) person place × (place < credentials (now table)) ⌝ }
-    requires { ⌜ Remembered (now table) (terms .allowed) (terms .constraints) (now memory) ⌝ }
-    ensures { λ r. ⌜ Judged (anyTest (now (table .entry)) (terms .allowed) (terms .constraints) levels
-        (stepped (now (table .entry)) (terms .constraints) (credential (now (table .entry)) (suc place) .role) states)
-        person place) above r
-        × Remembered (now (table .entry)) (terms .allowed) (terms .constraints) (now (memory .exit)) ⌝ }
+    requires { ⌜ Remembered (now table) (terms .allowed) (terms .constraints) (terms .owed) (now memory) ⌝ }
+    ensures { λ r. ⌜ Sought (terms .owed) (anyTest (now (table .entry)) (terms .allowed) (terms .constraints) (terms .owed) levels
+        (stepped (now (table .entry)) (bitOr (terms .constraints) (terms .owed))
+        (credential (now (table .entry)) (suc place) .role) states) person place) above wanted (r .found) (r .met)
+        × Remembered (now (table .entry)) (terms .allowed) (terms .constraints) (terms .owed) (now (memory .exit)) ⌝ }
 {
-    let below = goals::stepped(table, arcs, terms.constraints, place, states);
+    let below = goals::stepped(table, arcs, terms.constraints | terms.owed, place, states);
     if goals::any_dead(terms.constraints, below.dead) {
         return failed(Above::nothing());
     }
+    let most = goals::left_owed(terms.owed, below.dead);
     let n = layout::credentials(table);
+    let mut found = Family::none();
     let mut met = Above::nothing();
     let mut i = 0;
     while i < n {
@@ -126,14 +213,15 @@ fn seek_below(
                 above,
                 memory,
             );
-            if answer.proved {
-                return proved();
+            found = found.or(answer.found);
+            if goals::is_enough(found, most, wanted) {
+                return answered(found, Above::nothing());
             }
             met = failures::joined(met, answer.met);
         }
         i += 1;
     }
-    failed(met)
+    answered(found, met)
 }
 
 // Credential i + 1 proves the goal, with some middle; so many levels are left for what it asks.
@@ -152,22 +240,17 @@ pub fn seek_through(
 ) -> Answer
     requires { ⌜ Searched (now table) (now index) (now arcs) (now rows) (terms .allowed) levels (terms .last) ⌝ }
     requires { ⌜ Tried (now table) person i ⌝ }
-    requires { ⌜ Remembered (now table) (terms .allowed) (terms .constraints) (now memory) ⌝ }
-    ensures { λ r. ⌜ Judged (ownTest (now (table .entry)) (terms .allowed) (terms .constraints) levels states person i) above r
-        × Remembered (now (table .entry)) (terms .allowed) (terms .constraints) (now (memory .exit)) ⌝ }
+    requires { ⌜ Remembered (now table) (terms .allowed) (terms .constraints) (terms .owed) (now memory) ⌝ }
+    ensures { λ r. ⌜ Judged (terms .owed) (ownTest (now (table .entry)) (terms .allowed) (terms .constraints) (terms .owed) levels states person i) above (r .found) (r .met)
+        × Remembered (now (table .entry)) (terms .allowed) (terms .constraints) (terms .owed) (now (memory .exit)) ⌝ }
 {
     let credential = layout::credential(table, i + 1);
     let kind = credential.kind;
     match kind {
-        SIMPLE_MEMBERSHIP => found(goals::ends_word(
-            table,
-            index,
-            arcs,
-            terms.constraints,
-            person,
-            i,
-            states,
-        )),
+        SIMPLE_MEMBERSHIP => answered(
+            goals::ends_word(table, index, arcs, terms, person, i, states),
+            Above::nothing(),
+        ),
         SIMPLE_CONTAINMENT => seek_parts(
             table,
             index,
@@ -228,12 +311,27 @@ fn seek_parts(
     requires { ⌜ Searched (now table) (now index) (now arcs) (now rows) (terms .allowed) levels (terms .last) ⌝ }
     requires { ⌜ Tried (now table) person i ⌝ }
     requires { ⌜ (credential (now table) (suc i) .kind ≡ 2) ⊎ (credential (now table) (suc i) .kind ≡ 4) ⌝ }
-    requires { ⌜ Remembered (now table) (terms .allowed) (terms .constraints) (now memory) ⌝ }
-    ensures { λ r. ⌜ Judged (ownTest (now (table .entry)) (terms .allowed) (terms .constraints) levels states person i) above r
-        × Remembered (now (table .entry)) (terms .allowed) (terms .constraints) (now (memory .exit)) ⌝ }
+    requires { ⌜ Remembered (now table) (terms .allowed) (terms .constraints) (terms .owed) (now memory) ⌝ }
+    ensures { λ r. ⌜ Judged (terms .owed) (ownTest (now (table .entry)) (terms .allowed) (terms .constraints) (terms .owed) levels states person i) above (r .found) (r .met)
+        × Remembered (now (table .entry)) (terms .allowed) (terms .constraints) (terms .owed) (now (memory .exit)) ⌝ }
 {
     if !goals::are_listed(index, rows, terms.last, person, i, levels) {
         return failed(Above::nothing());
+    }
+    if terms.owed != 0 {
+        let asked = asking::roles_asked(table, index, person, i);
+        return seek_shared(
+            table,
+            index,
+            arcs,
+            rows,
+            terms,
+            asked,
+            levels,
+            states,
+            above,
+            memory,
+        );
     }
     let mut k = 0;
     while k < 4 {
@@ -251,7 +349,7 @@ fn seek_parts(
                 above,
                 memory,
             );
-            if !answer.proved {
+            if answer.found.is_none() {
                 return failed(answer.met);
             }
         }
@@ -277,13 +375,14 @@ fn seek_linked(
     requires { ⌜ Searched (now table) (now index) (now arcs) (now rows) (terms .allowed) levels (terms .last) ⌝ }
     requires { ⌜ Tried (now table) person i ⌝ }
     requires { ⌜ credential (now table) (suc i) .kind ≡ 3 ⌝ }
-    requires { ⌜ Remembered (now table) (terms .allowed) (terms .constraints) (now memory) ⌝ }
-    ensures { λ r. ⌜ Judged (ownTest (now (table .entry)) (terms .allowed) (terms .constraints) levels states person i) above r
-        × Remembered (now (table .entry)) (terms .allowed) (terms .constraints) (now (memory .exit)) ⌝ }
+    requires { ⌜ Remembered (now table) (terms .allowed) (terms .constraints) (terms .owed) (now memory) ⌝ }
+    ensures { λ r. ⌜ Judged (terms .owed) (ownTest (now (table .entry)) (terms .allowed) (terms .constraints) (terms .owed) levels states person i) above (r .found) (r .met)
+        × Remembered (now (table .entry)) (terms .allowed) (terms .constraints) (terms .owed) (now (memory .exit)) ⌝ }
 {
     let n = layout::credentials(table);
     let row = goals::row_of(levels, terms.last);
     let first = members::asked_cell(index, i, 0);
+    let mut found = Family::none();
     let mut met = Above::nothing();
     let mut j = 0;
     while j < n {
@@ -304,14 +403,15 @@ fn seek_linked(
                 above,
                 memory,
             );
-            if link.proved {
-                return proved();
+            found = found.or(link.found);
+            if found.has(terms.owed) {
+                return answered(found, Above::nothing());
             }
             met = failures::joined(met, link.met);
         }
         j += 1;
     }
-    failed(met)
+    answered(found, met)
 }
 
 // The principal at `middle` is in the role at `first`, and the one at `person` in the role at `second`.
@@ -332,11 +432,26 @@ fn seek_link(
 ) -> Answer
     requires { ⌜ Searched (now table) (now index) (now arcs) (now rows) (terms .allowed) levels (terms .last) ⌝ }
     requires { ⌜ Stands (now table) middle first × Stands (now table) person second ⌝ }
-    requires { ⌜ Remembered (now table) (terms .allowed) (terms .constraints) (now memory) ⌝ }
-    ensures { λ r. ⌜ Judged (linkTest (now (table .entry)) (terms .allowed) (terms .constraints) levels states
-        middle first person second) above r
-        × Remembered (now (table .entry)) (terms .allowed) (terms .constraints) (now (memory .exit)) ⌝ }
+    requires { ⌜ Remembered (now table) (terms .allowed) (terms .constraints) (terms .owed) (now memory) ⌝ }
+    ensures { λ r. ⌜ Judged (terms .owed) (sharedTest (now (table .entry)) (terms .allowed) (terms .constraints) (terms .owed)
+        levels states (pair middle first ∷ pair person second ∷ [])) above (r .found) (r .met)
+        × Remembered (now (table .entry)) (terms .allowed) (terms .constraints) (terms .owed) (now (memory .exit)) ⌝ }
 {
+    if terms.owed != 0 {
+        let asked = asking::link_asked(middle, first, person, second);
+        return seek_shared(
+            table,
+            index,
+            arcs,
+            rows,
+            terms,
+            asked,
+            levels,
+            states,
+            above,
+            memory,
+        );
+    }
     let answer = seek_goal(
         table,
         index,
@@ -350,7 +465,7 @@ fn seek_link(
         above,
         memory,
     );
-    if !answer.proved {
+    if answer.found.is_none() {
         return failed(answer.met);
     }
     seek_goal(
@@ -368,30 +483,107 @@ fn seek_link(
     )
 }
 
-fn proved() -> Answer
-    ensures { λ r. ⌜ r .proved ≡ true ⌝ }
+// All goals that are asked, which share out what is owed: two of them may meet two different automata, also where they are the same
+// goal twice. The same goal is sought once.
+fn seek_shared(
+    table: &[Number],
+    index: &[u8],
+    arcs: &[StateSet],
+    rows: &[CredentialSet],
+    terms: Terms,
+    asked: Asked,
+    levels: usize,
+    states: StateSets,
+    above: Above,
+    memory: &mut [u32],
+) -> Answer
+    requires { ⌜ Searched (now table) (now index) (now arcs) (now rows) (terms .allowed) levels (terms .last) ⌝ }
+    requires { ⌜ Fits asked × AllStand (now table) (askedPairs asked) ⌝ }
+    requires { ⌜ Remembered (now table) (terms .allowed) (terms .constraints) (terms .owed) (now memory) ⌝ }
+    ensures { λ r. ⌜ Judged (terms .owed) (sharedTest (now (table .entry)) (terms .allowed) (terms .constraints) (terms .owed)
+        levels states (askedPairs asked)) above (r .found) (r .met)
+        × Remembered (now (table .entry)) (terms .allowed) (terms .constraints) (terms .owed) (now (memory .exit)) ⌝ }
+{
+    let mut each = [Family::none(); layout::MOST_PARTS];
+    let mut found = Family::only(0);
+    let mut met = Above::nothing();
+    let mut k = asked.len;
+    while 0 < k {
+        k -= 1;
+        let answer = seek_asked(
+            table, index, arcs, rows, terms, asked, k, each, met, levels, states, above, memory,
+        );
+        let one = answer.found;
+        if one.is_none() {
+            return failed(answer.met);
+        }
+        each[k] = one;
+        met = failures::joined(answer.met, met);
+        found = goals::trimmed(one.joined(found), terms.owed);
+    }
+    answered(found, met)
+}
+
+// Goal k of those that are asked, where `each` has what the later ones can meet: it is sought unless one of them is the same.
+fn seek_asked(
+    table: &[Number],
+    index: &[u8],
+    arcs: &[StateSet],
+    rows: &[CredentialSet],
+    terms: Terms,
+    asked: Asked,
+    k: usize,
+    each: [Family; layout::MOST_PARTS],
+    met: Above,
+    levels: usize,
+    states: StateSets,
+    above: Above,
+    memory: &mut [u32],
+) -> Answer
+    requires { ⌜ Searched (now table) (now index) (now arcs) (now rows) (terms .allowed) levels (terms .last) ⌝ }
+    requires { ⌜ Fits asked × AllStand (now table) (askedPairs asked) ⌝ }
+    requires { ⌜ (k < asked .len) × (length each ≡ mostParts) ⌝ }
+    requires { ⌜ LaterJudged (now table) (terms .allowed) (terms .constraints) (terms .owed) levels states asked (suc k) above each met ⌝ }
+    requires { ⌜ Remembered (now table) (terms .allowed) (terms .constraints) (terms .owed) (now memory) ⌝ }
+    ensures { λ r. ⌜ Judged (terms .owed) (goalTest (now (table .entry)) (terms .allowed) (terms .constraints) (terms .owed)
+        levels states (getD (asked .persons) k 0) (getD (asked .places) k 0)) above (r .found) (r .met)
+        × Remembered (now (table .entry)) (terms .allowed) (terms .constraints) (terms .owed) (now (memory .exit)) ⌝ }
+{
+    let same = asked.same_later(k);
+    if same != k {
+        return answered(each[same], met);
+    }
+    let persons = asked.persons;
+    let places = asked.places;
+    seek_goal(
+        table, index, arcs, rows, terms, persons[k], places[k], levels, states, above, memory,
+    )
+}
+
+fn answered(found: Family, met: Above) -> Answer
+    ensures { λ r. ⌜ (r .found ≡ found) × (r .met ≡ met) ⌝ }
 {
     Answer {
-        proved: true,
+        found: found,
+        met: met,
+    }
+}
+
+// Nothing is owed, so there is nothing to be met.
+fn proved() -> Answer
+    ensures { λ r. ⌜ FamilyOf (eqb 0) (r .found) × (r .met ≡ nothingAbove) ⌝ }
+{
+    Answer {
+        found: Family::only(0),
         met: Above::nothing(),
     }
 }
 
 fn failed(met: Above) -> Answer
-    ensures { λ r. ⌜ (r .proved ≡ false) × (r .met ≡ met) ⌝ }
+    ensures { λ r. ⌜ FamilyOf (λ X. false) (r .found) × (r .met ≡ met) ⌝ }
 {
     Answer {
-        proved: false,
+        found: Family::none(),
         met: met,
-    }
-}
-
-// What is found without looking at the branch.
-fn found(proved: bool) -> Answer
-    ensures { λ r. ⌜ (r .proved ≡ proved) × (r .met ≡ nothingAbove) ⌝ }
-{
-    Answer {
-        proved: proved,
-        met: Above::nothing(),
     }
 }
