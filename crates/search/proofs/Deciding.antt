@@ -3,21 +3,26 @@
 use mathlib.Core.Path.{_≡_, refl, sym, ap, _∙_}
 use mathlib.Core.List.{List}
 use mathlib.Core.Bool.{Bool, true, false, not}
-use Prim.Native.Nat.{ℕ, zero, suc, _+_, _-_, _^_}
+use Prim.Native.Nat.{ℕ, zero, suc, _+_, _-_, _^_, _<_, _≤_}
+use native.Mathlib.Omega.{arith}
 use native.Mathlib.Numerals.{add-one, sub-one}
-use lib.Bits.{bitOr}
+use lib.Bits.{bitOr, or-lt}
+use lib.Pow.{pow-lt}
 use lib.Dec.{eqb}
 use borrow.Author.Tests.{eq-eqb, ne-eqb}
 use Rattle.sets.specs.Logic.{_and_, _or_, pick}
 use Rattle.sets.specs.Sets.{inSet, setOf}
 use Rattle.sets.proofs.Tests.{and-both, and-is, and-is-off, failed, passed}
 use Rattle.sets.proofs.Members.{set-more, set-not}
-use Rattle.table.specs.Layout.{credential}
+use Rattle.families.specs.Families.{allSets}
+use Rattle.table.specs.Layout.{Numbered, automata, automaton, credential}
+use Rattle.table.specs.declared.Automaton.{Automaton}
 use Rattle.table.specs.declared.Credential.{Credential}
 use Rattle.table.specs.declared.Query.{Query}
 use Rattle.derivation.specs.Attached.{automataOf}
 use Rattle.search.specs.Search.{provable}
-use Rattle.search.specs.Admits.{admitsBy, withEvery, withOwed, without}
+use Rattle.search.specs.Admits.{Demands, admitsBy, withEvery, withOwed, without}
+use Rattle.search.specs.declared.Terms.{Terms}
 
 -- the credentials of S among the first n that do not bear automaton k
 abbrev pub withoutTo : List ℕ → ℕ → ℕ → ℕ → ℕ
@@ -96,3 +101,40 @@ module _ (t : List ℕ) (q : Query) (S A O k : ℕ) where
 
       pub decided-imposed : not proves ≡ false → {on : Bool} → on ≡ admitsBy t q S every owed (k - 1) → on ≡ admitsBy t q S A O k
       decided-imposed proved goes = sym (by-imposing ∙ and-is (passed told proved) (sym goes))
+
+-- the terms with automaton k, by its mark, which the code has read as x
+module _ (t : List ℕ) (terms : Terms) (k : ℕ) (there : Numbered (automata t) k) (few : terms .owed < allSets)
+    (eight : automata t ≤ 8) (x : Automaton) (read : x ≡ automaton t k) where
+  next : suc (k - 1) ≡ k
+  next = omega (arith, there .first)
+
+  same-mark : automaton t (suc (k - 1)) .mark ≡ x .mark
+  same-mark = rw (next, read)
+
+  pub demands-some : x .mark ≡ 1 → (more : Terms) → more .allowed ≡ terms .allowed → more .constraints ≡ terms .constraints
+      → more .owed ≡ bitOr (terms .owed) (2 ^ (k - 1)) → more .last ≡ terms .last → Demands t terms k more
+  unfolding withEvery withOwed pick
+  demands-some one more allowed every owed last =
+      record {
+        allowed-is = allowed;
+        every-is = rw (same-mark, one) every;
+        owed-is = rw (same-mark, one) owed;
+        last-is = last;
+        few =
+            rw owed (or-lt 8 (terms .owed) (2 ^ (k - 1)) few (pow-lt {i = k - 1} {j = 8} (omega
+            (arith, there .first, there .last, eight))));
+      }
+
+  pub demands-every : (x .mark ≡ 1 → ⊥) → (more : Terms) → more .allowed ≡ terms .allowed
+      → more .constraints ≡ bitOr (terms .constraints) (2 ^ (k - 1)) → more .owed ≡ terms .owed → more .last ≡ terms .last
+      → Demands t terms k more
+  unfolding withEvery withOwed pick
+  demands-every other more allowed every owed last =
+      let marked = ne-eqb (automaton t (suc (k - 1)) .mark) 1 (λ e. other (sym same-mark ∙ e)) in
+      record {
+        allowed-is = allowed;
+        every-is = rw marked every;
+        owed-is = rw marked owed;
+        last-is = last;
+        few = rw owed few;
+      }

@@ -26,6 +26,16 @@ use Rattle.search.specs.Failing.{Bounds, Covers, Fails, Finds, Judged, S
 use Rattle.search.proofs.Sharing.{shares-less, shares-reached, shares-shows}
 use Rattle.search.proofs.Failing.{covered-both, covers-none, fails-first, fails-second}
 
+-- what two sets have in common
+pub and-left : (x y : ℕ) → part (bitAnd x y) x ≡ true
+and-left x y = part-shown _ x (λ s h. and-first _ _ (sym (inSet-and x y s) ∙ h))
+
+pub and-right : (x y : ℕ) → part (bitAnd x y) y ≡ true
+and-right x y = part-shown _ y (λ s h. and-second _ _ (sym (inSet-and x y s) ∙ h))
+
+pub part-and : (x y z : ℕ) → part x y ≡ true → part x z ≡ true → part x (bitAnd y z) ≡ true
+part-and x y z h l = part-shown x _ (λ s is. inSet-and y z s ∙ and-both (part-member x y s h is) (part-member x z s l is))
+
 -- a family without sets covers nothing
 pub none-covered : (f : Family) → FamilyOf (λ X. false) f → (X : ℕ) → covers f X ≡ false
 none-covered f none X =
@@ -202,7 +212,7 @@ module _ {G : Type 0} (O : ℕ) (at : Above → G → ℕ → Bool) {above : Abo
             let by = shares-shows (at b) O g goals X h in
             let Y = bitAnd X (by .first) in
             let Z = bitAnd X (by .others) in
-            let in-O = λ (W : ℕ). part-trans (bitAnd X W) X O (and-left X W) owed in
+            let in-O : (W : ℕ) → part (bitAnd X W) O ≡ true = λ W. part-trans (bitAnd X W) X O (and-left X W) owed in
             let in-f = caught (λ b. at b g Y) f Y met (one .bounds Y (in-O (by .first))) (fails-first met met′ both joined) b wide covers
             (less b (by .first) Y (and-right X (by .first)) (by .proves-first)) in
             let in-rest = caught (λ b. shares (at b) O goals Z) rest Z met′ (others .bounds Z (in-O (by .others))) (fails-second met met′ both joined) b wide covers
@@ -211,12 +221,6 @@ module _ {G : Type 0} (O : ℕ) (at : Above → G → ℕ → Bool) {above : Abo
             ∙ covers-joined f rest r all X Y Z (both-cover X (by .first) (by .others) (by .together)) in-f in-rest));
       }
     where
-      and-left : (x y : ℕ) → part (bitAnd x y) x ≡ true
-      and-left x y = part-shown _ x (λ s h. and-first _ _ (sym (inSet-and x y s) ∙ h))
-
-      and-right : (x y : ℕ) → part (bitAnd x y) y ≡ true
-      and-right x y = part-shown _ y (λ s h. and-second _ _ (sym (inSet-and x y s) ∙ h))
-
       both-cover : (x y z : ℕ) → part x (bitOr y z) ≡ true → part x (bitOr (bitAnd x y) (bitAnd x z)) ≡ true
       both-cover x y z h =
           part-shown x _ (λ s is.

@@ -12,6 +12,7 @@ pub mod Testing
 pub mod Judging
 pub mod Leaving
 pub mod Below
+pub mod Answering
 pub mod Starting
 pub mod Deriving
 pub mod Searching

@@ -3,19 +3,26 @@ use mathlib.Core.Path.{_≡_, refl, sym, ap, _∙_}
 use mathlib.Core.List.{List}
 use mathlib.Core.Bool.{Bool, true, false, not}
 use Prim.Native.Nat.{ℕ, _<_, _≤_}
+use native.Mathlib.Omega.{arith}
 use lib.ListN.{getD}
-use lib.Bits.{bitAnd}
+use lib.Bits.{bitAnd, bitXor, and-le-l}
 use lib.Dec.{eqb}
-use borrow.Author.Tests.{eq-eqb, le-ltb, lt-ltb, ne-eqb}
+use borrow.Author.Tests.{eq-eqb, eqb-true, le-ltb, lt-ltb, ne-eqb}
 use Rattle.sets.specs.Logic.{_and_, pick}
 use Rattle.sets.specs.Sets.{inSet, part}
-use Rattle.sets.proofs.Tests.{and-is, and-is-off, failed, passed}
+use Rattle.sets.proofs.Tests.{and-first, and-is, and-is-off, and-none, and-second, failed, false-true, passed}
+use Rattle.sets.proofs.Members.{inSet-and, part-le, part-shown, part-trans}
+use Rattle.sets.proofs.Without.{inSet-xor}
+use Rattle.families.specs.Families.{FamilyOf, allSets, inFamily}
+use Rattle.families.specs.declared.Family.{Family}
+use Rattle.families.proofs.Covering.{covers-only, covers-shows}
 use Rattle.table.specs.declared.Role.{Role}
-use Rattle.automata.specs.Together.{acceptingSet, movedOn}
+use Rattle.automata.specs.Together.{movedOn}
 use Rattle.automata.specs.declared.Moved.{Moved}
 use Rattle.automata.specs.declared.StateSets.{StateSets}
 use Rattle.members.specs.Members.{lesser, roleCell}
 use Rattle.search.specs.Search.{stepped, steppedOn, usable}
+use Rattle.search.specs.Failing.{Left, Trimmed}
 
 -- three tests, one after the other
 module _ {one a : Bool} (first : one ≡ a) where
@@ -61,13 +68,64 @@ module _ (t : List ℕ) (A : ℕ) (r : Role) (s : StateSets) where
   unfolding steppedOn
   steps e = ap (λ (y : Moved). y .states) e
 
--- a simple membership names another principal, or the word ends there
-module _ (named person : ℕ) {cell : ℕ} where
-  pub other-named : (word : Bool) → (cell ≡ person → ⊥) → cell ≡ named → false ≡ (eqb named person and word)
-  other-named word other e = sym (and-is-off word (ne-eqb named person (λ same. other (e ∙ same))))
+-- a simple membership names another principal; or it names this one, and the word that ends there is accepted by the imposed
+-- automata or not
+abbrev wordMeets : ℕ → ℕ → ℕ → ℕ → ℕ → ℕ → Bool
+wordMeets named person A O acc X = eqb named person and part A acc and eqb (bitAnd O acc) X
 
-  pub word-ends : (t : List ℕ) (A accepting : ℕ) (s : StateSets) → cell ≡ person → cell ≡ named → accepting ≡ acceptingSet t s
-      → eqb (bitAnd A accepting) A ≡ (eqb named person and part A (acceptingSet t s))
-  unfolding part
-  word-ends t A accepting s same e read =
-      ap (λ x. eqb (bitAnd A x) A) read ∙ sym (and-is (eq-eqb named person (sym e ∙ same)) refl)
+module _ (named person : ℕ) {cell : ℕ} (e : cell ≡ named) (A O acc : ℕ) (found : Family) where
+
+  pub other-named : (cell ≡ person → ⊥) → FamilyOf (λ X. false) found → FamilyOf (wordMeets named person A O acc) found
+  other-named other none X few = none X few ∙ sym (and-is-off _ (ne-eqb named person (λ same. other (e ∙ same))))
+
+  module _ (same : cell ≡ person) {accepting : ℕ} (read : accepting ≡ acc) where
+    pub word-rejected : (bitAnd A accepting ≡ A → ⊥) → FamilyOf (λ X. false) found → FamilyOf (wordMeets named person A O acc) found
+    unfolding part
+    word-rejected rejected none X few =
+        none X few ∙ sym (and-none _ (and-is-off _ (ne-eqb (bitAnd A acc) A (λ all. rejected (rw read all)))))
+
+    pub word-ends : bitAnd A accepting ≡ A → FamilyOf (eqb (bitAnd O accepting)) found → FamilyOf (wordMeets named person A O acc) found
+    unfolding part
+    word-ends all only X few =
+        only X few
+        ∙ ap (λ x. eqb (bitAnd O x) X) read
+        ∙ sym (and-is (eq-eqb named person (sym e ∙ same)) (and-is (eq-eqb (bitAnd A acc) A (rw read at all)) refl))
+
+-- what is met of the owed automata is no more than they are
+pub and-few : (O x : ℕ) → O < allSets → bitAnd O x < allSets
+and-few O x few = let l = and-le-l O x in omega (arith, few)
+
+-- the family, or O alone where the family has it
+pub trimmed-one : (found rest : Family) (O : ℕ) → O < allSets → {has : Bool} → has ≡ inFamily found O → has ≡ true
+    → FamilyOf (eqb O) rest → Trimmed found O rest
+trimmed-one found rest O few e on only =
+    record {
+      fewer = λ X less is. rw (eqb-true O X (sym (only X less) ∙ is)) at (sym e ∙ on);
+      alike = λ inside X h.
+          let (Y, less, is, part-of) = covers-shows found X h in
+          covers-only rest O few only X ∙ part-trans X Y O part-of (inside Y less is);
+    }
+
+pub trimmed-none : (found : Family) (O : ℕ) → Trimmed found O found
+trimmed-none found O = record { fewer = λ X less is. is; alike = λ inside X h. h }
+
+-- the owed automata that are not dead
+pub left-those : (O dead : ℕ) → O < allSets → Left O dead (bitXor O (bitAnd O dead))
+unfolding pick
+left-those O dead few = record { few = let l = part-le (bitXor O (bitAnd O dead)) O less in omega (arith, few); lost = lost }
+  where
+    less : part (bitXor O (bitAnd O dead)) O ≡ true
+    less =
+        part-shown _ O (λ k h.
+        go k (inSet (bitAnd O dead) k) refl (sym (inSet-xor O (bitAnd O dead) k) ∙ h))
+      where
+        go : (k : ℕ) (b : Bool) → inSet (bitAnd O dead) k ≡ b → pick b (not (inSet O k)) (inSet O k) ≡ true → inSet O k ≡ true
+        go k true e h = and-first _ _ (sym (inSet-and O dead k) ∙ e)
+        go k false e h = h
+
+    lost : (k : ℕ) → inSet O k ≡ true → inSet (bitXor O (bitAnd O dead)) k ≡ false → inSet dead k ≡ true
+    lost k owed out = go (inSet (bitAnd O dead) k) refl (sym (inSet-xor O (bitAnd O dead) k) ∙ out)
+      where
+        go : (b : Bool) → inSet (bitAnd O dead) k ≡ b → pick b (not (inSet O k)) (inSet O k) ≡ false → inSet dead k ≡ true
+        go true e h = and-second _ _ (sym (inSet-and O dead k) ∙ e)
+        go false e h = absurd (false-true (sym h ∙ owed))

@@ -1,5 +1,5 @@
 -- `search::admission::admits_by` and `admits_under` meet their contracts: automaton k is decided here, done without by the one or
--- imposed, and those below it by the calls. The measures are twice k, and one more. Assumes nothing.
+-- met, and those below it by the calls. The measures are twice k, and one more. Assumes nothing.
 use mathlib.Core.Path.{_≡_, _∙_, refl, sym}
 use mathlib.Core.Bool.{false}
 use Prim.Native.Nat.{ℕ, _*_, _+_, _-_, _<_, _≤_}
@@ -7,7 +7,8 @@ use native.Mathlib.Omega.{arith}
 use denote.Ref.{now}
 use borrow.Author.Needs.{needs}
 use Rattle.sets.proofs.Tests.{and-is, and-is-off, failed, passed}
-use Rattle.table.specs.Limits.{mostAutomata}
+use Rattle.families.specs.Families.{allSets}
+use Rattle.table.specs.Layout.{automata}
 use Rattle.derivation.specs.Attached.{automataOf}
 use Rattle.derivation.proofs.Above.{depth-fits, depth-some}
 use Rattle.members.specs.Members.{Members, tableCells}
@@ -25,10 +26,10 @@ use Rattle.search.proofs.admission.admits_under.Kinds as admits-under-k
 use Rattle.search.proofs.admission.+admits_by+admits_under.Lts-admits_under as admits-under-lts
 use Rattle.derivation.proofs.automata_of.Reads as automata-of-reads
 use Rattle.members.proofs.fill.Reads as fill-reads
+use Rattle.search.proofs.admission.with_automaton.Reads as with-automaton-reads
 use Rattle.search.proofs.admission.without.Reads as without-reads
 use Rattle.search.proofs.provable.Reads as provable-reads
 use Rattle.sets.proofs.has_16.Reads as has-16-reads
-use Rattle.sets.proofs.with_16.Reads as with-16-reads
 use Rattle.table.proofs.layout.wide.Reads as wide-reads
 use Rattle.search.proofs.admission.+admits_by+admits_under.{statement}
 use Rattle.search.proofs.admission.+admits_by+admits_under.Tie.{close}
@@ -37,7 +38,7 @@ abbrev μ-admits-by : Measures 4 admits-by-kinds.ps ℕ
 μ-admits-by κs a = 2 * (a .1 .1 .1 .1 .1 .1 .1 .0)
 
 abbrev μ-admits-under : Measures 3 admits-under-kinds.ps ℕ
-μ-admits-under κs a = 2 * (a .1 .1 .1 .1 .1 .1 .0) + 1
+μ-admits-under κs a = 2 * (a .1 .1 .1 .1 .1 .1 .1 .0) + 1
 
 abbrev admits-by-at : ℕ → In 4 admits-by-kinds.ps
 admits-by-at t = and 4 admits-by-kinds.ps (is 4 admits-by-kinds.ps μ-admits-by t) admits-by.Pre
@@ -68,8 +69,8 @@ admits-by-claims t = (
   without-reads.Learnt,
   admits-under-below t,
   admits-under.Post,
-  with-16-reads.Asked,
-  with-16-reads.Learnt,
+  with-automaton-reads.Asked,
+  with-automaton-reads.Learnt,
   provable-reads.Asked,
   provable-reads.Learnt,
 )
@@ -108,10 +109,11 @@ module _ (t : ℕ) where
       (2 * (args .k - 1) < t)
       × (Prepared (now (args .table)) (args .query) (now (args .index)) (now (args .arcs))
       × (Members (now (args .table)) (args .terms .allowed) (args .query .depth) (args .terms .last) (now (args .rows))
-      × ((args .borne ≡ automataOf (now (args .table)) (args .terms .allowed)) × (args .k - 1 ≤ mostAutomata))))
+      × ((args .borne ≡ automataOf (now (args .table)) (args .terms .allowed))
+      × ((args .k - 1 ≤ automata (now (args .table))) × (args .terms .owed < allSets)))))
   on-below c =
       let pre = c .before .before .before .before .before .pre in
-      (omega (arith, pre .0, c .if1 .left), (pre .1 .0, (pre .1 .1 .0, (pre .1 .1 .1 .0, omega (arith, pre .1 .1 .1 .1)))))
+      (omega (arith, pre .0, c .if1 .left), (pre .1 .0, (pre .1 .1 .0, (pre .1 .1 .1 .0, (omega (arith, pre .1 .1 .1 .1 .0), pre .1 .1 .1 .1 .1)))))
 
   -- some credential of the set bears automaton k
   is-borne : (c : admits-by-Else2) → let args = c .before .before .before .before .before .before .before .args in
@@ -122,18 +124,20 @@ module _ (t : ℕ) where
 
   -- it cannot be done without
   unspared : (c : admits-by-Else3) → let args = c .before .before .before .before .before .before .before .before .before .before .args in
-      spared (now (args .table)) (args .query) (args .terms .allowed) (args .terms .constraints) (args .k) ≡ false
+      spared (now (args .table)) (args .query) (args .terms .allowed) (args .terms .constraints) (args .terms .owed) (args .k) ≡ false
   unspared c =
-      sym (spared-told _ _ _ _ _ (c .before .before .without .ensures) (c .before .admits-under .ensures)) ∙ c .if3 .left
+      sym (spared-told _ _ _ _ _ _ (c .before .before .without .ensures) (c .before .admits-under .ensures)) ∙ c .if3 .left
 
 admits-by-returns : admits-by-needs admits-by-lts.Need-returns
-admits-by-returns t c = decided-last _ _ _ _ _ (c .if1 .taken)
+admits-by-returns t c = decided-last _ _ _ _ _ _ (c .if1 .taken)
 
 admits-by-sub-has-16 : admits-by-needs admits-by-lts.Need-sub-has-16
 admits-by-sub-has-16 t c = search needs
 
 admits-by-has-16-requires : admits-by-needs admits-by-lts.Need-has-16-requires
-admits-by-has-16-requires t c κs = search needs
+admits-by-has-16-requires t c κs =
+    let pre = c .before .before .before .before .before .pre .1 in
+    omega (arith, pre .1 .1 .1 .0, pre .0 .wellFormed .sized .counted .fewAutomata)
 
 admits-by-sub-admits-by : admits-by-needs admits-by-lts.Need-sub-admits-by
 admits-by-sub-admits-by t c = search needs
@@ -145,7 +149,7 @@ admits-by-returns-2 : admits-by-needs admits-by-lts.Need-returns-2
 admits-by-returns-2 t c =
     let else1 = c .before .before .before in
     let none = rw (on-below t else1 .1 .1 .1 .0) at (failed (c .before .before .has-16 .ensures) (c .before .if2 .taken)) in
-    c .admits-by .ensures ∙ decided-unborne _ _ _ _ _ (else1 .if1 .left) none
+    c .admits-by .ensures ∙ decided-unborne _ _ _ _ _ _ (else1 .if1 .left) none
 
 admits-by-without-requires : admits-by-needs admits-by-lts.Need-without-requires
 admits-by-without-requires t c κs = search needs
@@ -157,40 +161,55 @@ admits-by-admits-under-requires : admits-by-needs admits-by-lts.Need-admits-unde
 admits-by-admits-under-requires t c κs =
     let else1 = c .before .before .before in
     let pre = else1 .before .before .before .before .before .pre in
-    (omega (arith, pre .0, else1 .if1 .left), (pre .1 .0, omega (arith, pre .1 .1 .1 .1)))
+    (omega (arith, pre .0, else1 .if1 .left), (pre .1 .0, (omega (arith, pre .1 .1 .1 .1 .0), pre .1 .1 .1 .1 .1)))
 
 admits-by-returns-3 : admits-by-needs admits-by-lts.Need-returns-3
 admits-by-returns-3 t c =
-    let told = spared-told _ _ _ _ _ (c .before .before .without .ensures) (c .before .admits-under .ensures) in
-    decided-spared _ _ _ _ _ (is-borne t (c .before .before .before)) (sym told ∙ c .if3 .taken)
+    let told = spared-told _ _ _ _ _ _ (c .before .before .without .ensures) (c .before .admits-under .ensures) in
+    decided-spared _ _ _ _ _ _ (is-borne t (c .before .before .before)) (sym told ∙ c .if3 .taken)
 
-admits-by-sub-with-16 : admits-by-needs admits-by-lts.Need-sub-with-16
-admits-by-sub-with-16 t c = search needs
-
-admits-by-with-16-requires : admits-by-needs admits-by-lts.Need-with-16-requires
-admits-by-with-16-requires t c κs = search needs
+admits-by-with-automaton-requires : admits-by-needs admits-by-lts.Need-with-automaton-requires
+admits-by-with-automaton-requires t c κs =
+    let else1 = c .before .before .before .before .before in
+    let pre = else1 .before .before .before .before .before .pre .1 in (
+      pre .0 .wellFormed,
+      (record { first = omega (arith, else1 .if1 .left); last = pre .1 .1 .1 .0 }, pre .1 .1 .1 .1),
+    )
 
 admits-by-provable-requires : admits-by-needs admits-by-lts.Need-provable-requires
-admits-by-provable-requires t c κs = search needs
+admits-by-provable-requires t c κs =
+    let (measure, (prepared, (members, rest))) = on-below t (c .before .before .before .before .before .before) in
+    let demands = c .with-automaton .ensures in
+    (prepared, (rw (demands .allowed-is, demands .last-is) members, demands .few))
 
 admits-by-returns-4 : admits-by-needs admits-by-lts.Need-returns-4
 admits-by-returns-4 t c =
     let else3 = c .before .before .before in
-    decided-neither _ _ _ _ _ (is-borne t (else3 .before .before .before)) (unspared t else3) (c .before .before .with-16 .ensures)
-    (c .before .provable .ensures) (c .if4 .taken)
+    let demands = c .before .before .with-automaton .ensures in
+    decided-neither _ _ _ _ _ _ (is-borne t (else3 .before .before .before)) (unspared t else3) (demands .every-is)
+    (demands .owed-is) (rw (demands .allowed-is) at (c .before .provable .ensures)) (c .if4 .taken)
 
 admits-by-sub-admits-by-2 : admits-by-needs admits-by-lts.Need-sub-admits-by-2
 admits-by-sub-admits-by-2 t c = search needs
 
 admits-by-admits-by-requires-2 : admits-by-needs admits-by-lts.Need-admits-by-requires-2
-admits-by-admits-by-requires-2 t c κs = on-below t (c .before .before .before .before .before .before .before .before)
+admits-by-admits-by-requires-2 t c κs =
+    let (measure, (prepared, (members, (borne, (fewer, few))))) = on-below t (c .before .before .before .before .before .before .before .before) in
+    let demands = c .before .before .with-automaton .ensures in (
+      measure,
+      (
+        prepared,
+        (rw (demands .allowed-is, demands .last-is) members, (rw (demands .allowed-is) borne, (fewer, demands .few))),
+      ),
+    )
 
 admits-by-returns-5 : admits-by-needs admits-by-lts.Need-returns-5
 admits-by-returns-5 t c =
     let else3 = c .before .before .before .before in
-    decided-imposed _ _ _ _ _ (is-borne t (else3 .before .before .before)) (unspared t else3)
-    (c .before .before .before .with-16 .ensures) (c .before .before .provable .ensures) (c .before .if4 .left)
-    (c .admits-by2 .ensures)
+    let demands = c .before .before .before .with-automaton .ensures in
+    decided-imposed _ _ _ _ _ _ (is-borne t (else3 .before .before .before)) (unspared t else3) (demands .every-is)
+    (demands .owed-is) (rw (demands .allowed-is) at (c .before .before .provable .ensures)) (c .before .if4 .left)
+    (rw (demands .allowed-is) at (c .admits-by2 .ensures))
 
 -- what `admits_under` needs, whatever its measure is
 abbrev admits-under-needs :
@@ -220,7 +239,7 @@ admits-under-slice-aggregate-provable t c = search needs
 admits-under-provable-requires : admits-under-needs admits-under-lts.Need-provable-requires
 admits-under-provable-requires t c κs =
     let pre = c .before .before .before .before .before .before .before .before .pre .1 in
-    (pre .0, rw (c .before .before .before .before .wide .ensures .0) at (c .before .before .fill .ensures))
+    (pre .0, (rw (c .before .before .before .before .wide .ensures .0) at (c .before .before .fill .ensures), pre .1 .1))
 
 admits-under-returns : admits-under-needs admits-under-lts.Need-returns
 admits-under-returns t c = sym (and-is-off _ (failed (c .before .provable .ensures) (c .if1 .taken)))
@@ -255,8 +274,7 @@ pub +admits-by+admits-under-spec : {M : Type 1} → statement M
     (admits-by-sub-admits-under t)
     (admits-by-admits-under-requires t)
     (admits-by-returns-3 t)
-    (admits-by-sub-with-16 t)
-    (admits-by-with-16-requires t)
+    (admits-by-with-automaton-requires t)
     (admits-by-provable-requires t)
     (admits-by-returns-4 t)
     (admits-by-sub-admits-by-2 t)
