@@ -19,7 +19,7 @@ ghost use Rattle.listing.specs.Minimal.{bufferAfter, listing};
 ghost use Rattle.writing.specs.Writing.{recordAfter, writing};
 ghost use Rattle.bwlchareg.specs.Answer.{answered};
 
-// Rows 1 to 7: whether the table is accepted.
+// Rows 1 to 7 and 17: whether the table is accepted.
 #[no_mangle]
 pub extern "C" fn bwlchareg_check(table: &[u16], position: &mut u64) -> u32
     ensures { λ r. ⌜ answered r (now (position .exit)) ≡ tableOutcome (now (table .entry)) ⌝ }
@@ -30,7 +30,7 @@ pub extern "C" fn bwlchareg_check(table: &[u16], position: &mut u64) -> u32
     }
 }
 
-// Rows 1 to 8: whether the table is accepted and the query valid.
+// Rows 1 to 7, 17 and 8: whether the table is accepted and the query valid.
 #[no_mangle]
 pub extern "C" fn bwlchareg_check_query(
     table: &[u16],

@@ -34,7 +34,7 @@ use Rattle.listing.proofs.Whole.{buffer-accepted, buffer-refused}
 use Rattle.listing.proofs.Stopping.{passes-or-stops, request-stage, table-stage}
 
 module _ (t : List ℕ) (wf : WellFormed t) (q : Query) (valid : Valid q) where
-  -- rows 1 to 8 find nothing: the count of minimal sets is told, and they are laid into the buffer
+  -- the checks of table and query find nothing: the count of minimal sets is told, and they are laid into the buffer
   pub passes : requestOutcome t q ≡ accepted 0
   unfolding requestOutcome _andThen_
   passes = rw (wf .accepted, valid)
@@ -134,7 +134,7 @@ demand-three t q buffer table valid =
     whole : (v : ℕ) → (v ≡ count) × (count ≤ cells) → (v ≡ count) × Listed t q buffer (laid sets buffer) v
     whole v (same, room) = (same, rw same (laid-listed t wf q valid sets m buffer room))
 
--- where rows 1 to 8 refuse, every call tells that, and the buffer is unchanged
+-- where the checks of table and query refuse, every call tells that, and the buffer is unchanged
 all-stopped : (t : List ℕ) (q : Query) (rec buffer : List ℕ) (number position : ℕ) → requestOutcome t q ≡ refused number position
     → (verdict t q rec ≡ refused number position) × (listing t q (length buffer) ≡ refused number position)
     × (bufferAfter t q buffer ≡ buffer)

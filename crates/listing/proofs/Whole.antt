@@ -108,7 +108,7 @@ module _ (t : List ℕ) (q : Query) (before after : List ℕ) (found : ℕ)
   listed-told some fits =
       (rw (← held .count) (sym (listed-counted (length before) found (omega arith) fits)), held .held)
 
--- the buffer changes only where rows 1 to 8 find nothing
+-- the buffer changes only where the checks of table and query find nothing
 module _ (t : List ℕ) (q : Query) (buffer : List ℕ) where
   pub buffer-accepted : requestOutcome t q ≡ accepted 0 → bufferAfter t q buffer ≡ laid (minimalSets t q) buffer
   unfolding bufferAfter afterwards

@@ -4,7 +4,7 @@ use Prim.Native.Nat.{ℕ, _^_, _<_, _≤_}
 use mathlib.Core.Path.{_≡_}
 use mathlib.Core.List.{List}
 use mathlib.Core.Bool.{true}
-use mathlib.Core.Logic.{_↔_}
+use mathlib.Core.Logic.{_↔_, _⊎_}
 use lib.ListN.{getD, length, take}
 use Rattle.table.specs.Outcome.{Outcome}
 use Rattle.table.specs.Outcome.Outcome.{accepted, refused}
@@ -73,9 +73,13 @@ pub record DemandThree (t : List ℕ) (q : Query) (buffer : List ℕ) : Type 0 w
   pub listed : (count : ℕ) → listing t q (length buffer) ≡ accepted count
       → (count ≡ length sets) × Listed t q buffer (bufferAfter t q buffer) count
 
+-- a row from 1 to the last, or row 17, which stands among those of a table
+abbrev pub UpTo : ℕ → ℕ → Type 0
+UpTo last number = ((1 ≤ number) × (number ≤ last)) ⊎ (number ≡ 17)
+
 -- the outcome is a refusal with a number up to `last`
 abbrev pub RefusedUpTo : ℕ → Outcome → Type 0
-RefusedUpTo last outcome = (number position : ℕ) × (outcome ≡ refused number position) × (1 ≤ number) × (number ≤ last)
+RefusedUpTo last outcome = (number position : ℕ) × (outcome ≡ refused number position) × UpTo last number
 
 -- the record is refused by the first thing that applies to it
 abbrev pub RefusedFirst : List ℕ → Query → List ℕ → Type 0
@@ -88,9 +92,9 @@ pub data OneOf (A B : Type 0) : Type 0 where
   second : B → OneOf A B
 
 pub record DemandOne (t : List ℕ) (q : Query) (rec buffer : List ℕ) : Type 0 where
-  -- the table call makes the checks of rows 1 to 7, and has nothing else to tell
+  -- the table call makes the checks of rows 1 to 7 and 17, and has nothing else to tell
   pub table : OneOf (AcceptedTable t) (RefusedUpTo 7 (tableOutcome t))
-  -- verifying and listing make the checks of rows 1 to 8 first, and what these refuse leaves the buffer unchanged
+  -- verifying and listing make these and row 8 first, and what these refuse leaves the buffer unchanged
   pub request : OneOf (AcceptedTable t × Valid q) (RefusedUpTo 8 (requestOutcome t q))
   pub stopped : (number position : ℕ) → requestOutcome t q ≡ refused number position
       → (verdict t q rec ≡ refused number position)

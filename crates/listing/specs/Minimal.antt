@@ -29,15 +29,15 @@ minimalSets t q = those (isMinimal t q) (2 ^ credentials t)
 unfoldable pub counted : ℕ → ℕ → Outcome
 counted cells count = demand (not (eqb count 0)) 9 0 andThen demand (leb count cells) 10 0 andThen accepted count
 
--- past rows 1 to 8: what is told, and what the buffer holds afterwards
+-- past the checks of table and query: what is told, and what the buffer holds afterwards
 abbrev pub Tells : List ℕ → Query → List ℕ → List ℕ → Outcome → Type 0
 Tells t q before after o = (o ≡ counted (length before) (length (minimalSets t q))) × (after ≡ laid (minimalSets t q) before)
 
--- rows 1 to 8, then 9, 10 or the count
+-- rows 1 to 7, 17 and 8, then 9, 10 or the count
 unfoldable pub listing : List ℕ → Query → ℕ → Outcome
 listing t q cells = requestOutcome t q andThen counted cells (length (minimalSets t q))
 
--- the buffer changes only where rows 1 to 8 find nothing; with no minimal set nothing is laid
+-- the buffer changes only where the checks of table and query find nothing; with no minimal set nothing is laid
 unfoldable pub afterwards : Outcome → List ℕ → List ℕ → List ℕ
 afterwards (accepted value) sets buffer = laid sets buffer
 afterwards (refused number position) sets buffer = buffer

@@ -21,7 +21,7 @@ use Rattle.automata.specs.Automata.{accepts}
 use Rattle.derivation.specs.Rules.{goalOf}
 use Rattle.derivation.specs.Forest.{Forest, countFrom, usedSet}
 use Rattle.derivation.specs.Forest.Forest.{end, node}
-use Rattle.derivation.specs.Words.{acceptsAll, met, usesAutomaton, words}
+use Rattle.derivation.specs.Words.{isMet, met, usesAutomaton, words}
 use Rattle.verifier.specs.Reading.{Reading, reader}
 use Rattle.verifier.specs.Reading.Reading.{read, stop}
 use Rattle.verifier.specs.Verdict.{verdict}
@@ -49,18 +49,18 @@ atEachUse t k test above (node c m children siblings) =
 
 -- 1. An automaton starts at its own credential's node: it reads the words as they go on from there
 unfoldable pub metFromOwnNode : List ℕ → Forest → ℕ → Bool
-metFromOwnNode t f k = atEachUse t k (λ above below. acceptsAll t k (words t [] below)) [] f
+metFromOwnNode t f k = atEachUse t k (λ above below. isMet t k (words t [] below)) [] f
 
 -- 2. Only the words that pass through the constrained credential are tested, each from the goal on
 unfoldable pub metThroughOwnNode : List ℕ → Forest → ℕ → Bool
-metThroughOwnNode t f k = atEachUse t k (λ above below. acceptsAll t k (words t above below)) [] f
+metThroughOwnNode t f k = atEachUse t k (λ above below. isMet t k (words t above below)) [] f
 
 -- 3. The automata of credentials that the record does not use are imposed: all that the table attaches to some credential
 unfoldable pub isAttached : List ℕ → ℕ → Bool
 isAttached t k = anyBelow (λ c. eqb (credential t (suc c) .automaton) k) (credentials t)
 
 unfoldable pub metUsedOrNot : List ℕ → Forest → ℕ → Bool
-metUsedOrNot t f k = not (isAttached t k) or acceptsAll t k (words t [] f)
+metUsedOrNot t f k = not (isAttached t k) or isMet t k (words t [] f)
 
 -- 4. Minimal means fewest credentials: how many of the table's credentials are in the set
 unfoldable pub howMany : List ℕ → ℕ → ℕ
@@ -95,15 +95,15 @@ pub record Apart (isMet : List ℕ → Forest → ℕ → Bool) (t : List ℕ) (
 
 -- the shop with another automaton attached to credential 3: it accepts the words that begin with Shop.discount
 unfoldable pub discountFirst : List ℕ
-discountFirst = shop 1 (automatonOf 1 2 ∷ []) (edgeOf 1 0 1 1 1 1 ∷ edgeOf 1 1 2 0 0 1 ∷ [])
+discountFirst = shop 1 (automatonOf 1 2 0 ∷ []) (edgeOf 1 0 1 1 1 1 ∷ edgeOf 1 1 2 0 0 1 ∷ [])
 
 -- and with one that accepts the words in which Shop.accredited does not occur
 unfoldable pub notAccredited : List ℕ
-notAccredited = shop 1 (automatonOf 1 1 ∷ []) (edgeOf 1 0 3 1 3 0 ∷ [])
+notAccredited = shop 1 (automatonOf 1 1 0 ∷ []) (edgeOf 1 0 3 1 3 0 ∷ [])
 
 -- and with one that accepts the words in which School.student does not occur
 unfoldable pub notStudent : List ℕ
-notStudent = shop 1 (automatonOf 1 1 ∷ []) (edgeOf 1 0 3 2 2 0 ∷ [])
+notStudent = shop 1 (automatonOf 1 1 0 ∷ []) (edgeOf 1 0 3 2 2 0 ∷ [])
 
 -- Ann is in Shop.discount as a student of the school, which Shop has accredited: words Shop.discount Shop.accredited and
 -- Shop.discount School.student, the second through credential 3

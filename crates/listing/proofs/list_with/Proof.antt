@@ -1,4 +1,4 @@
--- `listing::list_with` meets its contract: rows 1 to 8 are those of the request, then the minimal sets are listed. Assumes
+-- `listing::list_with` meets its contract: the checks are those of the request, then the minimal sets are listed. Assumes
 -- nothing.
 use mathlib.Core.Path.{sym, ap, _∙_}
 use borrow.Author.Needs.{needs}
