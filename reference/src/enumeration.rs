@@ -10,9 +10,10 @@
 //! stands above it. Only if a best derivation comes back to a goal above is it
 //! asked again, without that goal: if none does, there are no better ones with
 //! less to choose from. Nor is it asked again where the derivation comes back
-//! with every automaton standing where it stood. Then what lies between the two
-//! is left out: the words that remain are judged as before, and nothing is used
-//! that was not.
+//! with every automaton standing where it stood, if what lies between the two can
+//! be left out. The words that remain are judged as before, and nothing is used
+//! that was not; but a word that an automaton demands may be among those that are
+//! left out, and then it is asked again.
 
 use std::collections::HashMap;
 use std::rc::Rc;
@@ -34,6 +35,16 @@ struct Place {
     levels: usize,
     /// Goals that may not occur, ascending.
     without: Vec<Goal>,
+}
+
+/// What is done about derivations of a goal's premises that come back to the goal
+/// with every automaton standing where it stood.
+#[derive(Clone, Copy, PartialEq, Eq)]
+enum Return {
+    /// They are let through. What lies between the two is left out later.
+    Open,
+    /// There may be none.
+    Shut,
 }
 
 /// An enumeration that is under way.
@@ -118,32 +129,39 @@ impl Enumeration<'_> {
         let all = Rc::clone(self.ways.entry(goal).or_insert_with(all));
         let mut pairs = Pairs::default();
         for way in all.iter() {
-            for found in self.through(place, way)?.iter() {
-                pairs.add(found.without_return(), &mut self.patience)?;
+            for found in self.way(place, way)? {
+                pairs.add(found, &mut self.patience)?;
             }
         }
         Some(pairs)
     }
 
-    /// The same, by one way. A node without premises is of kind 1: a word ends
-    /// at it. Otherwise the last premise is asked first: in a club everybody is
-    /// a friend of somebody, but few are friends of the one who is tried as a
-    /// middle.
-    fn through(&mut self, place: &Place, way: &Way) -> Option<Pairs> {
-        let rejecting = match way.premises[..] {
-            [] => self.spots[place.spot].1.rejecting(self.table),
-            _ => 0,
-        };
+    /// The same, by one way. Where a derivation comes back to its own spot, the
+    /// part to which it comes back stands in its stead, if it is as good.
+    fn way(&mut self, place: &Place, way: &Way) -> Option<Vec<Rc<Found>>> {
+        let open = self.through(place, way, Return::Open)?;
+        let cut: Vec<Rc<Found>> = open.iter().map(Found::without_return).collect();
+        let mut both = open.iter().zip(&cut);
+        if both.all(|(whole, part)| part.pair.dominates(whole.pair)) {
+            return Some(cut);
+        }
+        let shut = self.through(place, way, Return::Shut)?;
+        Some(shut.iter().cloned().collect())
+    }
+
+    /// The same, but for derivations that come back to their own spot. The last
+    /// premise is asked first: in a club everybody is a friend of somebody, but
+    /// few are friends of the one who is tried as a middle.
+    fn through(&mut self, place: &Place, way: &Way, back: Return) -> Option<Pairs> {
         let mut all = Vec::new();
         for &premise in way.premises.iter().rev() {
-            let below = self.premise(place, premise)?;
+            let below = self.premise(place, premise, back)?;
             if below.iter().next().is_none() {
                 return Some(Pairs::default());
             }
             all.push(below);
         }
-        let used = 1 << (way.credential - 1);
-        let pair = Pair { used, rejecting };
+        let pair = self.node(place, way);
         let mut pairs = Pairs::one(Found::node(pair, place.spot, way.credential, way.middle));
         for below in all.iter().rev() {
             pairs = pairs.with_premise(below, &mut self.patience)?;
@@ -151,10 +169,28 @@ impl Enumeration<'_> {
         Some(pairs)
     }
 
+    /// The pair of a node by itself. One without premises is of kind 1: a word
+    /// ends at it.
+    fn node(&self, place: &Place, way: &Way) -> Pair {
+        let standing = &self.spots[place.spot].1;
+        let (rejecting, accepting) = match way.premises[..] {
+            [] => (
+                standing.rejecting(self.table),
+                standing.accepting(self.table),
+            ),
+            _ => (0, 0),
+        };
+        Pair {
+            used: 1 << (way.credential - 1),
+            rejecting,
+            accepting,
+        }
+    }
+
     /// The best derivations of a premise of the goal at a place. They do not
     /// come back to goals that may not occur there, nor to the goal itself,
-    /// unless the automata stand as before.
-    fn premise(&mut self, place: &Place, premise: Goal) -> Option<Rc<Pairs>> {
+    /// unless the automata stand as before and this is let through.
+    fn premise(&mut self, place: &Place, premise: Goal, back: Return) -> Option<Rc<Pairs>> {
         let goal = self.spots[place.spot].0;
         if place.levels == 1 || premise == goal || place.without.contains(&premise) {
             return Some(Rc::default());
@@ -166,7 +202,7 @@ impl Enumeration<'_> {
         };
         loop {
             let pairs = self.derivations(below.clone())?;
-            let met = self.met(place, &pairs)?;
+            let met = self.met(place, &pairs, back)?;
             if met.is_empty() {
                 return Some(pairs);
             }
@@ -177,14 +213,15 @@ impl Enumeration<'_> {
 
     /// The goals to which these derivations, of a premise of the goal at a
     /// place, may not come back but do.
-    fn met(&mut self, place: &Place, pairs: &Pairs) -> Option<Vec<Goal>> {
+    fn met(&mut self, place: &Place, pairs: &Pairs, back: Return) -> Option<Vec<Goal>> {
         let own = self.spots[place.spot].0;
         let mut met = Vec::new();
         for found in pairs.iter() {
             self.patience.spend(1)?;
             for &spot in found.below() {
                 let goal = self.spots[spot].0;
-                let is_own = goal == own && spot != place.spot;
+                let is_let_through = spot == place.spot && back == Return::Open;
+                let is_own = goal == own && !is_let_through;
                 if (is_own || place.without.contains(&goal)) && !met.contains(&goal) {
                     met.push(goal);
                 }

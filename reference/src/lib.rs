@@ -9,7 +9,7 @@
 //! - [`refusal`]: why and where an input is refused
 //! - [`sorts`]: principals, role names, roles and goals
 //! - [`records`]: the head and the layout of a table (refusals 1 to 3)
-//! - [`table`]: what the records mean (refusals 4 to 7)
+//! - [`table`]: what the records mean (refusals 4 to 7, and 17)
 //! - [`query`]: what is asked of a table (refusal 8)
 //! - [`derivation`]: the tree that a proof record writes down (refusals 11 to
 //!   13)
@@ -51,21 +51,27 @@ pub mod writing;
 pub use query::Query;
 pub use refusal::Refusal;
 
-/// Checks a table: refusals 1 to 7.
+/// A table of the base layout, upgraded: with mark 0 at each automaton. Where its
+/// head or its length is wrong in that layout it is refused, with 1, 2 or 3.
+pub fn upgraded(base: &[u16]) -> Result<Vec<u16>, Refusal> {
+    Ok(records::Records::upgrade(base)?.numbers())
+}
+
+/// Checks a table: refusals 1 to 7, then 17.
 pub fn check(table: &[u16]) -> Result<(), Refusal> {
     table::Table::read(table)?;
     Ok(())
 }
 
-/// Checks a table, then a query: refusals 1 to 7, then 8.
+/// Checks a table, then a query: refusals 1 to 7, then 17, then 8.
 pub fn check_query(table: &[u16], query: Query) -> Result<(), Refusal> {
     table::Table::read(table)?;
     query.read()?;
     Ok(())
 }
 
-/// Verifies a proof record: refusals 1 to 8, then 11 to 14. An accepted
-/// record is answered with its used set.
+/// Verifies a proof record: refusals 1 to 7, then 17, then 8, then 11 to 14. An
+/// accepted record is answered with its used set.
 pub fn verify(table: &[u16], query: Query, record: &[u16]) -> Result<u32, Refusal> {
     let table = table::Table::read(table)?;
     let asked = query.read()?;
@@ -75,7 +81,8 @@ pub fn verify(table: &[u16], query: Query, record: &[u16]) -> Result<u32, Refusa
 }
 
 /// Lists the minimal sets for a query in the first cells, ascending: refusals
-/// 1 to 8, then 9 and 10. An accepted list is answered with its count.
+/// 1 to 7, then 17, then 8, then 9 and 10. An accepted list is answered with its
+/// count.
 pub fn list(table: &[u16], query: Query, cells: &mut [u32]) -> Result<usize, Refusal> {
     let table = table::Table::read(table)?;
     let asked = query.read()?;
@@ -83,7 +90,8 @@ pub fn list(table: &[u16], query: Query, cells: &mut [u32]) -> Result<usize, Ref
 }
 
 /// Writes the first record of a minimal set into the first cells: refusals 1 to
-/// 8, then 15 and 16. A record that is written is answered with its length.
+/// 7, then 17, then 8, then 15 and 16. A record that is written is answered with
+/// its length.
 pub fn write(table: &[u16], query: Query, set: u32, cells: &mut [u16]) -> Result<usize, Refusal> {
     let table = table::Table::read(table)?;
     let asked = query.read()?;

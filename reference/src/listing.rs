@@ -11,7 +11,7 @@ use crate::pairs::{is_in, is_part, Pair, Witness};
 use crate::patience::Patience;
 use crate::query::Asked;
 use crate::refusal::Refusal;
-use crate::table::Table;
+use crate::table::{Demand, Table};
 
 /// A minimal set.
 #[derive(Clone, Debug)]
@@ -62,14 +62,22 @@ pub fn write(sets: &[Minimal], cells: &mut [u32]) -> Result<usize, Refusal> {
     }
 }
 
-/// Whether no automaton that is attached to a used credential rejects a word.
-fn is_accepted(table: &Table, pair: Pair) -> bool {
+/// Whether every automaton that is attached to a used credential is met.
+pub fn is_accepted(table: &Table, pair: Pair) -> bool {
     let numbered = (1u16..).zip(&table.credentials);
     let mut used = numbered.filter(|(number, _)| is_in(*number, pair.used));
     used.all(|(_, credential)| match credential.automaton {
-        Some(automaton) => !is_in(automaton, pair.rejecting),
+        Some(automaton) => is_met(table, automaton, pair),
         None => true,
     })
+}
+
+/// Whether the automaton with this number is met by a derivation of this pair.
+fn is_met(table: &Table, automaton: u16, pair: Pair) -> bool {
+    match table.automata[usize::from(automaton) - 1].demand {
+        Demand::EveryWord => !is_in(automaton, pair.rejecting),
+        Demand::SomeWord => is_in(automaton, pair.accepting),
+    }
 }
 
 /// Whether a set is a part of another, and not the whole of it.

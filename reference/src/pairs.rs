@@ -1,10 +1,12 @@
 //! What a derivation amounts to, and the best of what several amount to.
 //!
 //! All that matters of a derivation for the list is a pair: its used set, and
-//! the set of automata that reject one of its words. Whether the record is
-//! accepted can be told from the pair alone, and the pair of a derivation is
-//! made from those of its premises. The other pair of which the definition
-//! speaks, a principal and a role, is a [`Goal`](crate::sorts::Goal) here.
+//! how its words are judged. That is, which of the automata that demand every
+//! word reject one, and which of those that demand some word accept one. Whether
+//! the record is accepted can be told from the pair alone, and the pair of a
+//! derivation is made from those of its premises. The other pair of which the
+//! definition speaks, a principal and a role, is a
+//! [`Goal`](crate::sorts::Goal) here.
 
 use std::rc::Rc;
 
@@ -15,8 +17,12 @@ use crate::patience::Patience;
 pub struct Pair {
     /// The used set: credential i counts 2^(i-1).
     pub used: u32,
-    /// The automata that reject some word: automaton i counts 2^(i-1).
+    /// The automata that demand every word and reject one: automaton i counts
+    /// 2^(i-1).
     pub rejecting: u32,
+    /// The automata that demand some word and accept one: automaton i counts
+    /// 2^(i-1).
+    pub accepting: u32,
 }
 
 /// A derivation, or a part of one. Parts that occur more than once are shared,
@@ -54,15 +60,19 @@ pub struct Pairs {
 
 impl Pair {
     /// Whether the other pair can be left aside because of this one: its used
-    /// set and its rejecting set are parts of the other's.
+    /// set and its rejecting set are parts of the other's, and its accepting set
+    /// has the other's as a part.
     ///
     /// Take an accepted record with a sub-derivation of the other pair, and put
     /// a sub-derivation of this pair, of the same goal in the same place, in its
-    /// stead. The record uses no credential and breaks no automaton that it did
-    /// not before. So it is accepted too, and its used set is the same or a
+    /// stead. The record uses no credential that it did not before, no automaton
+    /// rejects a word that rejected none, and none that accepted a word accepts
+    /// none any more. So it is accepted too, and its used set is the same or a
     /// part of what it was. No minimal set is lost.
     pub fn dominates(self, other: Pair) -> bool {
-        is_part(self.used, other.used) && is_part(self.rejecting, other.rejecting)
+        is_part(self.used, other.used)
+            && is_part(self.rejecting, other.rejecting)
+            && is_part(other.accepting, self.accepting)
     }
 
     /// The pair of a derivation that consists of two parts.
@@ -70,6 +80,7 @@ impl Pair {
         Pair {
             used: self.used | other.used,
             rejecting: self.rejecting | other.rejecting,
+            accepting: self.accepting | other.accepting,
         }
     }
 }
@@ -171,7 +182,8 @@ impl Found {
 
     /// The derivation below which the spot of its first node does not come
     /// again: this one, or the part of it to which it returns. That part uses
-    /// no more, and its words are among those of the whole.
+    /// no more, and its words are judged as some of those of the whole. So it
+    /// rejects no more, but it may accept less.
     pub fn without_return(self: &Rc<Found>) -> Rc<Found> {
         let mut found = self;
         while found.below.binary_search(&self.spot).is_ok() {
@@ -251,7 +263,15 @@ mod tests {
     use super::{Found, Pair, Pairs, Patience};
 
     fn pair(used: u32, rejecting: u32) -> Pair {
-        Pair { used, rejecting }
+        judged(used, rejecting, 0)
+    }
+
+    fn judged(used: u32, rejecting: u32, accepting: u32) -> Pair {
+        Pair {
+            used,
+            rejecting,
+            accepting,
+        }
     }
 
     fn leaf(used: u32, rejecting: u32, credential: u16) -> Pairs {
@@ -293,6 +313,22 @@ mod tests {
         assert_eq!(kept((1, 1), (3, 0)), [pair(1, 1), pair(3, 0)]);
         assert_eq!(kept((1, 1), (3, 2)), [pair(1, 1), pair(3, 2)]);
         assert_eq!(kept((6, 0), (3, 0)), [pair(3, 0), pair(6, 0)]);
+    }
+
+    #[test]
+    fn a_pair_that_accepts_more_is_not_left_aside() {
+        let kept = |one: Pair, other: Pair| {
+            let [one, other] = [one, other].map(|pair| Pairs::one(Found::node(pair, 0, 1, 0)));
+            sorted(&added(&[&one, &other]))
+        };
+        let (more, less) = (judged(1, 0, 3), judged(1, 0, 1));
+        assert_eq!(kept(more, less), [more]);
+        assert_eq!(kept(less, more), [more]);
+        let (larger, rejected) = (judged(3, 0, 3), judged(1, 4, 3));
+        assert_eq!(kept(less, larger), [less, larger]);
+        assert_eq!(kept(less, rejected), [less, rejected]);
+        assert_eq!(kept(more, larger), [more]);
+        assert_eq!(more.with(judged(2, 4, 8)), judged(3, 4, 11));
     }
 
     #[test]

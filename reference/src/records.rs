@@ -1,15 +1,18 @@
-//! The head and the layout of a table: refusals 1 to 3.
+//! The head and the layout of a table: refusals 1 to 3; and the base layout, in
+//! which automata have no marks.
 
 use crate::refusal::Refusal;
 
 /// How many numbers a record of each sort has, in the order of the head.
-const SIZES: [usize; 4] = [6, 3, 2, 6];
+const SIZES: [usize; 4] = [6, 3, 3, 6];
+/// The same in the base layout.
+const BASE_SIZES: [usize; 4] = [6, 3, 2, 6];
 
 /// A credential as written: owner, name, kind, first, second, automaton.
 pub type CredentialRecord = [u16; SIZES[0]];
 /// A part cell as written: principal, name, next.
 pub type CellRecord = [u16; SIZES[1]];
-/// An automaton as written: starting set, accepting set.
+/// An automaton as written: starting set, accepting set, mark.
 pub type AutomatonRecord = [u16; SIZES[2]];
 /// An edge as written: automaton, from, label, owner, name, to.
 pub type EdgeRecord = [u16; SIZES[3]];
@@ -41,9 +44,14 @@ impl Head {
         [self.credentials, self.cells, self.automata, self.edges]
     }
 
-    /// How many numbers a table with this head has: 4 + 6n + 3q + 2a + 6e.
+    /// How many numbers a table with this head has: 4 + 6n + 3q + 3a + 6e.
     pub fn length(self) -> usize {
-        let records = self.numbers().into_iter().zip(SIZES);
+        self.length_with(SIZES)
+    }
+
+    /// The same, where the records of each sort have so many numbers.
+    fn length_with(self, sizes: [usize; 4]) -> usize {
+        let records = self.numbers().into_iter().zip(sizes);
         4 + records
             .map(|(count, size)| usize::from(count) * size)
             .sum::<usize>()
@@ -75,27 +83,28 @@ pub struct Records {
 impl Records {
     /// Takes a table apart, or refuses it for its head or its length.
     pub fn read(table: &[u16]) -> Result<Records, Refusal> {
-        let &[credentials, cells, automata, edges, ref rest @ ..] = table else {
-            return Err(Refusal::new(1, 0u64));
-        };
-        let head = Head {
-            credentials,
-            cells,
-            automata,
-            edges,
-        };
-        if !head.within_limits() {
-            return Err(Refusal::new(2, 0u64));
-        }
-        if table.len() != head.length() {
-            return Err(Refusal::new(3, 0u64));
-        }
-        let mut rest = rest.iter().copied();
+        let (head, mut rest) = parted(table, SIZES)?;
         Ok(Records {
-            credentials: take(credentials, &mut rest),
-            cells: take(cells, &mut rest),
-            automata: take(automata, &mut rest),
-            edges: take(edges, &mut rest),
+            credentials: take(head.credentials, &mut rest),
+            cells: take(head.cells, &mut rest),
+            automata: take(head.automata, &mut rest),
+            edges: take(head.edges, &mut rest),
+        })
+    }
+
+    /// Takes a table of the base layout apart, or refuses it as such for its head
+    /// or its length. Each automaton gets mark 0.
+    pub fn upgrade(base: &[u16]) -> Result<Records, Refusal> {
+        let (head, mut rest) = parted(base, BASE_SIZES)?;
+        let with_mark = |[starting, accepting]: [u16; 2]| [starting, accepting, 0];
+        Ok(Records {
+            credentials: take(head.credentials, &mut rest),
+            cells: take(head.cells, &mut rest),
+            automata: take(head.automata, &mut rest)
+                .into_iter()
+                .map(with_mark)
+                .collect(),
+            edges: take(head.edges, &mut rest),
         })
     }
 
@@ -112,14 +121,48 @@ impl Records {
 
     /// The table with these records, as a slice of it would be written.
     pub fn numbers(&self) -> Vec<u16> {
-        let head = self.head().numbers();
-        head.into_iter()
-            .chain(self.credentials.iter().flatten().copied())
-            .chain(self.cells.iter().flatten().copied())
-            .chain(self.automata.iter().flatten().copied())
-            .chain(self.edges.iter().flatten().copied())
-            .collect()
+        self.with_automata(self.automata.iter().flatten())
     }
+
+    /// The same in the base layout, which leaves out the marks.
+    pub fn base_numbers(&self) -> Vec<u16> {
+        self.with_automata(self.automata.iter().flat_map(|record| &record[..2]))
+    }
+
+    /// The table with these records, in which the automata have these numbers.
+    fn with_automata<'a>(&'a self, automata: impl Iterator<Item = &'a u16>) -> Vec<u16> {
+        let credentials = self.credentials.iter().flatten();
+        let records = credentials
+            .chain(self.cells.iter().flatten())
+            .chain(automata)
+            .chain(self.edges.iter().flatten());
+        let head = self.head().numbers();
+        head.into_iter().chain(records.copied()).collect()
+    }
+}
+
+/// The head of a table and the numbers behind it, where the records of each sort
+/// have so many numbers; or why its head or its length is refused.
+fn parted(
+    table: &[u16],
+    sizes: [usize; 4],
+) -> Result<(Head, impl Iterator<Item = u16> + '_), Refusal> {
+    let &[credentials, cells, automata, edges, ref rest @ ..] = table else {
+        return Err(Refusal::new(1, 0u64));
+    };
+    let head = Head {
+        credentials,
+        cells,
+        automata,
+        edges,
+    };
+    if !head.within_limits() {
+        return Err(Refusal::new(2, 0u64));
+    }
+    if table.len() != head.length_with(sizes) {
+        return Err(Refusal::new(3, 0u64));
+    }
+    Ok((head, rest.iter().copied()))
 }
 
 /// Takes so many records of `SIZE` numbers each from the front of the rest.

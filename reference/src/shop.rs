@@ -16,14 +16,14 @@ pub const T: [u16; 28] = [
 ];
 
 /// Table U: T with an automaton attached to credential 3, which rejects every
-/// word that begins with Shop.discount.
-pub const U: [u16; 42] = [
+/// word that begins with Shop.discount. Its mark demands every word.
+pub const U: [u16; 43] = [
     4, 0, 1, 2, //
     1, 1, 3, 3, 2, 0, //
     1, 3, 1, 2, 0, 0, //
     2, 2, 1, 4, 0, 1, //
     1, 1, 1, 4, 0, 0, //
-    1, 2, //
+    1, 2, 0, //
     1, 0, 3, 1, 1, 1, //
     1, 1, 2, 0, 0, 1, //
 ];

@@ -109,7 +109,7 @@ fn wallet() -> Records {
             [1, 2, 2, 1, 1, 0], // 8: whoever is in 1.1 is in 1.2
         ],
         cells: vec![[1, 2, 2], [1, 3, 0]],
-        automata: vec![[1, 2], [1, 1]],
+        automata: vec![[1, 2, 0], [1, 1, 0]],
         edges: vec![
             [1, 0, 1, 1, 1, 1], // of automaton 1: from 0 by 1.1 to 1
             [1, 1, 2, 0, 0, 1], // of automaton 1: from 1 by every role to 1
@@ -172,7 +172,7 @@ fn club() -> Records {
 fn limited_club() -> Records {
     let mut club = club();
     club.credentials[0][5] = 1;
-    club.automata.push([1, 1 + 2 + 4]);
+    club.automata.push([1, 1 + 2 + 4, 0]);
     club.edges.extend([[1, 0, 2, 0, 0, 1], [1, 1, 2, 0, 0, 2]]);
     club
 }
@@ -187,7 +187,7 @@ const FRIEND: Query = Query {
 
 /// As many edges as a block has room for beside eight credentials, eight automata
 /// and a record of four nodes.
-const EDGES: u16 = 71;
+const EDGES: u16 = 70;
 
 /// Two ways by which principal 7 is in 1.1, and two automata with these edges,
 /// which start in state 0 and accept in state 2. The first is for the first way,
@@ -202,7 +202,7 @@ fn fork(second: u16, edges: &[EdgeRecord]) -> Records {
             [1, 4, 1, 7, 0, 0],      // 5: principal 7 is in 1.4
         ],
         cells: vec![],
-        automata: vec![[1, 4]; 2],
+        automata: vec![[1, 4, 0]; 2],
         edges: edges.to_vec(),
     }
 }

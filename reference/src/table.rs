@@ -1,4 +1,4 @@
-//! What the records of a table mean: refusals 4 to 7.
+//! What the records of a table mean: refusals 4 to 7, and 17.
 //!
 //! A record is read into a value of its sort. Where that cannot be done, the
 //! table is refused at that record.
@@ -59,13 +59,25 @@ pub struct Cell {
     pub next: Option<u16>,
 }
 
-/// An automaton: two sets of states, in which state s counts 2^s.
+/// An automaton: two sets of states, in which state s counts 2^s, and what it
+/// demands.
 #[derive(Clone, Debug, PartialEq, Eq)]
 pub struct Automaton {
     /// The starting states.
     pub starting: u16,
     /// The accepting states.
     pub accepting: u16,
+    /// Which words of a record it must accept.
+    pub demand: Demand,
+}
+
+/// Which words of a record an automaton must accept to be met: its mark.
+#[derive(Clone, Copy, Debug, PartialEq, Eq, PartialOrd, Ord)]
+pub enum Demand {
+    /// Mark 0: every word.
+    EveryWord,
+    /// Mark 1: at least one word.
+    SomeWord,
 }
 
 /// An edge of an automaton.
@@ -98,7 +110,7 @@ impl Table {
     /// Reads a table, or refuses it at the first record that fails.
     ///
     /// All credentials are read before any cell, all cells before any chain
-    /// is followed, all chains before any edge.
+    /// is followed, all chains before any edge, all edges before any mark.
     pub fn read(table: &[u16]) -> Result<Table, Refusal> {
         let records = Records::read(table)?;
         let head = records.head();
@@ -112,7 +124,7 @@ impl Table {
             credential.chain_is_right(&cells).then_some(())
         })?;
         let edges = each(7, &records.edges, |_, record| Edge::read(record, head))?;
-        let automata = records.automata.iter().map(Automaton::read).collect();
+        let automata = each(17, &records.automata, |_, record| Automaton::read(record))?;
         Ok(Table {
             credentials,
             cells,
@@ -244,11 +256,24 @@ impl Cell {
 }
 
 impl Automaton {
-    /// The automaton that a record stands for. Any two numbers are sets.
-    fn read(&[starting, accepting]: &AutomatonRecord) -> Automaton {
-        Automaton {
+    /// The automaton that a record stands for, if it stands for one. Any two
+    /// numbers are sets.
+    fn read(&[starting, accepting, mark]: &AutomatonRecord) -> Option<Automaton> {
+        Some(Automaton {
             starting,
             accepting,
+            demand: Demand::read(mark)?,
+        })
+    }
+}
+
+impl Demand {
+    /// What a mark demands, if it is one.
+    fn read(mark: u16) -> Option<Demand> {
+        match mark {
+            0 => Some(Demand::EveryWord),
+            1 => Some(Demand::SomeWord),
+            _ => None,
         }
     }
 }

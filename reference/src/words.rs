@@ -2,24 +2,34 @@
 //!
 //! A word is the list of roles from the goal down to a kind 1 node. Every word
 //! is put before every used automaton, from its starting states on. So an
-//! automaton does not depend on where its credential stands in the tree.
+//! automaton does not depend on where its credential stands in the tree, nor on
+//! which branch the word is that it demands.
 
 use crate::derivation::Derivation;
 use crate::refusal::Refusal;
 use crate::sorts::Role;
-use crate::table::{Automaton, Table, LAST_STATE};
+use crate::table::{Automaton, Demand, Table, LAST_STATE};
 
-/// Judges all words of a derivation, or names the lowest used automaton that
-/// rejects one.
+/// Judges the words of a derivation, or names the lowest used automaton that is
+/// not met.
 pub fn comply(table: &Table, derivation: &Derivation) -> Result<(), Refusal> {
     let used_set = derivation.used_set();
     for number in (1u16..).take(table.automata.len()) {
-        let accepted = |word: &[Role]| accepts(table, number, word);
-        if is_used(table, number, used_set) && !every_word(derivation, accepted) {
+        if is_used(table, number, used_set) && !is_met(table, number, derivation) {
             return Err(Refusal::new(14, number));
         }
     }
     Ok(())
+}
+
+/// Whether the words of a derivation are as the automaton with this number
+/// demands, used or not.
+pub fn is_met(table: &Table, number: u16, derivation: &Derivation) -> bool {
+    let accepted = |word: &[Role]| accepts(table, number, word);
+    match table.automata[usize::from(number) - 1].demand {
+        Demand::EveryWord => every_word(derivation, accepted),
+        Demand::SomeWord => some_word(derivation, accepted),
+    }
 }
 
 /// Whether an automaton is attached to one of the used credentials.
@@ -27,6 +37,11 @@ fn is_used(table: &Table, automaton: u16, used_set: u32) -> bool {
     let numbered = table.credentials.iter().enumerate();
     let mut used = numbered.filter(|(index, _)| (used_set >> index) & 1 == 1);
     used.any(|(_, credential)| credential.automaton == Some(automaton))
+}
+
+/// Whether something holds of some word of a derivation.
+pub fn some_word(derivation: &Derivation, mut holds: impl FnMut(&[Role]) -> bool) -> bool {
+    !every_word(derivation, |word| !holds(word))
 }
 
 /// Whether something holds of every word of a derivation. A record may have
@@ -93,12 +108,26 @@ impl Standing {
         Standing(stepped.collect())
     }
 
-    /// The automata that reject the word of these roles: automaton i counts
-    /// 2^(i-1).
+    /// The automata that demand every word, and reject the word of these roles:
+    /// automaton i counts 2^(i-1).
     pub fn rejecting(&self, table: &Table) -> u32 {
+        self.judging(table, Demand::EveryWord, false)
+    }
+
+    /// The automata that demand some word, and accept the word of these roles:
+    /// automaton i counts 2^(i-1).
+    pub fn accepting(&self, table: &Table) -> u32 {
+        self.judging(table, Demand::SomeWord, true)
+    }
+
+    /// The automata that demand so, and accept the word of these roles or reject
+    /// it.
+    fn judging(&self, table: &Table, demand: Demand, accepted: bool) -> u32 {
         let each = self.0.iter().zip(&table.automata).enumerate();
-        let rejecting = each.filter(|(_, (reached, automaton))| !meets(reached, automaton));
-        rejecting.map(|(index, _)| 1 << index).sum()
+        let judging = each.filter(|(_, (reached, automaton))| {
+            automaton.demand == demand && meets(reached, automaton) == accepted
+        });
+        judging.map(|(index, _)| 1 << index).sum()
     }
 
     /// The automata that are dead, in no state at all: automaton i counts

@@ -22,7 +22,7 @@ fn parts() -> Records {
             [3, 1, 0],   // cell 5
             [5, 5, 0],   // cell 6: unused
         ],
-        automata: vec![[0, 65535]],
+        automata: vec![[0, 65535, 0]],
         edges: vec![
             [1, 0, 1, 1, 1, 15],  // edge 1
             [1, 15, 2, 0, 0, 0],  // edge 2

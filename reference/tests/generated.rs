@@ -56,10 +56,10 @@ fn records_written_are_read_again() {
 }
 
 #[test]
-fn the_largest_table_has_1097_numbers() {
+fn the_largest_table_has_1105_numbers() {
     let mut random = Random::new(SEED);
     let largest = valid::records(&mut random, Head::LIMITS).numbers();
-    assert_eq!(largest.len(), 1_097);
+    assert_eq!(largest.len(), 1_105);
     assert_eq!(check(&largest), Ok(()));
 }
 
@@ -88,6 +88,9 @@ fn every_count_is_at_its_ends() {
     for set in [0, u16::MAX] {
         assert!(found(|r| r.automata.iter().any(|a| a[0] == set)) > 0);
         assert!(found(|r| r.automata.iter().any(|a| a[1] == set)) > 0);
+    }
+    for mark in [0, 1] {
+        assert!(found(|r| r.automata.iter().any(|a| a[2] == mark)) > 0);
     }
 }
 
@@ -139,7 +142,7 @@ fn every_number_of_a_table_is_a_field() {
     let mut random = Random::new(SEED);
     let records = valid::records(&mut random, Head::LIMITS);
     let fields = places::fields(&records);
-    assert_eq!(fields.len(), 1_097);
+    assert_eq!(fields.len(), 1_105);
     let there: BTreeSet<Place> = fields.iter().map(|field| field.place).collect();
     let mut missing = Place::all();
     missing.retain(|place| !there.contains(place));
@@ -214,7 +217,7 @@ fn of_two_damages_the_upper_row_counts() {
         assert_eq!(refusal.number, pair[0], "{pair:?}: {table:?}");
         met.insert(pair);
     }
-    assert_eq!(met.len(), 7 * 6 / 2, "every pair of rows");
+    assert_eq!(met.len(), 8 * 7 / 2, "every pair of rows");
 }
 
 #[test]
@@ -247,7 +250,7 @@ fn noise_meets_every_refusal_of_a_record() {
     let numbers: BTreeSet<u32> = tables
         .map(|table| check(&table).err().map_or(0, |refusal| refusal.number))
         .collect();
-    assert_eq!(numbers, BTreeSet::from([0, 3, 4, 5, 6, 7]));
+    assert_eq!(numbers, BTreeSet::from([0, 3, 4, 5, 6, 7, 17]));
     assert!(noise::stump(&mut random).len() < 4);
 }
 

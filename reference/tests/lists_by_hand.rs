@@ -90,7 +90,9 @@ fn the_table_comes_first_then_the_query_then_the_list() {
     let mut wrong_kind = T;
     wrong_kind[6] = 5;
     let mut wrong_edge = U;
-    wrong_edge[38] = 4;
+    wrong_edge[39] = 4;
+    let mut wrong_mark = U;
+    wrong_mark[30] = 2;
     let wrong_cell = table(&[in_every(G, 1)], &[[1, 2, 2], [1, 2, 2]], 0, &[]);
     let wrong_chain = table(&[in_every(G, 1)], &[[1, 2, 0]], 0, &[]);
     let bad = depth(0);
@@ -103,6 +105,7 @@ fn the_table_comes_first_then_the_query_then_the_list() {
     assert_eq!(listed(&wrong_cell, bad, 2), answer(5, 2));
     assert_eq!(listed(&wrong_chain, bad, 2), answer(6, 1));
     assert_eq!(listed(&wrong_edge, bad, 2), answer(7, 2));
+    assert_eq!(listed(&wrong_mark, bad, 2), answer(17, 1));
     assert_eq!(listed(&T, bad, 2), answer(8, 4));
     assert_eq!(listed(&[0, 0, 0, 0], bad, 2), answer(8, 4));
     let first = Query { owner: 0, ..bad };

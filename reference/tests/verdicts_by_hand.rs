@@ -3,7 +3,7 @@
 
 use reference::derivation::{Derivation, NODE};
 use reference::generate::wide;
-use reference::records::{AutomatonRecord, CellRecord, CredentialRecord, EdgeRecord, Records};
+use reference::records::{CellRecord, CredentialRecord, EdgeRecord, Records};
 use reference::shop::{Q, R, T, U};
 use reference::sorts::Role;
 use reference::table::Table;
@@ -22,27 +22,33 @@ fn depth(depth: u16) -> Query {
     Query { depth, ..Q }
 }
 
+/// The starting set and the accepting set of an automaton of mark 0.
+type Sets = [u16; 2];
+
 /// The table with these records.
 fn table(
     credentials: &[CredentialRecord],
     cells: &[CellRecord],
-    automata: &[AutomatonRecord],
+    automata: &[Sets],
     edges: &[EdgeRecord],
 ) -> Vec<u16> {
+    let automata = automata.iter();
     let records = Records {
         credentials: credentials.to_vec(),
         cells: cells.to_vec(),
-        automata: automata.to_vec(),
+        automata: automata
+            .map(|&[starting, accepting]| [starting, accepting, 0])
+            .collect(),
         edges: edges.to_vec(),
     };
     records.numbers()
 }
 
 /// The shop's table T with one automaton, attached to one of the credentials.
-fn shop(credential: usize, automaton: AutomatonRecord, edges: &[EdgeRecord]) -> Vec<u16> {
+fn shop(credential: usize, [starting, accepting]: Sets, edges: &[EdgeRecord]) -> Vec<u16> {
     let mut records = Records::read(&T).expect("T is accepted");
     records.credentials[credential - 1][5] = 1;
-    records.automata.push(automaton);
+    records.automata.push([starting, accepting, 0]);
     records.edges.extend(edges);
     records.numbers()
 }
@@ -369,7 +375,7 @@ fn positions_exceed_16_bits() {
 fn a_record_of_more_than_a_million_nodes() {
     let mut records = wide::records(11);
     // No word has the eleventh role anywhere but at its end.
-    records.automata.push([1, 2]);
+    records.automata.push([1, 2, 0]);
     records.edges.push([1, 0, 3, 1, 11, 0]);
     records.edges.push([1, 0, 1, 1, 11, 1]);
     records.credentials[10][5] = 1;
@@ -534,7 +540,7 @@ fn attach(records: &mut Records, automata: [u16; 3]) {
 fn a_lower_automaton_comes_before_one_that_is_dead_earlier() {
     // Automaton 2 is dead from the goal on, 1 only at the last node.
     let mut records = Records::read(&T).expect("T is accepted");
-    records.automata.extend([[1, 1], [1, 1]]);
+    records.automata.extend([[1, 1, 0], [1, 1, 0]]);
     records.edges.push([2, 0, 4, 2, 0, 0]);
     records.edges.push([1, 0, 4, 1, 0, 0]);
     for (attached, verdict) in [
@@ -551,7 +557,7 @@ fn a_lower_automaton_comes_before_one_that_is_dead_earlier() {
 fn only_its_own_edges_move_an_automaton() {
     let mut records = Records::read(&T).expect("T is accepted");
     records.credentials[3][5] = 1;
-    records.automata.extend([[1, 2], [1, 2]]);
+    records.automata.extend([[1, 2, 0], [1, 2, 0]]);
     records.edges.push([2, 0, 2, 0, 0, 1]);
     assert_eq!(verify(&records.numbers(), Q, &[4, 0]), refused(14, 1));
     records.credentials[3][5] = 2;
@@ -591,7 +597,7 @@ fn the_lowest_rejecting_automaton_is_named() {
     // The word discount, accredited is rejected by automaton 2, the word
     // discount, student by automaton 1; 3 rejects both.
     let mut records = Records::read(&T).expect("T is accepted");
-    records.automata.extend([[1, 1], [1, 1], [1, 0]]);
+    records.automata.extend([[1, 1, 0], [1, 1, 0], [1, 0, 0]]);
     records.edges.push([1, 0, 3, 2, 2, 0]);
     records.edges.push([2, 0, 3, 1, 3, 0]);
     for (attached, verdict) in [
@@ -610,7 +616,7 @@ fn the_lowest_rejecting_automaton_is_named() {
 #[test]
 fn the_eighth_automaton_counts_like_the_others() {
     let mut records = Records::read(&T).expect("T is accepted");
-    records.automata.extend([[1, 1]; 8]);
+    records.automata.extend([[1, 1, 0]; 8]);
     records.credentials[3][5] = 8;
     assert_eq!(verify(&records.numbers(), Q, &[4, 0]), refused(14, 8));
     records.edges.push([8, 0, 2, 0, 0, 0]);

@@ -115,7 +115,9 @@ fn the_table_comes_first_then_the_query_then_the_set_then_the_buffer() {
     let mut wrong_kind = T;
     wrong_kind[6] = 5;
     let mut wrong_edge = U;
-    wrong_edge[38] = 4;
+    wrong_edge[39] = 4;
+    let mut wrong_mark = U;
+    wrong_mark[30] = 2;
     let wrong_cell = table(&[in_every(G, 1)], &[[1, 2, 2], [1, 2, 2]], 0, &[]);
     let wrong_chain = table(&[in_every(G, 1)], &[[1, 2, 0]], 0, &[]);
     let bad = depth(0);
@@ -128,6 +130,7 @@ fn the_table_comes_first_then_the_query_then_the_set_then_the_buffer() {
         assert_eq!(told(&wrong_cell, bad), refused(5, 2, cells));
         assert_eq!(told(&wrong_chain, bad), refused(6, 1, cells));
         assert_eq!(told(&wrong_edge, bad), refused(7, 2, cells));
+        assert_eq!(told(&wrong_mark, bad), refused(17, 1, cells));
         assert_eq!(told(&T, bad), refused(8, 4, cells));
         assert_eq!(told(&T, Query { owner: 0, ..bad }), refused(8, 2, cells));
     }

@@ -9,6 +9,7 @@ use std::fmt;
 
 use crate::generate::constraints::{self, Constraint, EVERY};
 use crate::generate::families::rename;
+use crate::generate::marks;
 use crate::generate::shapes::{from_records, GOAL, OWNER};
 use crate::generate::wallets::Wallet;
 use crate::query::DEEPEST;
@@ -80,6 +81,7 @@ pub fn made_up(random: &mut Random, circle: Circle, most: u16) -> Wallet {
     if random.one_in(2) {
         constrain(random, &mut wallet.records);
     }
+    marks::draw(random, &mut wallet.records);
     rename(random, &mut wallet);
     random.shuffle(&mut wallet.records.credentials);
     wallet.query.depth = match random.below(8) {

@@ -1,7 +1,7 @@
 //! Automata that accept some words and reject others, and the credentials
 //! to which they are attached.
 
-use crate::generate::valid;
+use crate::generate::{marks, valid};
 use crate::random::Random;
 use crate::records::{EdgeRecord, Head, Records};
 use crate::table::LAST_STATE;
@@ -9,11 +9,13 @@ use crate::table::LAST_STATE;
 /// A role's owner and name, as written.
 pub type Role = (u16, u16);
 
-/// An automaton with its edges: from, label, owner, name, to.
+/// An automaton with its edges: from, label, owner, name, to. Its mark is 0 if
+/// nothing else is said.
 #[derive(Clone, Debug, PartialEq, Eq)]
 pub struct Constraint {
     starting: u16,
     accepting: u16,
+    mark: u16,
     edges: Vec<[u16; 5]>,
 }
 
@@ -67,8 +69,14 @@ impl Constraint {
         Constraint {
             starting: 1,
             accepting,
+            mark: 0,
             edges,
         }
+    }
+
+    /// The same with this mark.
+    pub fn marked(self, mark: u16) -> Constraint {
+        Constraint { mark, ..self }
     }
 
     /// Every word is accepted.
@@ -182,6 +190,7 @@ impl Constraint {
         Constraint {
             starting: random.between(1, 15),
             accepting: random.between(1, 15),
+            mark: 0,
             edges,
         }
     }
@@ -244,6 +253,7 @@ impl Constraint {
         Constraint {
             starting: set(self.starting),
             accepting: set(self.accepting),
+            mark: self.mark,
             edges: edges
                 .map(|&[from, label, owner, role, to]| [name(from), label, owner, role, name(to)])
                 .collect(),
@@ -259,8 +269,8 @@ pub fn add(random: &mut Random, records: &mut Records, constraint: &Constraint) 
     if records.head().automata >= limits.automata || edges > usize::from(limits.edges) {
         return None;
     }
-    let sets = [constraint.starting, constraint.accepting];
-    records.automata.push(sets);
+    let automaton = [constraint.starting, constraint.accepting, constraint.mark];
+    records.automata.push(automaton);
     let number = records.automata.len() as u16;
     for &[from, label, owner, name, to] in &constraint.edges {
         let edge: EdgeRecord = [number, from, label, owner, name, to];
@@ -284,6 +294,7 @@ pub fn attach(random: &mut Random, records: &mut Records) {
         let constraint = Constraint::any(random, &roles);
         add(random, records, &constraint);
     }
+    marks::draw(random, records);
     let head = records.head();
     if head.automata == 0 {
         return;

@@ -7,7 +7,7 @@
 
 use crate::generate::constraints::{self, Constraint};
 use crate::generate::wallets::Wallet;
-use crate::generate::{policies, valid};
+use crate::generate::{marks, policies, valid};
 use crate::query::{Query, DEEPEST};
 use crate::random::Random;
 use crate::records::{CredentialRecord, Head, Records};
@@ -29,6 +29,7 @@ pub fn made_up(random: &mut Random) -> Wallet {
     for _ in 0..random.between(1, 2) {
         constrain(random, &mut records);
     }
+    marks::draw(random, &mut records);
     let depth = *random.pick(&[2, 3, 4, 5, DEEPEST]);
     let query = Query {
         principal,

@@ -198,7 +198,8 @@ pub fn scattered(random: &mut Random, records: &Records) -> Vec<u16> {
 }
 
 /// A table with two things wrong, and the refusals of each of them, the lower
-/// first. Since checks go row by row, the table is refused with the lower.
+/// first. Since checks go row by row, and that for 17 comes last, the table is
+/// refused with the lower.
 pub fn pair(random: &mut Random, records: &Records) -> (Vec<u16>, [u32; 2]) {
     let mut rows = possible_rows(records);
     let one = rows.swap_remove(random.below(rows.len()));
@@ -218,6 +219,7 @@ fn possible_rows(records: &Records) -> Vec<u32> {
         (5, head.cells > 0),
         (6, head.credentials > 0 && head.cells > 0),
         (7, head.edges > 0),
+        (17, head.automata > 0),
     ];
     let rows = possible.into_iter().filter(|&(_, there)| there);
     rows.map(|(row, _)| row).collect()

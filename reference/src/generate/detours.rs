@@ -8,6 +8,7 @@
 
 use crate::generate::constraints::{self, one, owned, Constraint, Role, EVERY};
 use crate::generate::families::rename;
+use crate::generate::marks;
 use crate::generate::shapes::{MEMBER, OWNER};
 use crate::generate::wallets::Wallet;
 use crate::query::{Query, DEEPEST};
@@ -30,7 +31,7 @@ const MIDDLES: u16 = 2;
 /// How many levels a derivation has: the goal, a part, the fork, an end.
 const LEVELS: u16 = 4;
 
-/// A wallet of this kind.
+/// A wallet of this kind. Seldom the constraint demands no more than some word.
 pub fn made_up(random: &mut Random) -> Wallet {
     let parts = random.between(2, 4);
     let ends = ends(random);
@@ -41,6 +42,9 @@ pub fn made_up(random: &mut Random) -> Wallet {
         edges: Vec::new(),
     };
     constrain(random, &mut records, parts, &ends);
+    if random.one_in(4) {
+        marks::draw(random, &mut records);
+    }
     while random.one_in(2) && records.head().credentials < Head::LIMITS.credentials {
         let again = *random.pick(&records.credentials);
         records.credentials.push(again);

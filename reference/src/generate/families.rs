@@ -8,6 +8,7 @@
 use std::fmt;
 
 use crate::generate::constraints::{self, Constraint};
+use crate::generate::marks;
 use crate::generate::shapes::{self, Place, Way};
 use crate::generate::wallets::Wallet;
 use crate::query::DEEPEST;
@@ -139,6 +140,7 @@ fn barred(random: &mut Random, most: u16) -> Wallet {
         let credential = random.pick_mut(&mut wallet.records.credentials);
         credential[5] = number.expect("there is room for three automata");
     }
+    marks::draw(random, &mut wallet.records);
     wallet
 }
 
@@ -159,6 +161,7 @@ fn constrained(random: &mut Random, most: u16) -> Wallet {
         }
         first += usize::from(each);
     }
+    marks::draw(random, &mut wallet.records);
     wallet
 }
 

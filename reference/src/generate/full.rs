@@ -66,9 +66,11 @@ fn state(number: u16, roles: u16) -> u16 {
     (3 * number + 5 * roles) % (LAST_STATE + 1)
 }
 
-/// The automaton with this number, which accepts at the end of its path.
+/// The automaton with this number, which accepts at the end of its path. A record
+/// has one word, so the mark makes no difference.
 fn automaton(number: u16) -> AutomatonRecord {
-    [0, ROLES].map(|roles| 1 << state(number, roles))
+    let [starting, accepting] = [0, ROLES].map(|roles| 1 << state(number, roles));
+    [starting, accepting, 0]
 }
 
 /// The path of an automaton, counted on from the first if there is none with this

@@ -12,6 +12,7 @@ use crate::derivation::Derivation;
 use crate::generate::claims::numbers;
 use crate::generate::constraints::{self, but, one, owned, Matched, Role, EVERY};
 use crate::generate::growth::{Policy, Wish};
+use crate::generate::marks;
 use crate::generate::wallets::Wallet;
 use crate::pairs::is_in;
 use crate::random::Random;
@@ -27,11 +28,14 @@ const AUTOMATA: u16 = Head::LIMITS.automata;
 
 /// Gives eight automata to a wallet that has none, attached to some of its
 /// credentials. The first derivation that is grown complies, if there is room for
-/// the paths.
+/// the paths. Half of the time some automata, or all, have mark 1.
 pub fn attach(random: &mut Random, wallet: &mut Wallet) {
     let mut mesh = Mesh::new(random, &wallet.records);
     let records = &mut wallet.records;
-    records.automata = (0..AUTOMATA).map(|_| mesh.sets(random)).collect();
+    records.automata = (0..AUTOMATA).map(|_| mesh.automaton(random)).collect();
+    if random.one_in(2) {
+        marks::draw(random, records);
+    }
     let seldom = random.between(1, 3).into();
     for credential in &mut records.credentials {
         if random.one_in(seldom) {
@@ -121,8 +125,8 @@ impl Mesh {
         }
     }
 
-    /// The sets of an automaton: paths are accepted, and perhaps their ends.
-    fn sets(&self, random: &mut Random) -> AutomatonRecord {
+    /// An automaton of mark 0: paths are accepted, and perhaps their ends.
+    fn automaton(&self, random: &mut Random) -> AutomatonRecord {
         let mut set = |state: u16| {
             let more = match random.below(3) {
                 0 => 1 << *random.pick(&self.states),
@@ -130,7 +134,7 @@ impl Mesh {
             };
             1 << state | more
         };
-        [set(self.first), set(self.last)]
+        [set(self.first), set(self.last), 0]
     }
 
     /// Adds an edge if there is room for it, and it is not there already.

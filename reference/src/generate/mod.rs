@@ -2,10 +2,11 @@
 //!
 //! - [`valid`], [`damage`], [`noise`]: tables, valid, damaged and blind
 //! - [`queries`]: queries, valid and damaged
-//! - [`policies`], [`constraints`]: tables in which goals can be derived
+//! - [`policies`], [`constraints`], [`marks`]: tables in which goals can be
+//!   derived
 //! - [`wallets`], [`crossed`], [`detours`], [`shapes`], [`families`],
-//!   [`clubs`], [`nets`], [`listings`]: tables with queries that have minimal
-//!   sets
+//!   [`clubs`], [`nets`], [`demands`], [`listings`]: tables with queries that have
+//!   minimal sets
 //! - [`meshes`], [`full`]: automata with many edges
 //! - [`growth`], [`claims`]: right records, grown from such tables
 //! - [`wrongs`], [`spoil`], [`misfits`], [`every`]: wrong ones
@@ -18,12 +19,14 @@ pub mod clubs;
 pub mod constraints;
 pub mod crossed;
 pub mod damage;
+pub mod demands;
 pub mod detours;
 pub mod every;
 pub mod families;
 pub mod full;
 pub mod growth;
 pub mod listings;
+pub mod marks;
 pub mod meshes;
 pub mod misfits;
 pub mod nets;

@@ -43,6 +43,8 @@ pub enum Place {
     AutomatonStarting,
     /// An automaton's accepting set.
     AutomatonAccepting,
+    /// An automaton's mark.
+    AutomatonMark,
     /// An edge's automaton.
     EdgeAutomaton,
     /// The state that an edge leaves.
@@ -92,6 +94,7 @@ impl Place {
         places.extend([Place::CredentialAutomaton, Place::CellPrincipal]);
         places.extend([Place::CellName, Place::CellNext, Place::Chain]);
         places.extend([Place::AutomatonStarting, Place::AutomatonAccepting]);
+        places.push(Place::AutomatonMark);
         places.extend([Place::EdgeAutomaton, Place::EdgeFrom, Place::EdgeLabel]);
         places.extend([1, 2, 3, 4].map(Place::EdgeOwner));
         places.extend([1, 2, 3, 4].map(Place::EdgeName));
@@ -116,6 +119,7 @@ impl Place {
             Place::CellNext => &[5, 6],
             Place::Chain => &[6],
             Place::AutomatonStarting | Place::AutomatonAccepting => &[],
+            Place::AutomatonMark => &[17],
             Place::EdgeAutomaton | Place::EdgeFrom | Place::EdgeLabel | Place::EdgeTo => &[7],
             Place::EdgeOwner(_) | Place::EdgeName(_) => &[7],
             Place::QueryPrincipal | Place::QueryOwner => &[8],
@@ -144,6 +148,7 @@ impl fmt::Display for Place {
             Place::Chain => "chain".into(),
             Place::AutomatonStarting => "automaton starting set".into(),
             Place::AutomatonAccepting => "automaton accepting set".into(),
+            Place::AutomatonMark => "automaton mark".into(),
             Place::EdgeAutomaton => "edge automaton".into(),
             Place::EdgeFrom => "edge from".into(),
             Place::EdgeLabel => "edge label".into(),
@@ -238,11 +243,12 @@ fn cell_places(head: Head) -> Vec<(Place, u16)> {
     ]
 }
 
-/// The places and limits of an automaton's sets.
+/// The places and limits of an automaton's numbers.
 fn automaton_places() -> Vec<(Place, u16)> {
     vec![
         (Place::AutomatonStarting, u16::MAX),
         (Place::AutomatonAccepting, u16::MAX),
+        (Place::AutomatonMark, 1),
     ]
 }
 

@@ -144,14 +144,14 @@ fn next_cell(random: &mut Random, number: u16, count: u16) -> u16 {
     }
 }
 
-/// An automaton; the empty set and the set of all states come often.
+/// An automaton with any mark; the empty set and the set of all states come often.
 fn automaton(random: &mut Random) -> AutomatonRecord {
     let mut set = || match random.below(4) {
         0 => 0,
         1 => u16::MAX,
         _ => random.between(0, u16::MAX),
     };
-    [set(), set()]
+    [set(), set(), random.between(0, 1)]
 }
 
 /// The edges. Only every second automaton may have label 4, so that in a table

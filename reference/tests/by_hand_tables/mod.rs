@@ -77,7 +77,7 @@ pub fn table(
 ) -> Vec<u16> {
     let automata = match edges {
         [] => vec![],
-        _ => vec![[1, accepting]],
+        _ => vec![[1, accepting, 0]],
     };
     let records = Records {
         credentials: credentials.to_vec(),

@@ -1,0 +1,44 @@
+//! Marks for the automata of made-up tables: whether they demand every word or
+//! some word.
+
+use crate::random::Random;
+use crate::records::Records;
+
+/// Which marks the automata of a table get.
+#[derive(Clone, Copy, Debug, PartialEq, Eq, PartialOrd, Ord)]
+pub enum Marks {
+    /// All of them 0.
+    Zeros,
+    /// All of them 1.
+    Ones,
+    /// Each of them 0 or 1.
+    Mixed,
+}
+
+impl Marks {
+    /// One of them: every second time 0 and 1 are mixed.
+    pub fn drawn(random: &mut Random) -> Marks {
+        match random.below(4) {
+            0 => Marks::Zeros,
+            1 => Marks::Ones,
+            _ => Marks::Mixed,
+        }
+    }
+
+    /// Gives such marks to all automata of a table.
+    pub fn give(self, random: &mut Random, records: &mut Records) {
+        for [_, _, mark] in &mut records.automata {
+            *mark = match self {
+                Marks::Zeros => 0,
+                Marks::Ones => 1,
+                Marks::Mixed => random.between(0, 1),
+            };
+        }
+    }
+}
+
+/// Gives marks to all automata of a table: all of them 0, all 1, or mixed.
+pub fn draw(random: &mut Random, records: &mut Records) {
+    let marks = Marks::drawn(random);
+    marks.give(random, records);
+}
