@@ -4,8 +4,8 @@
 //! programs which the kit's interpreter and its compiler make of the proved code
 //! give the right answers. So they are few and small: all rows of the shop
 //! example, then every refusal, kind, label and size of buffer, a club, whose
-//! role comes again on a branch, and automata that share edges. Each list is
-//! made with little room for cuts too, which no call of the bindings does, and
+//! role comes again on a branch, automata that share edges, and automata of both
+//! marks. Each list is made with little room for cuts too, which no call of the bindings does, and
 //! after it records are written for the first sets of the list and for others.
 //!
 //! To add a case, add a line to [`cases`], at the end of its part, and make the
@@ -22,6 +22,8 @@
 //! with those of the proved program, and `rt try rows` with the interpreter's
 //! and the compiler's at every level; the interpreter stops after ten million
 //! steps.
+
+mod by_mark;
 
 use crate::generate::{full, wide};
 use crate::query::Query;
@@ -50,7 +52,16 @@ pub enum Given {
 
 /// All cases, in their order.
 pub fn cases() -> Vec<Case> {
-    [shop(), lists(), refused_tables(), verdicts()].concat()
+    [
+        shop(),
+        lists(),
+        refused_tables(),
+        verdicts(),
+        by_mark::lists(),
+        by_mark::refused_tables(),
+        by_mark::verdicts(),
+    ]
+    .concat()
 }
 
 fn list(table: &[u16], query: Query, cells: usize) -> Case {

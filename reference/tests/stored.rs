@@ -1,5 +1,5 @@
 //! The test program `crates/rows` has the stored cases, and they are worth
-//! storing: every answer, kind, label and size of buffer is among them.
+//! storing: every answer, kind, label, mark and size of buffer is among them.
 
 use std::collections::BTreeSet;
 
@@ -86,10 +86,10 @@ fn the_first_writings_are_the_shop_s() {
 #[test]
 fn every_answer_is_among_them() {
     let told: BTreeSet<u32> = lines().iter().map(|line| line[0]).collect();
-    assert_eq!(told, (0..=14).collect());
+    assert_eq!(told, (0..=14).chain([17]).collect());
     let lines = writings().concat();
     let told: BTreeSet<u32> = lines.iter().map(|line| line[0]).collect();
-    assert_eq!(told, (0..=8).chain([15, 16]).collect());
+    assert_eq!(told, (0..=8).chain(15..=17).collect());
 }
 
 /// The whole list of a case; there may be none.
@@ -184,6 +184,33 @@ fn edges_count_for_their_own_automaton() {
     assert_eq!(told[3..], ["0 170", "14 1"]);
 }
 
+/// The answers to the last cases, which are those by mark.
+#[test]
+fn marks_are_judged_as_they_should_be() {
+    let printed = printed();
+    let told: Vec<&str> = printed.iter().map(|lines| lines[0]).collect();
+    let (before, told) = told.split_at(told.len() - 16);
+    assert_eq!(before.last(), Some(&"14 1"));
+    let one = |set: u32| format!("0 1 {set} {UNTOUCHED}");
+    let lists = [format!("{} {UNTOUCHED}", one(8)), one(31), one(29)];
+    assert_eq!(told[..3], lists);
+    assert_eq!(told[3..5], ["0 2 63 71".into(), one(71)]);
+    let refused = ["17 2", "17 1", "17 1", "7 3", "17 1"];
+    let numbers = told[5..10].iter().map(|line| numbers(line));
+    let numbers: Vec<String> = numbers.map(|n| format!("{} {}", n[0], n[1])).collect();
+    assert_eq!(numbers, refused);
+    assert_eq!(told[10..], ["0 63", "14 2", "14 2", "14 1", "0 71", "14 1"]);
+}
+
+#[test]
+fn first_records_have_the_demanded_words() {
+    let printed = printed();
+    let by_mark = &printed[printed.len() - 16..];
+    let room = " 43690".repeat(2);
+    assert_eq!(by_mark[1][1], format!("0 10 1 0 2 0 4 0 3 0 5 0{room}"));
+    assert_eq!(by_mark[2][1], format!("0 10 1 0 3 0 3 0 4 0 5 0{room}"));
+}
+
 /// The case without the edge with this index.
 fn without(case: &Case, index: usize) -> Case {
     let mut records = Records::read(&case.table).expect("an accepted table");
@@ -210,7 +237,7 @@ fn lists_hang_on_single_edges() {
 }
 
 #[test]
-fn every_kind_and_label_is_among_them() {
+fn every_kind_label_and_mark_is_among_them() {
     let tables = cases().into_iter().map(|case| case.table);
     let accepted = tables.filter(|table| check(table).is_ok());
     let records: Vec<Records> = accepted.flat_map(|table| Records::read(&table)).collect();
@@ -218,8 +245,11 @@ fn every_kind_and_label_is_among_them() {
     let kinds: BTreeSet<u16> = credentials.map(|credential| credential[2]).collect();
     let edges = records.iter().flat_map(|records| &records.edges);
     let labels: BTreeSet<u16> = edges.map(|edge| edge[2]).collect();
+    let automata = records.iter().flat_map(|records| &records.automata);
+    let marks: BTreeSet<u16> = automata.map(|automaton| automaton[2]).collect();
     assert_eq!(kinds, (1..=4).collect());
     assert_eq!(labels, (1..=4).collect());
+    assert_eq!(marks, (0..=1).collect());
 }
 
 /// No cell, too few, just enough and more, by the answer's number, the number of
