@@ -83,7 +83,8 @@ impl<'a> Grown<'a> {
         let nodes = self.nodes.iter();
         let roles: Vec<Role> = nodes.map(|node| written(node.goal)).collect();
         let tries = (0..8).filter_map(|_| {
-            let constraint = Constraint::any(random, &roles);
+            let mark = random.between(0, 1);
+            let constraint = Constraint::any(random, &roles).marked(mark);
             let credential = random.pick(&self.nodes).credential;
             self.constrained(random, credential, &constraint)
         });

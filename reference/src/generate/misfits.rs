@@ -218,6 +218,26 @@ pub fn broken<'a>(random: &mut Random, grown: &Grown<'a>) -> Option<Grown<'a>> {
     grown.constrained(random, at.credential, &constraint)
 }
 
+/// The record with an automaton attached to a credential, which demands some word
+/// and rejects every word.
+pub fn broken_everywhere<'a>(random: &mut Random, grown: &Grown<'a>) -> Option<Grown<'a>> {
+    let goal = written(grown.nodes[0].goal);
+    let leaves = grown.nodes.iter().filter(|node| grown.kind(node) == 1);
+    let shortest = leaves.map(|node| node.level).min()?;
+    let of_nobody = (1..=HIGHEST).find(|&owner| {
+        let mut nodes = grown.nodes.iter();
+        nodes.all(|node| written(node.goal).0 != owner)
+    });
+    let constraint = match (random.below(4), of_nobody) {
+        (0, _) => Constraint::nothing(random),
+        (1, Some(owner)) => Constraint::last_of(owner),
+        (2, _) if shortest > 1 => Constraint::at_most(shortest - 1),
+        _ => Constraint::nowhere(goal),
+    };
+    let credential = random.pick(&grown.nodes).credential;
+    grown.constrained(random, credential, &constraint.marked(1))
+}
+
 /// That words have roles of the owners of these branches alone, if that rejects
 /// a word of others.
 fn by_owner(through: &[Branch], others: &[Branch]) -> Option<Constraint> {

@@ -3,7 +3,8 @@
 use crate::derivation::NODE;
 use crate::generate::claims::{Claim, Grown};
 use crate::generate::misfits::{
-    broken, middle_of_kind, no_member, other_goal, other_principal, other_role, repeated, too_deep,
+    broken, broken_everywhere, middle_of_kind, no_member, other_goal, other_principal, other_role,
+    repeated, too_deep,
 };
 use crate::generate::wrongs::{Part, Value, Wrong};
 use crate::generate::{damage, queries};
@@ -29,6 +30,7 @@ pub fn spoil(random: &mut Random, grown: &Grown, wrong: Wrong) -> Option<Claim> 
         Wrong::OtherPrincipal => other_principal(random, grown),
         Wrong::OtherGoal => other_goal(random, grown),
         Wrong::BrokenElsewhere => broken(random, grown).map(|grown| grown.claim()),
+        Wrong::BrokenEverywhere => broken_everywhere(random, grown).map(|grown| grown.claim()),
         Wrong::TooDeepAndChanged => {
             too_deep(random, grown).map(|(claim, node)| hopeless(random, claim, node))
         }

@@ -55,6 +55,9 @@ pub enum Wrong {
     /// An automaton is attached to a credential of one branch, where it
     /// accepts every word, and rejects a word of another branch.
     BrokenElsewhere,
+    /// An automaton that demands some word is attached to a credential, and
+    /// rejects every word.
+    BrokenEverywhere,
     /// The first node that is too deep is also wrong by itself.
     TooDeepAndChanged,
     /// The first node that is too deep is not there, or not whole.
@@ -101,7 +104,8 @@ impl Wrong {
         wrongs.extend([1, 2, 3, 4].map(Wrong::MiddleOfKind));
         wrongs.extend([Wrong::NoMember, Wrong::OtherRole]);
         wrongs.extend([Wrong::OtherPrincipal, Wrong::OtherGoal]);
-        wrongs.extend([Wrong::BrokenElsewhere, Wrong::TooDeepAndChanged]);
+        wrongs.extend([Wrong::BrokenElsewhere, Wrong::BrokenEverywhere]);
+        wrongs.push(Wrong::TooDeepAndChanged);
         wrongs.extend([Wrong::TooDeepAndCut, Wrong::RepeatedAndChanged]);
         wrongs.extend([Wrong::CutAndChanged, Wrong::BrokenAndLonger]);
         wrongs.extend([Wrong::Several, Wrong::Noise, Wrong::LikelyNoise]);
@@ -119,7 +123,7 @@ impl Wrong {
             Wrong::OtherRole | Wrong::OtherPrincipal => Some(12),
             Wrong::TooDeepAndChanged | Wrong::RepeatedAndChanged => Some(12),
             Wrong::Repeated | Wrong::TooDeep => Some(13),
-            Wrong::BrokenElsewhere => Some(14),
+            Wrong::BrokenElsewhere | Wrong::BrokenEverywhere => Some(14),
             Wrong::Changed(..) | Wrong::OtherGoal | Wrong::Several => None,
             Wrong::Noise | Wrong::LikelyNoise => None,
             Wrong::Table | Wrong::Query | Wrong::Everything => None,
@@ -133,9 +137,9 @@ impl Wrong {
             Wrong::Several => vec![0, 11, 12, 13, 14],
             Wrong::LikelyNoise => vec![0, 12, 13, 14],
             Wrong::Noise => vec![11, 12],
-            Wrong::Table => vec![0, 1, 2, 3, 4, 5, 6, 7, 12, 14],
+            Wrong::Table => vec![0, 1, 2, 3, 4, 5, 6, 7, 12, 14, 17],
             Wrong::Query => vec![8],
-            Wrong::Everything => (1..=8).collect(),
+            Wrong::Everything => (1..=8).chain([17]).collect(),
             other => vec![other.refusal().unwrap_or(12)],
         }
     }
@@ -157,6 +161,7 @@ impl fmt::Display for Wrong {
             Wrong::OtherPrincipal => "kind 1 of another principal".into(),
             Wrong::OtherGoal => "another query".into(),
             Wrong::BrokenElsewhere => "broken on another branch".into(),
+            Wrong::BrokenEverywhere => "broken on every branch".into(),
             Wrong::TooDeepAndChanged => "too deep and changed".into(),
             Wrong::TooDeepAndCut => "too deep and cut".into(),
             Wrong::RepeatedAndChanged => "a pair twice on a branch, and changed".into(),

@@ -5,6 +5,9 @@ use crate::query::Query;
 use crate::records::{EdgeRecord, Records};
 use crate::shop::{Q, R, U};
 
+/// The place of U's mark.
+const MARK_OF_U: usize = 30;
+
 /// Lists under automata of mark 1: of the shop, where the mark makes no difference;
 /// of chains that have to go by different credentials; of the wallet, which has
 /// both sets if automaton 2 demands no more than one word.
@@ -51,9 +54,6 @@ pub fn verdicts() -> Vec<Case> {
         verify(&marked_shop(), Q, &R),
     ]
 }
-
-/// The place of U's mark.
-const MARK_OF_U: usize = 30;
 
 /// Table U with mark 1. Its automaton rejects every word that begins with
 /// Shop.discount, so no word of the record R meets it.
