@@ -10,6 +10,8 @@ const RECORDS: u64 = 100_000;
 const LISTS: u64 = 130_000;
 /// The number of made-up writings if none is given.
 const WRITINGS: u64 = 40_000;
+/// The number of made-up tables with both marks if none is given.
+const MIXED: u64 = 105_000;
 
 /// The seed of the made-up inputs, and how many there are.
 #[derive(Debug, PartialEq, Eq)]
@@ -25,6 +27,8 @@ pub struct Arguments {
     pub lists: u64,
     /// How many writings are made up, beside the fixed ones.
     pub writings: u64,
+    /// How many tables with both marks are made up.
+    pub mixed: u64,
 }
 
 impl Arguments {
@@ -36,6 +40,7 @@ impl Arguments {
             records: RECORDS,
             lists: LISTS,
             writings: WRITINGS,
+            mixed: MIXED,
         };
         while let Some(word) = words.next() {
             let field = match word.as_str() {
@@ -44,6 +49,7 @@ impl Arguments {
                 "--records" => &mut arguments.records,
                 "--lists" => &mut arguments.lists,
                 "--writings" => &mut arguments.writings,
+                "--mixed" => &mut arguments.mixed,
                 _ => return Err(format!("unknown argument {word}")),
             };
             let number = words.next().ok_or(format!("{word} lacks its number"))?;
@@ -57,39 +63,39 @@ impl Arguments {
 
 #[cfg(test)]
 mod tests {
-    use super::{Arguments, COUNT, LISTS, RECORDS, SEED, WRITINGS};
+    use super::{Arguments, COUNT, LISTS, MIXED, RECORDS, SEED, WRITINGS};
 
     fn read(line: &str) -> Result<Arguments, String> {
         Arguments::read(line.split_whitespace().map(String::from))
     }
 
-    fn arguments([seed, count, records, lists, writings]: [u64; 5]) -> Result<Arguments, String> {
+    fn arguments(numbers: [u64; 6]) -> Result<Arguments, String> {
+        let [seed, count, records, lists, writings, mixed] = numbers;
         Ok(Arguments {
             seed,
             count,
             records,
             lists,
             writings,
+            mixed,
         })
     }
 
     #[test]
     fn arguments_are_read() {
-        let defaults = [SEED, COUNT, RECORDS, LISTS, WRITINGS];
+        let defaults = [SEED, COUNT, RECORDS, LISTS, WRITINGS, MIXED];
         assert_eq!(read(""), arguments(defaults));
         let with = |index: usize, number: u64| {
             let mut numbers = defaults;
             numbers[index] = number;
             arguments(numbers)
         };
-        for (index, name) in ["seed", "count", "records", "lists", "writings"]
-            .into_iter()
-            .enumerate()
-        {
+        let names = ["seed", "count", "records", "lists", "writings", "mixed"];
+        for (index, name) in names.into_iter().enumerate() {
             assert_eq!(read(&format!("--{name} 9")), with(index, 9));
         }
         let several = read("--count 9 --seed 3");
-        assert_eq!(several, arguments([3, 9, RECORDS, LISTS, WRITINGS]));
+        assert_eq!(several, arguments([3, 9, RECORDS, LISTS, WRITINGS, MIXED]));
     }
 
     #[test]

@@ -10,8 +10,8 @@ use std::ops::Add;
 use std::rc::Rc;
 
 use reference::generate::listings::{Listing, Source};
-use reference::listing::Minimal;
-use reference::pairs::{is_in, is_part, Pair};
+use reference::listing::{is_accepted, Minimal};
+use reference::pairs::{is_part, Pair};
 use reference::patience::Patience;
 use reference::query::Asked;
 use reference::sorts::{Goal, Principal, Role};
@@ -133,23 +133,12 @@ pub fn minimal_sets(table: &Table, asked: Asked) -> Option<Vec<u32>> {
         patience: patience(),
     };
     let pairs = search.goal(asked.goal, &[], &Standing::start(table))?;
-    let accepted = pairs.iter().filter(|pair| is_accepted(table, pair));
+    let accepted = pairs.iter().filter(|pair| is_accepted(table, **pair));
     let mut used: Vec<u32> = accepted.map(|pair| pair.used).collect();
     used.sort();
     used.dedup();
     let is_minimal = |set: &u32| !used.iter().any(|part| part != set && is_part(*part, *set));
     Some(used.iter().copied().filter(is_minimal).collect())
-}
-
-/// Whether no automaton that is attached to a used credential rejects a word.
-fn is_accepted(table: &Table, pair: &Pair) -> bool {
-    let numbered = (1u16..).zip(&table.credentials);
-    let mut used = numbered.filter(|(number, _)| is_in(*number, pair.used));
-    used.all(|(_, credential)| {
-        credential
-            .automaton
-            .is_none_or(|a| !is_in(a, pair.rejecting))
-    })
 }
 
 /// What the derivations of a goal depend on: the roles above it, in any order,
@@ -196,12 +185,18 @@ impl Search<'_> {
         standing: &Standing,
         all: &mut Vec<Pair>,
     ) -> Option<()> {
-        let rejecting = match way.premises[..] {
-            [] => standing.rejecting(self.table),
-            _ => 0,
+        let (rejecting, accepting) = match way.premises[..] {
+            [] => (
+                standing.rejecting(self.table),
+                standing.accepting(self.table),
+            ),
+            _ => (0, 0),
         };
-        let used = 1 << (way.credential - 1);
-        let mut pairs = vec![Pair { used, rejecting }];
+        let mut pairs = vec![Pair {
+            used: 1 << (way.credential - 1),
+            rejecting,
+            accepting,
+        }];
         for &premise in way.premises.iter().rev() {
             let below = self.goal(premise, branch, standing)?;
             let mut joined = Vec::new();

@@ -107,6 +107,7 @@ fn made_up_table(random: &mut Random) -> (Vec<u16>, Option<Place>) {
         5 | 6 => return (damage::pair(random, &records).0, None),
         7 => Some(damage::length(random, &records)),
         8 | 9 => damage::chain(random, &records),
+        10 => damage::marks(random, &records),
         _ => Some(damage::field(random, &records)),
     };
     match damaged {

@@ -66,7 +66,7 @@ mod tests {
     /// 2 nothing but School's.
     fn owners() -> Table {
         let mut records = Records::read(&T).expect("T is accepted");
-        records.automata.extend([[1, 1]; 2]);
+        records.automata.extend([[1, 1, 0]; 2]);
         records
             .edges
             .extend([[1, 0, 4, 1, 0, 0], [2, 0, 4, 2, 0, 0]]);

@@ -5,7 +5,9 @@ use std::fmt;
 
 use reference::derivation::{Derivation, NODE};
 use reference::generate::claims::Claim;
+use reference::pairs::is_in;
 use reference::query::DEEPEST;
+use reference::records::Head;
 use reference::table::{Members, Table};
 use reference::words::{comply, every_word};
 
@@ -98,8 +100,7 @@ impl Feature {
             Feature::OwnersRole => {
                 uses_owner && comply(&matching_none(table.clone()), &derivation).is_err()
             }
-            // The record is accepted, so no used automaton is dead.
-            Feature::DeadAutomaton => dead::on_words(&table, &derivation) != 0,
+            Feature::DeadAutomaton => uses.leaves_any_of(dead::on_words(&table, &derivation)),
             Feature::Kind(kind) => uses.kinds.contains(&kind),
             Feature::RoleTwice => again.role > 1,
             Feature::RoleTwiceAndAutomaton => again.role > 1 && !uses.automata.is_empty(),
@@ -146,8 +147,13 @@ impl Uses {
     /// Whether one of the automata attached to the record's credentials is in a
     /// set, in which automaton i counts 2^(i-1).
     pub fn any_of(&self, set: u32) -> bool {
-        let mut automata = self.automata.iter();
-        automata.any(|number| (set >> (number - 1)) & 1 == 1)
+        self.automata.iter().any(|&number| is_in(number, set))
+    }
+
+    /// Whether one that is attached to none of them is in a set.
+    pub fn leaves_any_of(&self, set: u32) -> bool {
+        let mut left = (1..=Head::LIMITS.automata).filter(|number| !self.automata.contains(number));
+        left.any(|number| is_in(number, set))
     }
 }
 

@@ -10,9 +10,9 @@ use reference::random::Random;
 use reference::table::Table;
 use reference::Refusal;
 
+use crate::aspects::Aspect;
 use crate::before::Before;
 use crate::buffers::{Row, Size};
-use crate::marks::Mark;
 use crate::owners::Automata;
 use crate::report::{line, listed, outcome, Outcome, PRINTED};
 use crate::word::Word;
@@ -20,8 +20,9 @@ use crate::{library_query, same_refusal};
 
 /// So many listings must be compared at the least.
 const LEAST: u64 = 100_000;
-/// The refusals of the listing call.
-const GREATEST: u32 = 10;
+/// The answers that the call can give, in the order of the checks; 0 stands for an
+/// accepted list.
+const ANSWERS: [u32; 12] = [0, 1, 2, 3, 4, 5, 6, 7, 17, 8, 9, 10];
 /// The classes of lists by their count: what they are called, and the least.
 const LENGTHS: [(&str, usize); 4] = [
     ("list of 1 set", 1),
@@ -31,8 +32,8 @@ const LENGTHS: [(&str, usize); 4] = [
 ];
 /// A listing that takes the reference more steps is passed over.
 const STEPS: u64 = 1_000_000;
-/// The marks of one in so many listings are looked for.
-const MARKED: u64 = 4;
+/// The aspects of one in so many listings are looked for.
+const LOOKED_AT: u64 = 4;
 
 /// What a listing call gives back: its answer, and the cells after it.
 type Answered = (Result<usize, Refusal>, Row<u32>);
@@ -57,7 +58,7 @@ pub struct Lists {
     lengths: BTreeMap<&'static str, u64>,
     sizes: BTreeMap<(Size, u32), u64>,
     sources: BTreeMap<Source, u64>,
-    marks: BTreeMap<Mark, u64>,
+    aspects: BTreeMap<Aspect, u64>,
     automata: Automata,
     word: Word,
     before: Before,
@@ -77,7 +78,7 @@ impl Lists {
             lengths: BTreeMap::new(),
             sizes: BTreeMap::new(),
             sources: BTreeMap::new(),
-            marks: BTreeMap::new(),
+            aspects: BTreeMap::new(),
             automata: Automata::default(),
             word: Word::default(),
             before: Before::default(),
@@ -103,9 +104,9 @@ impl Lists {
         if let Ok(sets) = expected {
             self.word.ask(random, listing, &sets);
             self.before.ask(listing, &sets);
-            if self.listings.is_multiple_of(MARKED) || listing.source == Source::Fixed {
-                for mark in Mark::of(listing, &sets) {
-                    *self.marks.entry(mark).or_default() += 1;
+            if self.listings.is_multiple_of(LOOKED_AT) || listing.source == Source::Fixed {
+                for aspect in Aspect::of(listing, &sets) {
+                    *self.aspects.entry(aspect).or_default() += 1;
                 }
             }
         }
@@ -177,7 +178,7 @@ impl Lists {
     fn lines(&self) -> Vec<(String, Option<u64>, u64)> {
         let mut lines = vec![("lists that agree".into(), Some(self.agreed), LEAST)];
         lines.extend(self.automata.lines());
-        for number in 0..=GREATEST {
+        for number in ANSWERS {
             let count = self.answers.get(&number).copied();
             lines.push((outcome(number), count, 1));
         }
@@ -195,9 +196,13 @@ impl Lists {
             let count = self.sources.get(&source).copied();
             lines.push((format!("{source}"), count, 1));
         }
-        for mark in Mark::all() {
-            let count = self.marks.get(&mark).copied();
-            lines.push((format!("one in {MARKED}: {mark}"), count, mark.least()));
+        for aspect in Aspect::all() {
+            let count = self.aspects.get(&aspect).copied();
+            lines.push((
+                format!("one in {LOOKED_AT}: {aspect}"),
+                count,
+                aspect.least(),
+            ));
         }
         let word = [
             ("listed set, proved by its record", self.word.proved),
@@ -230,7 +235,7 @@ impl Add for Lists {
             lengths: together(self.lengths, other.lengths),
             sizes: together(self.sizes, other.sizes),
             sources: together(self.sources, other.sources),
-            marks: together(self.marks, other.marks),
+            aspects: together(self.aspects, other.aspects),
             automata: self.automata + other.automata,
             word: self.word + other.word,
             before: self.before + other.before,
@@ -239,7 +244,7 @@ impl Add for Lists {
 }
 
 /// The counts of both strands.
-fn together<Key: Ord>(
+pub fn together<Key: Ord>(
     mut one: BTreeMap<Key, u64>,
     other: BTreeMap<Key, u64>,
 ) -> BTreeMap<Key, u64> {
@@ -257,7 +262,7 @@ fn answers(size: Size) -> &'static [u32] {
         Size::One => &[0, 9, 10],
         Size::OneTooFew => &[10],
         Size::JustEnough => &[0],
-        Size::More => &[0, 1, 2, 3, 4, 5, 6, 7, 8, 9],
+        Size::More => &[0, 1, 2, 3, 4, 5, 6, 7, 17, 8, 9],
     }
 }
 

@@ -1,8 +1,9 @@
 //! Compares the library with the reference on fixed and on made-up inputs.
 //!
-//! `compare [--seed N] [--count N] [--records N] [--lists N] [--writings N]`:
-//! the seed of the made-up inputs, how many tables are made up, how many
-//! records, how many listings, and how many writings, beside the fixed ones.
+//! `compare [--seed N] [--count N] [--records N] [--lists N] [--writings N]
+//! [--mixed N]`: the seed of the made-up inputs, how many tables are made up, how
+//! many records, how many listings, and how many writings, beside the fixed ones;
+//! and how many tables with both marks.
 //! Every table is given to the table call, and with a query to the query call.
 //! Every record, and several spoiled forms of it, is given to the verifying
 //! call. Every listing is given to the listing call with a buffer, and the
@@ -10,13 +11,16 @@
 //! the list is held against that under the rule before, which forbade a role
 //! twice on a branch. Sets of further listings, and others,
 //! are given to the writing call with a buffer, and the verifier is asked about
-//! what it writes. Tables and records, two strands of listings, and writings are
-//! compared at the same time. The last line printed is `N passed, M failed`; the
-//! exit status tells whether any failed.
+//! what it writes. Tables whose automata have both marks are listed, verified and
+//! written, and some of them upgraded from the base layout. Tables and records,
+//! two strands of listings, writings, and two strands of tables with both marks
+//! are compared at the same time. The last line printed is `N passed, M failed`;
+//! the exit status tells whether any failed.
 
 #![forbid(unsafe_code)]
 
 mod arguments;
+mod aspects;
 mod before;
 mod branches;
 mod buffers;
@@ -26,10 +30,13 @@ mod dead;
 mod features;
 mod listings;
 mod lists;
-mod marks;
+mod met;
+mod mixed;
 mod owners;
 mod relations;
 mod report;
+mod shares;
+mod sides;
 mod signs;
 mod slips;
 mod tally;
@@ -46,7 +53,8 @@ use buffers::Size;
 use cases::Case;
 use claims::Submitted;
 use lists::Lists;
-use reference::generate::listings as made_up;
+use mixed::Mixed;
+use reference::generate::{demands, listings as made_up};
 use reference::random::Random;
 use reference::Refusal;
 use tally::{Call, Tally};
@@ -62,7 +70,8 @@ type Verdict = Result<u32, Refusal>;
 /// writing.
 const WRITTEN_RUNGS: u16 = 10;
 /// How the program is called.
-const USAGE: &str = "compare [--seed N] [--count N] [--records N] [--lists N] [--writings N]";
+const USAGE: &str =
+    "compare [--seed N] [--count N] [--records N] [--lists N] [--writings N] [--mixed N]";
 
 fn main() -> ExitCode {
     let arguments = match Arguments::read(std::env::args().skip(1)) {
@@ -74,16 +83,20 @@ fn main() -> ExitCode {
     };
     println!("seed {}", arguments.seed);
     let arguments = &arguments;
-    let (tally, verdicts, lists, writings) = thread::scope(|scope| {
-        let strands = [0, 1].map(|strand| scope.spawn(move || compare_lists(arguments, strand)));
+    let (tally, verdicts, lists, writings, mixed) = thread::scope(|scope| {
+        let lists = [0, 1].map(|strand| scope.spawn(move || compare_lists(arguments, strand)));
+        let mixed = [0, 1].map(|strand| scope.spawn(move || compare_mixed(arguments, strand)));
         let writings = scope.spawn(|| compare_writings(arguments));
         let tally = compare_tables(arguments);
         let verdicts = compare_records(arguments);
-        let [first, second] = strands.map(|strand| strand.join().expect("a strand that ends"));
+        let [first, second] = lists.map(|strand| strand.join().expect("a strand that ends"));
+        let lists = first + second;
+        let [first, second] = mixed.map(|strand| strand.join().expect("a strand that ends"));
         let writings = writings.join().expect("writings that end");
-        (tally, verdicts, first + second, writings)
+        (tally, verdicts, lists, writings, first + second)
     });
-    let outcome = tally.report() + verdicts.report() + lists.report() + writings.report();
+    let outcome =
+        tally.report() + verdicts.report() + lists.report() + writings.report() + mixed.report();
     println!("{} passed, {} failed", outcome.passed, outcome.failed);
     if outcome.failed == 0 {
         ExitCode::SUCCESS
@@ -148,6 +161,18 @@ fn compare_writings(arguments: &Arguments) -> Writings {
         writings.compare(&mut random, &listing, false);
     }
     writings
+}
+
+/// Compares the calls on tables with both marks, on one of two strands, 0 and 1.
+fn compare_mixed(arguments: &Arguments, strand: u64) -> Mixed {
+    let seed = arguments.seed.wrapping_mul(2).wrapping_add(strand);
+    let mut random = Random::new(seed);
+    let mut mixed = Mixed::default();
+    for _ in 0..(arguments.mixed + strand) / 2 {
+        let wallet = demands::made_up(&mut random);
+        mixed.compare(&mut random, &wallet);
+    }
+    mixed
 }
 
 /// Makes the table call and the query call on both sides.

@@ -82,7 +82,7 @@ mod tests {
     /// The shop's table T with three automata, of which the last has label 4.
     fn records() -> Records {
         let mut records = Records::read(&shop::T).expect("T is accepted");
-        records.automata.extend([[1, 1]; 3]);
+        records.automata.extend([[1, 1, 0]; 3]);
         records
             .edges
             .extend([[1, 0, 2, 0, 0, 0], [3, 0, 4, 2, 0, 0]]);

@@ -193,7 +193,7 @@ mod tests {
     fn signs(edges: &[EdgeRecord], record: &[u16]) -> Vec<Sign> {
         let mut records = Records::read(&T).expect("T is accepted");
         records.credentials[0][5] = 1;
-        records.automata.push([1, 1]);
+        records.automata.push([1, 1, 0]);
         records.edges.extend(edges);
         let claim = Claim {
             table: records.numbers(),

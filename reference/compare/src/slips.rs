@@ -186,7 +186,7 @@ mod tests {
                 .map(|[owner, name]| [owner, name, 1, 9, 0, 0])
                 .to_vec(),
             cells: vec![],
-            automata: vec![[1, 2]; 2],
+            automata: vec![[1, 2, 0]; 2],
             edges: edges.to_vec(),
         };
         Table::read(&records.numbers()).expect("an accepted table")

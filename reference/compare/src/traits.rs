@@ -115,8 +115,7 @@ impl Trait {
             Trait::Kind(kind) => uses.kinds.contains(&kind),
             Trait::Automaton => !uses.automata.is_empty(),
             Trait::ByOwner => uses_owner,
-            // The record is accepted, so no used automaton is dead.
-            Trait::DeadAutomaton => dead::on_words(&table, &derivation) != 0,
+            Trait::DeadAutomaton => uses.leaves_any_of(dead::on_words(&table, &derivation)),
             Trait::Deep => levels(&derivation) >= DEEP,
             Trait::SixteenLevels => levels(&derivation) == usize::from(DEEPEST),
             Trait::Long => record.len() > usize::from(u16::MAX),
@@ -282,7 +281,7 @@ mod tests {
                 [64, 6, 1, 9, 0, 0],
             ],
             cells: vec![[1, 2, 2], [1, 2, 3], [1, 3, 0]],
-            automata: vec![[1, 2 + 4]],
+            automata: vec![[1, 2 + 4, 0]],
             edges: vec![
                 [1, 0, 2, 0, 0, 0],
                 [1, 0, 1, 1, 2, 1],

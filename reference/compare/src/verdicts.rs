@@ -14,8 +14,9 @@ use crate::Verdict;
 
 /// So many verdicts must be compared at the least.
 const LEAST: u64 = 300_000;
-/// The answers that the call can give; 0 stands for an accepted record.
-const ANSWERS: [u32; 13] = [0, 1, 2, 3, 4, 5, 6, 7, 8, 11, 12, 13, 14];
+/// The answers that the call can give, in the order of the checks; 0 stands for an
+/// accepted record.
+const ANSWERS: [u32; 14] = [0, 1, 2, 3, 4, 5, 6, 7, 17, 8, 11, 12, 13, 14];
 /// The refusals whose position is a node.
 const AT_NODES: [u32; 3] = [11, 12, 13];
 /// The signs of one in so many refused records are looked for.

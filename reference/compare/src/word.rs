@@ -10,6 +10,7 @@ use reference::generate::growth::{Policy, Wish};
 use reference::generate::listings::Listing;
 use reference::listing::Minimal;
 use reference::pairs::is_part;
+use reference::query::Query;
 use reference::random::Random;
 use reference::records::Records;
 
@@ -47,7 +48,7 @@ impl Word {
         let records = Records::read(&listing.table).expect("an accepted table");
         let policy = Policy::new(records);
         for _ in 0..GROWN {
-            if let Some(record) = grown(random, &policy, listing) {
+            if let Some(record) = grown(random, &policy, listing.query) {
                 self.ask_whether_listed(listing, sets, &record);
             }
         }
@@ -116,8 +117,8 @@ fn verdict(listing: &Listing, record: &[u16]) -> Option<u32> {
 }
 
 /// A record that derives the query, if one is found.
-fn grown(random: &mut Random, policy: &Policy, listing: &Listing) -> Option<Vec<u16>> {
-    let asked = listing.query.read().expect("a valid query");
+pub fn grown(random: &mut Random, policy: &Policy, query: Query) -> Option<Vec<u16>> {
+    let asked = query.read().expect("a valid query");
     let wish = Wish {
         depth: asked.depth,
         nodes: *random.pick(&[1, 4, 16, 64]),

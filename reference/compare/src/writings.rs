@@ -22,8 +22,9 @@ use crate::{library_query, same_refusal};
 
 /// So many writings must be compared at the least.
 const LEAST: u64 = 50_000;
-/// The answers that the call can give; 0 stands for a record that is written.
-const ANSWERS: [u32; 11] = [0, 1, 2, 3, 4, 5, 6, 7, 8, 15, 16];
+/// The answers that the call can give, in the order of the checks; 0 stands for a
+/// record that is written.
+const ANSWERS: [u32; 12] = [0, 1, 2, 3, 4, 5, 6, 7, 17, 8, 15, 16];
 /// A set whose first record takes the reference more steps is given up.
 const STEPS: u64 = 100_000;
 /// One writing in so many may be left without an answer of the reference.
@@ -287,10 +288,10 @@ impl Writings {
 /// The answers that must have come with such a buffer.
 fn answers(size: Size) -> &'static [u32] {
     match size {
-        Size::Empty | Size::One => &[1, 2, 3, 4, 5, 6, 7, 8, 15, 16],
+        Size::Empty | Size::One => &[1, 2, 3, 4, 5, 6, 7, 17, 8, 15, 16],
         Size::OneTooFew => &[15, 16],
         Size::JustEnough => &[0, 15],
-        Size::More => &[0, 1, 2, 3, 4, 5, 6, 7, 8, 15],
+        Size::More => &[0, 1, 2, 3, 4, 5, 6, 7, 17, 8, 15],
     }
 }
 
@@ -320,7 +321,7 @@ fn credentials(listing: &Listing) -> u32 {
 }
 
 /// The first record of a listed set, unless it takes too long.
-fn first(listing: &Listing, set: u32) -> Option<First> {
+pub fn first(listing: &Listing, set: u32) -> Option<First> {
     let table = Table::read(&listing.table).expect("an accepted table");
     let asked = listing.query.read().expect("a valid query");
     first_within(Patience::new(STEPS), &table, asked, set)

@@ -1,5 +1,5 @@
-//! Damaged tables: one field changed, a wrong length, a wrong chain, more
-//! records than allowed, or two of these at once.
+//! Damaged tables: one field changed, a wrong length, a wrong chain, wrong marks,
+//! more records than allowed, or two of these at once.
 
 use crate::generate::chains::with_chain;
 use crate::generate::noise;
@@ -167,6 +167,25 @@ pub fn chain(random: &mut Random, records: &Records) -> Option<Damaged> {
     })
 }
 
+/// Wrong marks at one automaton or at several. There is none if there is no
+/// automaton.
+pub fn marks(random: &mut Random, records: &Records) -> Option<Damaged> {
+    let mut records = records.clone();
+    let automata = records.automata.len();
+    if automata == 0 {
+        return None;
+    }
+    for _ in 0..random.between(1, 3) {
+        let wrong = random.between(2, u16::MAX);
+        let mark = *random.pick(&[2, 256, u16::MAX, wrong]);
+        records.automata[random.below(automata)][2] = mark;
+    }
+    Some(Damaged {
+        table: records.numbers(),
+        place: Place::AutomatonMark,
+    })
+}
+
 /// A table made of these records by any of the damages here, or noise in its
 /// place. Some damages leave a table accepted.
 pub fn any(random: &mut Random, records: &Records) -> Vec<u16> {
@@ -177,6 +196,10 @@ pub fn any(random: &mut Random, records: &Records) -> Vec<u16> {
         3 => pair(random, records).0,
         4 => length(random, records).table,
         5 | 6 => match chain(random, records) {
+            Some(damaged) => damaged.table,
+            None => records.numbers(),
+        },
+        7 => match marks(random, records) {
             Some(damaged) => damaged.table,
             None => records.numbers(),
         },

@@ -7,7 +7,8 @@ use crate::generate::clubs::{self, Circle};
 use crate::generate::families::{self, Family};
 use crate::generate::growth::Policy;
 use crate::generate::wallets::Wallet;
-use crate::generate::{crossed, damage, detours, nets, policies, queries, valid, wallets};
+use crate::generate::{crossed, damage, demands, detours, nets, policies};
+use crate::generate::{queries, valid, wallets};
 use crate::query::{Query, DEEPEST};
 use crate::random::Random;
 use crate::records::{Head, Records};
@@ -40,6 +41,8 @@ pub enum Source {
     Circle(Circle),
     /// A wallet with eight automata and many edges.
     Net,
+    /// A wallet with automata of both marks.
+    Demands,
     /// A table in which many goals can be derived, and one of these goals.
     Policy,
     /// Such a table, and any query.
@@ -61,7 +64,7 @@ impl Source {
         sources.push(Source::Detour);
         sources.extend(Family::ALL.map(Source::Shaped));
         sources.extend(Circle::ALL.map(Source::Circle));
-        sources.push(Source::Net);
+        sources.extend([Source::Net, Source::Demands]);
         sources.extend([Source::Policy, Source::AnyQuery, Source::Valid]);
         sources.extend([Source::Table, Source::Query, Source::Both]);
         sources
@@ -78,6 +81,7 @@ pub fn any(random: &mut Random) -> Listing {
             let circle = Circle::drawn(random);
             from_source(random, Source::Circle(circle))
         }
+        18 => from_source(random, Source::Demands),
         _ => made_up(random),
     }
 }
@@ -110,6 +114,7 @@ fn from_source(random: &mut Random, source: Source) -> Listing {
         Source::Shaped(family) => with_query(families::made_up(random, family, most)),
         Source::Circle(circle) => with_query(clubs::made_up(random, circle, most)),
         Source::Net => with_query(nets::made_up(random, most)),
+        Source::Demands => with_query(demands::made_up(random)),
         _ => with_query(wallets::made_up(random)),
     };
     let mut table = records.numbers();
@@ -172,6 +177,7 @@ impl fmt::Display for Source {
             Source::Shaped(family) => return family.fmt(out),
             Source::Circle(circle) => return circle.fmt(out),
             Source::Net => "wallet with many edges",
+            Source::Demands => "wallet with both marks",
             Source::Policy => "goal of a table with many",
             Source::AnyQuery => "any query",
             Source::Valid => "role of any valid table",

@@ -21,7 +21,7 @@ const ROLES: usize = 16;
 
 /// Something that a listing can be or have.
 #[derive(Clone, Copy, Debug, PartialEq, Eq, PartialOrd, Ord)]
-pub enum Mark {
+pub enum Aspect {
     /// A listed set has a credential of this kind.
     Kind(u16),
     /// A listed set has a credential with an automaton.
@@ -65,31 +65,35 @@ pub enum Mark {
     EdgeLimit,
 }
 
-impl Mark {
-    /// Every mark that there is.
-    pub fn all() -> Vec<Mark> {
-        let mut marks: Vec<Mark> = [1, 2, 3, 4].map(Mark::Kind).to_vec();
-        marks.extend([Mark::Automaton, Mark::Automata, Mark::UnusedAutomaton]);
-        marks.extend([Mark::ByOwner, Mark::OtherOwner, Mark::DeadAtTheGoal]);
-        marks.extend([Mark::Sizes, Mark::Needless, Mark::Twenty]);
-        marks.extend([Mark::Constrained, Mark::NoneForConstraints, Mark::Larger]);
-        marks.extend([Mark::Deep, Mark::Deepest, Mark::NoneForDepth]);
-        marks.extend([Mark::ManyEdges, Mark::ManyRoles]);
-        marks.extend(Slip::all().map(Mark::Slip));
-        marks.push(Mark::EdgeLimit);
-        marks
+impl Aspect {
+    /// Every aspect that there is.
+    pub fn all() -> Vec<Aspect> {
+        let mut aspects: Vec<Aspect> = [1, 2, 3, 4].map(Aspect::Kind).to_vec();
+        aspects.extend([Aspect::Automaton, Aspect::Automata, Aspect::UnusedAutomaton]);
+        aspects.extend([Aspect::ByOwner, Aspect::OtherOwner, Aspect::DeadAtTheGoal]);
+        aspects.extend([Aspect::Sizes, Aspect::Needless, Aspect::Twenty]);
+        aspects.extend([
+            Aspect::Constrained,
+            Aspect::NoneForConstraints,
+            Aspect::Larger,
+        ]);
+        aspects.extend([Aspect::Deep, Aspect::Deepest, Aspect::NoneForDepth]);
+        aspects.extend([Aspect::ManyEdges, Aspect::ManyRoles]);
+        aspects.extend(Slip::all().map(Aspect::Slip));
+        aspects.push(Aspect::EdgeLimit);
+        aspects
     }
 
     /// How many listings must have it at the least.
     pub fn least(self) -> u64 {
         match self {
-            Mark::ManyEdges | Mark::ManyRoles | Mark::Slip(_) | Mark::EdgeLimit => LEAST,
+            Aspect::ManyEdges | Aspect::ManyRoles | Aspect::Slip(_) | Aspect::EdgeLimit => LEAST,
             _ => 1,
         }
     }
 
-    /// The marks of a listing with these minimal sets.
-    pub fn of(listing: &Listing, sets: &[Minimal]) -> Vec<Mark> {
+    /// The aspects of a listing with these minimal sets.
+    pub fn of(listing: &Listing, sets: &[Minimal]) -> Vec<Aspect> {
         let table = Table::read(&listing.table).expect("an accepted table");
         let sets: Vec<u32> = sets.iter().map(|minimal| minimal.set).collect();
         let uses: Vec<Uses> = sets.iter().map(|&set| Uses::of(&table, set)).collect();
@@ -97,32 +101,32 @@ impl Mark {
         let any = |holds: &dyn Fn(&Uses) -> bool| uses.iter().any(holds);
         let used = sets.iter().fold(0, |one, other| one | other);
         let sizes: BTreeSet<u32> = sets.iter().map(|set| set.count_ones()).collect();
-        let has = |mark: Mark| match mark {
-            Mark::Kind(kind) => any(&|uses| uses.kinds.contains(&kind)),
-            Mark::Automaton => any(&|uses| !uses.automata.is_empty()),
-            Mark::Automata => any(&|uses| uses.automata.len() > 1),
-            Mark::UnusedAutomaton => !Uses::of(&table, used).other_automata.is_empty(),
-            Mark::ByOwner => any(&|uses| uses.any_of(by_owner(&table))),
-            Mark::OtherOwner => others.any_owner != sets,
-            Mark::DeadAtTheGoal => !sets.is_empty() && is_dead_at_the_goal(listing, &table),
-            Mark::Sizes => sizes.len() > 1,
-            Mark::Needless => {
+        let has = |aspect: Aspect| match aspect {
+            Aspect::Kind(kind) => any(&|uses| uses.kinds.contains(&kind)),
+            Aspect::Automaton => any(&|uses| !uses.automata.is_empty()),
+            Aspect::Automata => any(&|uses| uses.automata.len() > 1),
+            Aspect::UnusedAutomaton => !Uses::of(&table, used).other_automata.is_empty(),
+            Aspect::ByOwner => any(&|uses| uses.any_of(by_owner(&table))),
+            Aspect::OtherOwner => others.any_owner != sets,
+            Aspect::DeadAtTheGoal => !sets.is_empty() && is_dead_at_the_goal(listing, &table),
+            Aspect::Sizes => sizes.len() > 1,
+            Aspect::Needless => {
                 !sets.is_empty() && used.count_ones() < table.credentials.len() as u32
             }
-            Mark::Twenty => (used >> 19) & 1 == 1,
-            Mark::Constrained => others.free != sets,
-            Mark::NoneForConstraints => sets.is_empty() && !others.free.is_empty(),
-            Mark::Larger => others.have_part_of(&sets),
-            Mark::Deep => others.shallower != sets,
-            Mark::Deepest => others.shallower != sets && listing.query.depth == DEEPEST,
-            Mark::NoneForDepth => sets.is_empty() && !others.deeper.is_empty(),
-            Mark::ManyEdges => has_many_edges(&table),
-            Mark::ManyRoles => has_many_edges(&table) && roles(&table) >= ROLES,
-            Mark::Slip(slip) => others.slips.contains(&slip),
-            Mark::EdgeLimit => others.slips.contains(&Slip::Last) && is_at_the_limit(&table),
+            Aspect::Twenty => (used >> 19) & 1 == 1,
+            Aspect::Constrained => others.free != sets,
+            Aspect::NoneForConstraints => sets.is_empty() && !others.free.is_empty(),
+            Aspect::Larger => others.have_part_of(&sets),
+            Aspect::Deep => others.shallower != sets,
+            Aspect::Deepest => others.shallower != sets && listing.query.depth == DEEPEST,
+            Aspect::NoneForDepth => sets.is_empty() && !others.deeper.is_empty(),
+            Aspect::ManyEdges => has_many_edges(&table),
+            Aspect::ManyRoles => has_many_edges(&table) && roles(&table) >= ROLES,
+            Aspect::Slip(slip) => others.slips.contains(&slip),
+            Aspect::EdgeLimit => others.slips.contains(&Slip::Last) && is_at_the_limit(&table),
         };
-        let all = Mark::all().into_iter();
-        all.filter(|&mark| has(mark)).collect()
+        let all = Aspect::all().into_iter();
+        all.filter(|&aspect| has(aspect)).collect()
     }
 }
 
@@ -218,29 +222,29 @@ fn slips(listing: &Listing, table: &Table, own: &[u32]) -> Vec<Slip> {
     }
 }
 
-impl fmt::Display for Mark {
+impl fmt::Display for Aspect {
     fn fmt(&self, out: &mut fmt::Formatter<'_>) -> fmt::Result {
         let words = match self {
-            Mark::Kind(kind) => format!("a credential of kind {kind}"),
-            Mark::Automaton => "an automaton in a set".into(),
-            Mark::Automata => "several automata in a set".into(),
-            Mark::UnusedAutomaton => "an automaton in no set".into(),
-            Mark::ByOwner => "an automaton with label 4 in a set".into(),
-            Mark::OtherOwner => "other sets if label 4 matched all".into(),
-            Mark::DeadAtTheGoal => "a set, an automaton dead at the goal".into(),
-            Mark::Sizes => "sets of different sizes".into(),
-            Mark::Needless => "a credential in no set".into(),
-            Mark::Twenty => "credential 20 in a set".into(),
-            Mark::Constrained => "other sets without automata".into(),
-            Mark::NoneForConstraints => "none, but some without automata".into(),
-            Mark::Larger => "a set larger than without automata".into(),
-            Mark::Deep => "other sets one level higher up".into(),
-            Mark::Deepest => "so with sixteen levels".into(),
-            Mark::NoneForDepth => "none, but some one level further down".into(),
-            Mark::ManyEdges => format!("{MANY} edges or more"),
-            Mark::ManyRoles => format!("so, and {ROLES} roles or more"),
-            Mark::Slip(slip) => format!("so, other sets {slip}"),
-            Mark::EdgeLimit => format!("other sets without edge {}", Head::LIMITS.edges),
+            Aspect::Kind(kind) => format!("a credential of kind {kind}"),
+            Aspect::Automaton => "an automaton in a set".into(),
+            Aspect::Automata => "several automata in a set".into(),
+            Aspect::UnusedAutomaton => "an automaton in no set".into(),
+            Aspect::ByOwner => "an automaton with label 4 in a set".into(),
+            Aspect::OtherOwner => "other sets if label 4 matched all".into(),
+            Aspect::DeadAtTheGoal => "a set, an automaton dead at the goal".into(),
+            Aspect::Sizes => "sets of different sizes".into(),
+            Aspect::Needless => "a credential in no set".into(),
+            Aspect::Twenty => "credential 20 in a set".into(),
+            Aspect::Constrained => "other sets without automata".into(),
+            Aspect::NoneForConstraints => "none, but some without automata".into(),
+            Aspect::Larger => "a set larger than without automata".into(),
+            Aspect::Deep => "other sets one level higher up".into(),
+            Aspect::Deepest => "so with sixteen levels".into(),
+            Aspect::NoneForDepth => "none, but some one level further down".into(),
+            Aspect::ManyEdges => format!("{MANY} edges or more"),
+            Aspect::ManyRoles => format!("so, and {ROLES} roles or more"),
+            Aspect::Slip(slip) => format!("so, other sets {slip}"),
+            Aspect::EdgeLimit => format!("other sets without edge {}", Head::LIMITS.edges),
         };
         out.pad(&words)
     }
@@ -253,11 +257,11 @@ mod tests {
     use reference::listing::minimal_sets;
     use reference::table::Table;
 
-    use super::Mark;
+    use super::Aspect;
     use crate::slips::Slip;
 
-    /// The marks of a full table with so many edges that have to do with that.
-    fn marks(edges: u16) -> Vec<Mark> {
+    /// The aspects of a full table with so many edges that have to do with that.
+    fn aspects(edges: u16) -> Vec<Aspect> {
         let listing = Listing {
             table: full::records(edges).numbers(),
             query: full::ASKED,
@@ -265,17 +269,17 @@ mod tests {
         };
         let table = Table::read(&listing.table).expect("an accepted table");
         let sets = minimal_sets(&table, full::ASKED.read().expect("a valid query"));
-        let mut marks = Mark::of(&listing, &sets);
-        marks.retain(|&mark| mark >= Mark::ManyEdges);
-        marks
+        let mut aspects = Aspect::of(&listing, &sets);
+        aspects.retain(|&aspect| aspect >= Aspect::ManyEdges);
+        aspects
     }
 
     #[test]
     fn a_list_tells_by_which_slips_it_would_be_another() {
         let slips = [Slip::Last, Slip::Merged, Slip::Down, Slip::Up];
-        let many = [&[Mark::ManyEdges][..], &slips.map(Mark::Slip)].concat();
-        assert_eq!(marks(99), []);
-        assert_eq!(marks(100), many);
-        assert_eq!(marks(128), [&many[..], &[Mark::EdgeLimit]].concat());
+        let many = [&[Aspect::ManyEdges][..], &slips.map(Aspect::Slip)].concat();
+        assert_eq!(aspects(99), []);
+        assert_eq!(aspects(100), many);
+        assert_eq!(aspects(128), [&many[..], &[Aspect::EdgeLimit]].concat());
     }
 }
