@@ -7,7 +7,7 @@ use reference::generate::{clubs, damage, full, queries, wide};
 use reference::query::Query;
 use reference::random::Random;
 use reference::records::{Head, Records};
-use reference::shop;
+use reference::{shop, stored};
 
 /// So many wallets are listed with every buffer.
 const WALLETS: usize = 200;
@@ -30,8 +30,8 @@ pub fn fixed(judge: &mut impl FnMut(Listing)) {
 }
 
 /// Hands over the fixed listings but for the shapes: the shop's, whole and with
-/// every field damaged, derivations of very many nodes, tables of many edges, and
-/// wallets.
+/// every field damaged, derivations of very many nodes, tables of many edges, the
+/// stored cases, and wallets.
 pub fn fixed_inputs(judge: &mut impl FnMut(Listing)) {
     let student = Query {
         owner: 2,
@@ -58,6 +58,9 @@ pub fn fixed_inputs(judge: &mut impl FnMut(Listing)) {
         ));
     }
     fixed_edges(judge);
+    for case in stored::cases() {
+        judge(listing(&case.table, case.query));
+    }
     fixed_wallets(judge);
 }
 
