@@ -42,9 +42,7 @@ pub fn made_up(random: &mut Random) -> Wallet {
         edges: Vec::new(),
     };
     constrain(random, &mut records, parts, &ends);
-    if random.one_in(4) {
-        marks::draw(random, &mut records);
-    }
+    marks::draw_one_in(4, random, &mut records);
     while random.one_in(2) && records.head().credentials < Head::LIMITS.credentials {
         let again = *random.pick(&records.credentials);
         records.credentials.push(again);

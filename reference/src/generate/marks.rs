@@ -37,8 +37,18 @@ impl Marks {
     }
 }
 
-/// Gives marks to all automata of a table: all of them 0, all 1, or mixed.
-pub fn draw(random: &mut Random, records: &mut Records) {
-    let marks = Marks::drawn(random);
-    marks.give(random, records);
+/// Gives marks to all automata of a table: all of them 0, all 1, or mixed. They
+/// are drawn from a source of their own, so that nothing else that is made up
+/// depends on them.
+pub fn draw(random: &Random, records: &mut Records) {
+    draw_one_in(1, random, records);
+}
+
+/// The same once in so many times; otherwise the marks are left as they are.
+pub fn draw_one_in(times: usize, random: &Random, records: &mut Records) {
+    let mut own = Random::new(!random.clone().bits());
+    if own.one_in(times) {
+        let marks = Marks::drawn(&mut own);
+        marks.give(&mut own, records);
+    }
 }

@@ -33,9 +33,7 @@ pub fn attach(random: &mut Random, wallet: &mut Wallet) {
     let mut mesh = Mesh::new(random, &wallet.records);
     let records = &mut wallet.records;
     records.automata = (0..AUTOMATA).map(|_| mesh.automaton(random)).collect();
-    if random.one_in(2) {
-        marks::draw(random, records);
-    }
+    marks::draw_one_in(2, random, records);
     let seldom = random.between(1, 3).into();
     for credential in &mut records.credentials {
         if random.one_in(seldom) {
