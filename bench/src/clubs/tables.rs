@@ -100,7 +100,7 @@ impl Club {
         let mut wallet = self.wallet.clone();
         if let Some((accepting, edges)) = constraint.automaton(self.people) {
             wallet.records.credentials[0][5] = 1;
-            wallet.records.automata = vec![[1, accepting]];
+            wallet.records.automata = vec![[1, accepting, 0]];
             wallet.records.edges = edges;
         }
         wallet

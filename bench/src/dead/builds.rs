@@ -169,7 +169,7 @@ fn time_nodes(form: Form, pairs: &[Pair]) {
 /// they are dead, and are attached to nothing.
 fn with_automata(automata: usize, attached: u16) -> Records {
     let mut records = calls::constrained(wide::records(LEVELS), attached);
-    records.automata.resize(automata, [0; 2]);
+    records.automata.resize(automata, [0; 3]);
     records
 }
 

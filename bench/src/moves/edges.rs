@@ -43,10 +43,13 @@ impl Edges {
     /// the credentials of a set, one to each while there are some.
     pub fn put(self, wallet: &mut Wallet, set: u32) {
         let (automaton, mut edges) = match self {
-            Edges::None => ([0; 2], Vec::new()),
-            Edges::Some => ([1, 2], all_going_by_roles(wallet, &[8, 7])),
-            Edges::Many => ([1, 2], all_going_by_roles(wallet, &[15; 8])),
-            Edges::Matching => ([u16::MAX; 2], all_matching(stranger(&wallet.records))),
+            Edges::None => ([0, 0, 0], Vec::new()),
+            Edges::Some => ([1, 2, 0], all_going_by_roles(wallet, &[8, 7])),
+            Edges::Many => ([1, 2, 0], all_going_by_roles(wallet, &[15; 8])),
+            Edges::Matching => (
+                [u16::MAX, u16::MAX, 0],
+                all_matching(stranger(&wallet.records)),
+            ),
         };
         Random::new(SEED).shuffle(&mut edges);
         let automata = edges.iter().map(|edge| edge[0]).max().unwrap_or(0);

@@ -130,7 +130,7 @@ impl Prepared<'_> {
         assert!(bare.verify(&table.record).is_ok(), "{}", table.what);
         let records = &table.wallet.records;
         let mut sheet = Sheet::default();
-        for (index, &[starting, accepting]) in records.automata.iter().enumerate() {
+        for (index, &[starting, accepting, _]) in records.automata.iter().enumerate() {
             sheet.starting[index] = starting;
             sheet.accepting[index] = accepting;
         }
@@ -223,7 +223,7 @@ mod tests {
     #[test]
     fn states_share_an_arc_where_they_go_to_the_same() {
         let mut records = families::shop(&shop::T).records;
-        records.automata = vec![[1, 1]];
+        records.automata = vec![[1, 1, 0]];
         records.edges = [(0, 1), (0, 2), (3, 1), (3, 2), (4, 1)]
             .map(|(from, to)| [1, from, 2, 0, 0, to])
             .to_vec();
@@ -236,7 +236,7 @@ mod tests {
         let mut accepting = 0;
         for automaton in 1..=8 {
             let mut wallet = table.wallet.clone();
-            wallet.records.automata.resize(8, [0; 2]);
+            wallet.records.automata.resize(8, [0; 3]);
             for credential in &mut wallet.records.credentials {
                 credential[5] = automaton;
             }

@@ -2,7 +2,9 @@
 
 use bwlchareg::layout;
 use reference::generate::listings::made_up;
+use reference::generate::marks::Marks;
 use reference::random::Random;
+use reference::records::Records;
 
 use super::again::can_a_role_come;
 use crate::listing::Listing;
@@ -21,7 +23,7 @@ pub fn listings(count: usize) -> Vec<Listing> {
     let mut listings = Vec::new();
     while listings.len() < count {
         let made_up = made_up(&mut random);
-        let (table, query) = (made_up.table, made_up.query);
+        let (table, query) = (demanding_every_word(made_up.table), made_up.query);
         let is_valid = reference::check_query(&table, query).is_ok();
         let [credentials, cells, ..] = layout::counts(&table);
         let listing = Listing { table, query };
@@ -31,4 +33,16 @@ pub fn listings(count: usize) -> Vec<Listing> {
         }
     }
     listings
+}
+
+/// The table with mark 0 everywhere: the ways of listing that are compared know no
+/// other demand.
+fn demanding_every_word(table: Vec<u16>) -> Vec<u16> {
+    match Records::read(&table) {
+        Ok(mut records) => {
+            Marks::Zeros.give(&mut Random::new(0), &mut records);
+            records.numbers()
+        }
+        Err(_) => table,
+    }
 }

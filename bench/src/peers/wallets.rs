@@ -1,6 +1,8 @@
 //! The wallets on which the ways of listing are compared: grown ones of a given
-//! number of credentials, with constraints.
+//! number of credentials, with constraints that demand every word: the other ways
+//! know no others.
 
+use reference::generate::marks::Marks;
 use reference::generate::wallets;
 use reference::random::Random;
 
@@ -26,7 +28,8 @@ pub fn of_size(size: u16) -> Vec<Listing> {
 /// on the query, and at least one has an automaton.
 fn constrained(random: &mut Random, size: u16) -> Listing {
     loop {
-        let wallet = wallets::of_size(random, size);
+        let mut wallet = wallets::of_size(random, size);
+        Marks::Zeros.give(random, &mut wallet.records);
         let mut credentials = wallet.records.credentials.iter();
         if credentials.any(|credential| credential[5] != 0) {
             return Listing::of(&wallet);

@@ -106,7 +106,7 @@ fn by_words(choices: u16) -> Wallet {
     // Below the right role, state 2, there are choices more roles than below
     // the left one.
     let accepting = 2 * choices + 3;
-    wallet.records.automata.push([1, 1 << accepting]);
+    wallet.records.automata.push([1, 1 << accepting, 0]);
     wallet.records.edges.extend([
         [1, 0, 1, OWNER, GOAL, 1],
         [1, 1, 1, OWNER, LEFT, 2 + choices],
