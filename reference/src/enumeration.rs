@@ -88,6 +88,20 @@ pub fn pairs(table: &Table, asked: Asked, patience: Patience) -> Option<Rc<Pairs
     enumeration.derivations(top)
 }
 
+/// The pair of a node by itself, where the automata stand so after its role. One
+/// without premises is of kind 1: a word ends at it.
+pub fn node(table: &Table, way: &Way, standing: &Standing) -> Pair {
+    let (rejecting, accepting) = match way.premises[..] {
+        [] => (standing.rejecting(table), standing.accepting(table)),
+        _ => (0, 0),
+    };
+    Pair {
+        used: 1 << (way.credential - 1),
+        rejecting,
+        accepting,
+    }
+}
+
 impl Enumeration<'_> {
     /// The spot of a goal where the automata stand so before its role.
     fn spot(&mut self, goal: Goal, before: &Standing) -> Spot {
@@ -161,30 +175,12 @@ impl Enumeration<'_> {
             }
             all.push(below);
         }
-        let pair = self.node(place, way);
+        let pair = node(self.table, way, &self.spots[place.spot].1);
         let mut pairs = Pairs::one(Found::node(pair, place.spot, way.credential, way.middle));
         for below in all.iter().rev() {
             pairs = pairs.with_premise(below, &mut self.patience)?;
         }
         Some(pairs)
-    }
-
-    /// The pair of a node by itself. One without premises is of kind 1: a word
-    /// ends at it.
-    fn node(&self, place: &Place, way: &Way) -> Pair {
-        let standing = &self.spots[place.spot].1;
-        let (rejecting, accepting) = match way.premises[..] {
-            [] => (
-                standing.rejecting(self.table),
-                standing.accepting(self.table),
-            ),
-            _ => (0, 0),
-        };
-        Pair {
-            used: 1 << (way.credential - 1),
-            rejecting,
-            accepting,
-        }
     }
 
     /// The best derivations of a premise of the goal at a place. They do not

@@ -27,11 +27,14 @@ fn drawn(count: usize, sort: impl Fn(&mut Random) -> Wallet) -> Vec<Wallet> {
     (0..count).map(|_| sort(&mut random)).collect()
 }
 
-/// The wallet with these marks in the place of its own.
-fn with_marks(wallet: &Wallet, marks: Marks) -> Wallet {
-    let mut other = wallet.clone();
-    marks.give(&mut Random::new(SEED), &mut other.records);
-    other
+/// These wallets with such marks in the place of their own.
+fn with_marks(wallets: &[Wallet], marks: Marks) -> Vec<Wallet> {
+    let mut random = Random::new(SEED);
+    let mut others = wallets.to_vec();
+    for wallet in &mut others {
+        marks.give(&mut random, &mut wallet.records);
+    }
+    others
 }
 
 /// The marks of the automata that are attached to credentials.
@@ -62,10 +65,9 @@ fn lists_and_first_records_with_demands_are_what_the_definition_says() {
 fn lists_with_demands_would_be_others_with_other_marks() {
     let wallets = drawn(1_000, demands::made_up);
     for marks in [Marks::Zeros, Marks::Ones] {
-        let others = wallets.iter().filter(|wallet| {
-            let other = with_marks(wallet, marks);
-            listed(&other) != listed(wallet)
-        });
+        let others = with_marks(&wallets, marks);
+        let both = wallets.iter().zip(&others);
+        let others = both.filter(|(one, other)| listed(one) != listed(other));
         let others = others.count();
         assert!(others > 100, "{marks:?}: {others}");
     }
@@ -75,10 +77,9 @@ fn lists_with_demands_would_be_others_with_other_marks() {
 fn lists_and_first_records_of_circles_are_what_the_definition_says_with_all_marks() {
     for marks in [Marks::Ones, Marks::Mixed] {
         for circle in Circle::ALL {
-            let wallets = drawn(150, |random| clubs::made_up(random, circle, 9));
-            let constrained = wallets.iter().filter(|w| !w.records.automata.is_empty());
-            let marked = constrained.map(|wallet| with_marks(wallet, marks));
-            let [wallets, sets] = compared(STEPS, &marked.collect::<Vec<_>>());
+            let mut wallets = drawn(150, |random| clubs::made_up(random, circle, 9));
+            wallets.retain(|wallet| !wallet.records.automata.is_empty());
+            let [wallets, sets] = compared(STEPS, &with_marks(&wallets, marks));
             assert!(wallets > 20 && sets > 8, "{circle}: {wallets}, {sets}");
         }
     }
@@ -88,8 +89,7 @@ fn lists_and_first_records_of_circles_are_what_the_definition_says_with_all_mark
 fn lists_and_first_records_of_crossed_wallets_are_what_the_definition_says_with_all_marks() {
     let wallets = drawn(300, crossed::made_up);
     for marks in [Marks::Ones, Marks::Mixed] {
-        let marked: Vec<_> = wallets.iter().map(|w| with_marks(w, marks)).collect();
-        let [wallets, sets] = compared(STEPS, &marked);
+        let [wallets, sets] = compared(STEPS, &with_marks(&wallets, marks));
         assert!(wallets > 40 && sets > 40, "{wallets}, {sets}");
     }
 }
@@ -135,12 +135,13 @@ fn an_upgraded_table_has_mark_0_everywhere_and_is_accepted_if_it_was() {
 
 #[test]
 fn upgraded_wallets_have_the_lists_of_mark_0() {
-    for wallet in drawn(200, demands::made_up) {
-        let upgrade = upgraded(&wallet.records.base_numbers()).expect("a table");
+    let wallets = drawn(200, demands::made_up);
+    let zeros = with_marks(&wallets, Marks::Zeros);
+    for (wallet, zeros) in wallets.iter().zip(&zeros) {
+        let upgrade = upgraded(&wallet.records.base_numbers()).expect("a base table");
         let mut cells = vec![0; 4_096];
         let count = list(&upgrade, wallet.query, &mut cells).unwrap_or(0);
-        let zeros = listed(&with_marks(&wallet, Marks::Zeros));
-        assert_eq!(cells[..count], zeros);
+        assert_eq!(cells[..count], listed(zeros));
     }
 }
 

@@ -9,6 +9,7 @@ use std::collections::HashMap;
 use std::ops::Add;
 use std::rc::Rc;
 
+use reference::enumeration::node;
 use reference::generate::listings::{Listing, Source};
 use reference::listing::{is_accepted, Minimal};
 use reference::pairs::{is_part, Pair};
@@ -185,18 +186,7 @@ impl Search<'_> {
         standing: &Standing,
         all: &mut Vec<Pair>,
     ) -> Option<()> {
-        let (rejecting, accepting) = match way.premises[..] {
-            [] => (
-                standing.rejecting(self.table),
-                standing.accepting(self.table),
-            ),
-            _ => (0, 0),
-        };
-        let mut pairs = vec![Pair {
-            used: 1 << (way.credential - 1),
-            rejecting,
-            accepting,
-        }];
+        let mut pairs = vec![node(self.table, way, standing)];
         for &premise in way.premises.iter().rev() {
             let below = self.goal(premise, branch, standing)?;
             let mut joined = Vec::new();
