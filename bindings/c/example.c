@@ -1,6 +1,7 @@
-/* The shop example of docs/DEFINITION.md, from C, with two tables more, for label 4 and for a role that comes again on a branch:
- * tables are checked, minimal sets listed, their records written and proof records verified. Every answer is printed in words
- * and held against the definition; the program ends with 1 if any differs. bindings/LAYOUT.md says what the numbers mean. */
+/* The shop example of docs/DEFINITION.md, from C, with three tables more, for label 4, for an automaton that demands one word,
+ * and for a role that comes again on a branch: tables are checked, minimal sets listed, their records written and proof records
+ * verified. Every answer is printed in words and held against the definition; the program ends with 1 if any differs.
+ * bindings/LAYOUT.md says what the numbers mean. */
 #include "bwlchareg.h"
 
 #include <inttypes.h>
@@ -22,7 +23,7 @@ static const uint16_t U[] = {
     4, 0, 1, 2,
     SHOP, DISCOUNT, 3, ACCREDITED, STUDENT, 0,   SHOP, ACCREDITED, 1, SCHOOL, 0, 0,
     SCHOOL, STUDENT, 1, ANN, 0, 1,               SHOP, DISCOUNT, 1, ANN, 0, 0,
-    1, 2,                                               /* it starts in state 0 and accepts in state 1 */
+    1, 2, BWLCHAREG_EVERY_WORD,                         /* it starts in state 0 and accepts in state 1 */
     1, 0, 3, SHOP, DISCOUNT, 1,                         /* from 0 by every role but Shop.discount to 1 */
     1, 1, 2, 0, 0, 1,                                   /* from 1 by every role to 1 */
 };
@@ -32,8 +33,19 @@ static const uint16_t V[] = {
     4, 0, 1, 1,
     SHOP, DISCOUNT, 3, ACCREDITED, STUDENT, 1,   SHOP, ACCREDITED, 1, SCHOOL, 0, 0,
     SCHOOL, STUDENT, 1, ANN, 0, 0,               SHOP, DISCOUNT, 1, ANN, 0, 0,
-    1, 1,                                               /* it starts in state 0 and accepts in it */
+    1, 1, BWLCHAREG_EVERY_WORD,                         /* it starts in state 0 and accepts in it */
     1, 0, 4, SHOP, 0, 0,                                /* from 0 by every role of Shop to 0 */
+};
+
+/* The same credentials again, and "one branch goes through the school" on credential 1: some word must have a role of School. */
+static const uint16_t S[] = {
+    4, 0, 1, 3,
+    SHOP, DISCOUNT, 3, ACCREDITED, STUDENT, 1,   SHOP, ACCREDITED, 1, SCHOOL, 0, 0,
+    SCHOOL, STUDENT, 1, ANN, 0, 0,               SHOP, DISCOUNT, 1, ANN, 0, 0,
+    1, 2, BWLCHAREG_SOME_WORD,                          /* it starts in state 0 and accepts in state 1 */
+    1, 0, 2, 0, 0, 0,                                   /* from 0 by every role to 0 */
+    1, 0, 4, SCHOOL, 0, 1,                              /* from 0 by every role of School to 1 */
+    1, 1, 2, 0, 0, 1,                                   /* from 1 by every role to 1 */
 };
 
 /* A club whose friends are the friends of its friends. Ann is one by name, Bob is a friend of Ann, and Cleo of Bob. */
@@ -46,7 +58,11 @@ static const uint16_t W[] = {
 };
 
 /* An automaton and its edge; label 4 has an owner and no name. */
-static const uint16_t named[] = {0, 0, 1, 1, 1, 1, 1, 0, 4, SHOP, DISCOUNT, 0};
+static const uint16_t named[] = {0, 0, 1, 1, 1, 1, BWLCHAREG_EVERY_WORD, 1, 0, 4, SHOP, DISCOUNT, 0};
+
+/* Two automata, of which the second has a mark that there is not; and the same in the base layout, which has no marks. */
+static const uint16_t misheard[] = {0, 0, 2, 0, 1, 1, BWLCHAREG_SOME_WORD, 1, 1, 2};
+static const uint16_t base[] = {0, 0, 2, 0, 1, 1, 1, 1};
 
 static const uint16_t empty[] = {0, 0, 0, 0};
 static const uint16_t mistaken[] = {1, 0, 0, 0, SHOP, DISCOUNT, 1, 65, 0, 0}; /* there is no principal 65 */
@@ -76,9 +92,10 @@ static const char *const words[] = {
     "this node has fewer than two numbers left, or the tree ends before it and numbers are left over",
     "this node's credential or middle does not fit its goal",
     "this node is too deep, or its pair of principal and role is already on the branch",
-    "this automaton is used and rejects a word",
+    "this automaton is used and not met: it rejects a word, or with mark 1 every word",
     "the set is not on the list of minimal sets",
     "there are fewer cells than the record has numbers",
+    "this automaton's mark is neither 0 nor 1",
 };
 
 #define LENGTH(array) (sizeof(array) / sizeof((array)[0]))
@@ -175,6 +192,9 @@ int main(void)
     tell("check a table with principal 65", bwlchareg_check(SLICE(mistaken), &value), 4, 1);
     tell("check V", bwlchareg_check(SLICE(V), &value), 0, 0);
     tell("check label 4 with a name", bwlchareg_check(SLICE(named), &value), 7, 1);
+    tell("check S", bwlchareg_check(SLICE(S), &value), 0, 0);
+    tell("check a table with mark 2", bwlchareg_check(SLICE(misheard), &value), 17, 2);
+    tell("check a table without marks", bwlchareg_check(SLICE(base), &value), 3, 0);
     tell("check T, and depth 0", bwlchareg_check_query(SLICE(T), ANN, SHOP, DISCOUNT, 0, &value), 8, 4);
     tell("check T, and depth 17", bwlchareg_check_query(SLICE(T), ANN, SHOP, DISCOUNT, 17, &value), 8, 4);
 
@@ -188,6 +208,8 @@ int main(void)
     tell_cells(4, UNCHANGED);
     tell("list V", bwlchareg_list(SLICE(V), ANN, SHOP, DISCOUNT, 2, SLICE(cells), &value), 0, 1);
     tell_cells(8, UNCHANGED);
+    tell("list S", bwlchareg_list(SLICE(S), ANN, SHOP, DISCOUNT, 2, SLICE(cells), &value), 0, 2);
+    tell_cells(7, 8);
     tell("list W", bwlchareg_list(SLICE(W), CLEO, CLUB, FRIEND, 3, SLICE(cells), &value), 0, 1);
     tell_cells(15, UNCHANGED);
     tell("list T, one cell", bwlchareg_list(SLICE(T), ANN, SHOP, DISCOUNT, 2, cells, 1, &value), 10, 0);
@@ -199,6 +221,7 @@ int main(void)
     tell("verify with T", bwlchareg_verify(SLICE(T), ANN, SHOP, DISCOUNT, 2, SLICE(record), &value), 0, 7);
     tell("verify with U", bwlchareg_verify(SLICE(U), ANN, SHOP, DISCOUNT, 2, SLICE(record), &value), 14, 1);
     tell("verify with V", bwlchareg_verify(SLICE(V), ANN, SHOP, DISCOUNT, 2, SLICE(record), &value), 14, 1);
+    tell("verify with S", bwlchareg_verify(SLICE(S), ANN, SHOP, DISCOUNT, 2, SLICE(record), &value), 0, 7);
     tell("verify with T, depth 1", bwlchareg_verify(SLICE(T), ANN, SHOP, DISCOUNT, 1, SLICE(record), &value), 13, 2);
     tell("verify two nodes of it", bwlchareg_verify(SLICE(T), ANN, SHOP, DISCOUNT, 2, record, 4, &value), 11, 3);
     tell("verify another middle", bwlchareg_verify(SLICE(T), ANN, SHOP, DISCOUNT, 2, SLICE(misled), &value), 12, 2);

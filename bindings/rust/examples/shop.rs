@@ -1,11 +1,11 @@
 //! The shop example of docs/DEFINITION.md through the static library: its two
-//! tables are checked, with one that has a mistake in it, a proof record is
+//! tables are checked, with two that have a mistake in them, a proof record is
 //! verified, the minimal sets are listed, and a record is written for each of
-//! them and verified.
+//! them and verified. Last, table U is made of its base layout.
 
 use std::fmt::Debug;
 
-use bwlchareg::{check, check_query, layout, list, verify, write, Query, Refusal};
+use bwlchareg::{check, check_query, layout, list, upgraded, verify, write, Query, Refusal};
 
 /// Principals Shop 1, School 2, Ann 4; names discount 1, student 2, accredited 3.
 const T: [u16; 28] = [
@@ -18,13 +18,13 @@ const T: [u16; 28] = [
 
 /// Table T with an automaton that rejects every word that begins with
 /// Shop.discount, attached to credential 3.
-const U: [u16; 42] = [
+const U: [u16; 43] = [
     4, 0, 1, 2, //
     1, 1, 3, 3, 2, 0, //
     1, 3, 1, 2, 0, 0, //
     2, 2, 1, 4, 0, 1, //
     1, 1, 1, 4, 0, 0, //
-    1, 2, // starts in state 0, accepts in state 1
+    1, 2, 0, // starts in state 0, accepts in state 1, demands every word
     1, 0, 3, 1, 1, 1, // 0 -- any role but Shop.discount --> 1
     1, 1, 2, 0, 0, 1, // 1 -- any role --> 1
 ];
@@ -67,6 +67,10 @@ fn main() {
         "table T with principal 65 in credential 3",
         check(&mistaken),
     );
+    let mut mistaken = U;
+    let mark = layout::automaton(&U, 1).end - 1;
+    mistaken[mark] = 2;
+    tell("table U with mark 2", check(&mistaken));
 
     tell("record R with table T", verify(&T, Q, &R));
     tell("record R with table U", verify(&U, Q, &R));
@@ -93,6 +97,12 @@ fn main() {
         "record of set 7, table T, five cells",
         write(&T, Q, 7, &mut [0; 5]),
     );
+
+    // In the base layout an automaton has no mark.
+    let base = [&U[..mark], &U[mark + 1..]].concat();
+    tell("table U in the base layout", check(&base));
+    let same = upgraded(&base).map(|table| table == U);
+    tell("  whether it is U when upgraded", same);
 }
 
 /// All minimal sets, if there are no more than ten.

@@ -11,8 +11,8 @@ use crate::{ffi, Query, Refusal};
 ///
 /// # Errors
 ///
-/// Refusals 1 to 7. Checks go in the order of these numbers, and for one number
-/// by ascending record: the first that fails is told.
+/// Refusals 1 to 7, then 17. Checks go in this order, and for one number by
+/// ascending record: the first that fails is told.
 ///
 /// # Examples
 ///
@@ -47,8 +47,8 @@ pub fn check(table: &[u16]) -> Result<(), Refusal> {
 ///
 /// # Errors
 ///
-/// Refusals 1 to 7 as for [`check`]; then 8, at the first field of the query
-/// that is out of range. That nobody can be proved to be in the role is no
+/// Refusals 1 to 7 and 17 as for [`check`]; then 8, at the first field of the
+/// query that is out of range. That nobody can be proved to be in the role is no
 /// refusal of the query: [`list`] tells that, with 9.
 ///
 /// # Examples
@@ -79,13 +79,14 @@ pub fn check_query(table: &[u16], query: Query) -> Result<(), Refusal> {
 ///
 /// On an accepted table and a valid query a record is accepted exactly when it
 /// is one whole derivation of the queried membership, within the depth limit
-/// and with no pair of principal and role twice on a branch, and every word of
-/// it is accepted by every automaton attached to a credential that it uses.
+/// and with no pair of principal and role twice on a branch, and every automaton
+/// attached to a credential that it uses is met: one of mark 0 accepts every
+/// word of the record, one of mark 1 at least one word.
 ///
 /// # Errors
 ///
-/// Refusals 1 to 8 as for [`check_query`]; then the record is read node by
-/// node, in preorder. At each node 11, 12 and 13 are tested in that order
+/// Refusals 1 to 8 and 17 as for [`check_query`]; then the record is read node
+/// by node, in preorder. At each node 11, 12 and 13 are tested in that order
 /// before its children; numbers left over come after the last node, as 11; and
 /// 14 comes last.
 ///
@@ -99,7 +100,7 @@ pub fn check_query(table: &[u16], query: Query) -> Result<(), Refusal> {
 ///     1, 1, 2, 2, 2, 0, // whoever is in the role 2.2 is in the role 1.1
 ///     2, 2, 1, 4, 0, 0, // principal 4 is in the role 2.2
 ///     2, 2, 1, 4, 0, 1, // so is it here, under automaton 1
-///     1, 1, // which starts in state 0 and accepts in state 0
+///     1, 1, 0, // which starts in state 0, accepts in state 0, demands every word
 /// ];
 /// let query = Query { principal: 4, owner: 1, name: 1, depth: 2 };
 ///
@@ -136,9 +137,9 @@ pub fn verify(table: &[u16], query: Query, record: &[u16]) -> Result<u32, Refusa
 ///
 /// # Errors
 ///
-/// Refusals 1 to 8 as for [`check_query`]; then 9 ([`Refusal::NONE`]) if there
-/// is no minimal set, whatever the cells; and 10 ([`Refusal::LONGER`]) if there
-/// are more minimal sets than cells. On 10 every cell is filled, with the first
+/// Refusals 1 to 8 and 17 as for [`check_query`]; then 9 ([`Refusal::NONE`]) if
+/// there is no minimal set, whatever the cells; and 10 ([`Refusal::LONGER`]) if
+/// there are more minimal sets than cells. On 10 every cell is filled, with the first
 /// sets of the list; on every other refusal no cell changes. A buffer of
 /// 184,756 cells is never too short.
 ///
@@ -200,9 +201,10 @@ pub fn list(table: &[u16], query: Query, cells: &mut [u32]) -> Result<usize, Ref
 ///
 /// # Errors
 ///
-/// Refusals 1 to 8 as for [`check_query`]; then 15 ([`Refusal::NOT_LISTED`]) if
-/// the set is not on the list; and 16 ([`Refusal::LONGER_RECORD`]) if there are
-/// fewer cells than the record has numbers. On a refusal no cell changes. A
+/// Refusals 1 to 8 and 17 as for [`check_query`]; then 15
+/// ([`Refusal::NOT_LISTED`]) if the set is not on the list; and 16
+/// ([`Refusal::LONGER_RECORD`]) if there are fewer cells than the record has
+/// numbers. On a refusal no cell changes. A
 /// record of sixteen levels may have more than a thousand million nodes; once
 /// the set is found to be on the list, 16 takes about as many steps as there
 /// are cells, times the work of a node.

@@ -10,10 +10,10 @@
 //! let table = [
 //!     1, 0, 1, 1, // a credential, no part cell, an automaton, an edge
 //!     2, 2, 1, 4, 0, 1, // principal 4 is in the role 2.2, under automaton 1
-//!     1, 2, // which starts in state 0 and accepts in state 1
+//!     1, 2, layout::EVERY_WORD, // which starts in state 0 and accepts in state 1
 //!     1, 0, 2, 0, 0, 1, // and goes from state 0 to state 1 by every role
 //! ];
-//! assert_eq!(table[layout::automaton(&table, 1)], [1, 2]);
+//! assert_eq!(table[layout::automaton(&table, 1)], [1, 2, 0]);
 //! assert_eq!(table[layout::edge(&table, 1)], [1, 0, 2, 0, 0, 1]);
 //! assert_eq!(table.len(), layout::length(&table));
 //! ```
@@ -27,11 +27,19 @@ pub const CREDENTIAL: usize = 6;
 /// Numbers of a part cell.
 pub const CELL: usize = 3;
 /// Numbers of an automaton.
-pub const AUTOMATON: usize = 2;
+pub const AUTOMATON: usize = 3;
 /// Numbers of an edge.
 pub const EDGE: usize = 6;
 /// Numbers of a node of a proof record.
 pub const NODE: usize = 2;
+
+/// The mark of an automaton that must accept every word of a record.
+pub const EVERY_WORD: u16 = 0;
+/// The mark of an automaton that must accept at least one word of a record.
+pub const SOME_WORD: u16 = 1;
+
+/// The greatest counts that a head may have, in its order.
+pub const LIMITS: [usize; HEAD] = [20, 63, 8, 128];
 
 /// The sizes of the four sorts, in the order of the head and of the table.
 const SIZES: [usize; HEAD] = [CREDENTIAL, CELL, AUTOMATON, EDGE];

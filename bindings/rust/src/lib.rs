@@ -13,7 +13,8 @@
 //! | [`verify`] | is this record a proof of it that keeps to every constraint it uses? |
 //!
 //! Everything is given as numbers; [`layout`] says what each of them means and
-//! where it lies.
+//! where it lies. [`upgraded`] makes a table of one that was written before
+//! automata had marks.
 //! Every call takes any slices and any query. What is not accepted is answered
 //! with a [`Refusal`]: a number, a position, and both in words.
 //!
@@ -79,6 +80,7 @@ pub mod layout;
 mod query;
 mod refusal;
 mod sets;
+mod upgrade;
 
 // The README's program is run with the other examples.
 #[cfg(doctest)]
@@ -89,3 +91,4 @@ pub use calls::{check, check_query, list, verify, write};
 pub use query::Query;
 pub use refusal::Refusal;
 pub use sets::credentials;
+pub use upgrade::upgraded;

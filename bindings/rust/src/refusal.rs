@@ -9,7 +9,7 @@ use std::fmt;
 /// records, nodes and fields are counted from 1, and the position is 0 where
 /// there is no such place. The first row that applies is told, and within a row
 /// the least position, but that 11, 12 and 13 are tested together at each node,
-/// node by node.
+/// node by node. 17 is tested behind 7, and before 8.
 ///
 /// | number | condition | position |
 /// |---|---|---|
@@ -20,21 +20,23 @@ use std::fmt;
 /// | 5 | a principal or name of a part cell is out of range, or its next is neither 0 nor a greater cell of the table | the part cell |
 /// | 6 | the chain of a credential of kind 4 does not have 2 to 4 cells | the credential |
 /// | 7 | the automaton, a state or the label of an edge is out of range, or its owner and name are not as the label allows | the edge |
+/// | 17 | the mark of an automaton is neither 0 nor 1 | the automaton |
 /// | 8 | a field of the query is out of range | the field: 1 principal, 2 owner, 3 name, 4 depth |
 /// | 9 | there is no minimal set | 0 |
 /// | 10 | there are more minimal sets than cells | 0 |
 /// | 11 | fewer than two numbers are left for a node, or numbers are left over after the tree | the node, or the number of nodes + 1 |
 /// | 12 | a node's credential is not in the table, defines another role than the goal's, or is kind 1 of another principal, or the middle is wrong | the node |
 /// | 13 | a node's level is above the depth limit, or its pair of principal and role is already on the branch | the node |
-/// | 14 | an automaton of a credential that the record uses rejects a word of the record | the least such automaton |
+/// | 14 | an automaton of a credential that the record uses is not met: of mark 0 it rejects some word of the record, of mark 1 every word | the least such automaton, of either mark |
 /// | 15 | the set is not on the list of minimal sets | 0 |
 /// | 16 | there are fewer cells than the record has numbers | 0 |
 ///
-/// [`check`](crate::check) gives 1 to 7, [`check_query`](crate::check_query) 1
-/// to 8, [`list`](crate::list) 1 to 10, [`verify`](crate::verify) 1 to 8 and 11
-/// to 14, [`write`](crate::write) 1 to 8, 15 and 16. Any other number means
-/// that the archive which is linked is not the one that this crate is for; so
-/// does 0, which no refusal of the library has.
+/// [`check`](crate::check) gives 1 to 7 and 17, and so do all other calls. After
+/// these [`check_query`](crate::check_query) gives 8, [`list`](crate::list) 8 to
+/// 10, [`verify`](crate::verify) 8 and 11 to 14, [`write`](crate::write) 8, 15
+/// and 16. Any other number means that the archive which is linked is not the
+/// one that this crate is for; so does 0, which no refusal of the library has.
+/// [`upgraded`](crate::upgraded), which does not ask the library, gives 1 to 3.
 ///
 /// # Examples
 ///
@@ -63,20 +65,20 @@ use std::fmt;
 /// fn told(answer: Result<u32, Refusal>) -> String {
 ///     match answer {
 ///         Ok(used) => format!("welcome, by {} credentials", used.count_ones()),
-///         Err(Refusal { number: 1..=7, .. }) => "your wallet is damaged".to_string(),
+///         Err(Refusal { number: 1..=7 | 17, .. }) => "your wallet is damaged".to_string(),
 ///         Err(Refusal { number: 14, position }) => format!("constraint {position} forbids it"),
 ///         Err(refusal) => format!("this proves nothing: {refusal}"),
 ///     }
 /// }
 ///
-/// let table = [1, 0, 1, 0, 1, 1, 1, 4, 0, 1, 0, 0]; // an automaton that accepts nothing
+/// let table = [1, 0, 1, 0, 1, 1, 1, 4, 0, 1, 0, 0, 0]; // an automaton that accepts nothing
 /// let query = Query { principal: 4, owner: 1, name: 1, depth: 1 };
 /// assert_eq!(told(verify(&table, query, &[1, 0])), "constraint 1 forbids it");
 /// assert_eq!(told(verify(&[], query, &[1, 0])), "your wallet is damaged");
 /// ```
 #[derive(Clone, Copy, Debug, PartialEq, Eq, Hash)]
 pub struct Refusal {
-    /// The number of the condition that the input meets, 1 to 16.
+    /// The number of the condition that the input meets, 1 to 17.
     pub number: u32,
     /// The record of the table, query field, node or automaton that meets it,
     /// counted from 1; 0 where the condition has no place of its own.
@@ -123,7 +125,7 @@ impl fmt::Display for Refusal {
             7 => write!(out, "edge {position} ")?,
             8 => write!(out, "{} ", query_field(position))?,
             11..=13 => write!(out, "node {position} ")?,
-            14 => write!(out, "automaton {position} ")?,
+            14 | 17 => write!(out, "automaton {position} ")?,
             number => write!(out, "number {number} at {position} ")?,
         }
         out.write_str(condition(self.number))
@@ -163,9 +165,10 @@ fn condition(number: u32) -> &'static str {
             "is deeper than the depth limit, or its pair of principal and role is \
              already on the branch"
         }
-        14 => "rejects a word of the record",
+        14 => "is not met: it rejects a word of the record, or with mark 1 every word",
         Refusal::NOT_LISTED => "the set is not on the list of minimal sets",
         Refusal::LONGER_RECORD => "there are fewer cells than the record has numbers",
+        17 => "has a mark that is neither 0 nor 1",
         _ => "is no refusal of the library",
     }
 }
@@ -191,16 +194,16 @@ mod tests {
 
     #[test]
     fn every_refusal_has_words_of_its_own() {
-        let mut all: Vec<String> = (1..=16).map(|number| words(number, 1)).collect();
+        let mut all: Vec<String> = (1..=17).map(|number| words(number, 1)).collect();
         assert!(all.iter().all(|text| !text.contains("no refusal")));
         all.sort();
         all.dedup();
-        assert_eq!(all.len(), 16);
+        assert_eq!(all.len(), 17);
     }
 
     #[test]
     fn a_position_that_is_a_record_node_or_automaton_is_said() {
-        for number in [4, 5, 6, 7, 11, 12, 13, 14] {
+        for number in [4, 5, 6, 7, 11, 12, 13, 14, 17] {
             assert!(words(number, 713).contains(" 713"), "number {number}");
         }
         for number in [1, 2, 3, 9, 10, 15, 16] {
@@ -220,7 +223,7 @@ mod tests {
 
     #[test]
     fn what_is_no_refusal_is_said_to_be_none() {
-        for number in [0, 17, u32::MAX] {
+        for number in [0, 18, u32::MAX] {
             let text = words(number, u64::MAX);
             assert!(text.contains("no refusal"), "{text}");
             assert!(text.contains(&number.to_string()), "{text}");

@@ -5,7 +5,7 @@
 use bwlchareg::{check, check_query, layout, list, verify, write, Query, Refusal};
 
 /// A table with a credential of each kind, an automaton and an edge.
-const TABLE: [u16; 48] = [
+const TABLE: [u16; 49] = [
     5, 2, 1, 1, //
     1, 1, 3, 3, 2, 0, // 1: whoever is in M.2, for some M in 1.3, is in 1.1
     1, 3, 1, 2, 0, 0, // 2: principal 2 is in 1.3
@@ -14,7 +14,7 @@ const TABLE: [u16; 48] = [
     1, 4, 4, 1, 0, 0, // 5: whoever is in 2.2 and in 1.3 is in 1.4
     2, 2, 2, // cell 1: 2.2, then cell 2
     1, 3, 0, // cell 2: 1.3
-    1, 1, // automaton 1 starts and accepts in state 0
+    1, 1, 0, // automaton 1 starts and accepts in state 0, and demands every word
     1, 0, 3, 1, 4, 0, // edge 1, of automaton 1: from 0 by all but 1.4 to 0
 ];
 
@@ -120,6 +120,50 @@ fn owners_and_names_of_edges() {
                 }
             }
         }
+    }
+}
+
+#[test]
+fn marks() {
+    let mark = layout::automaton(&TABLE, 1).end - 1;
+    assert_eq!(check(&with(mark, layout::SOME_WORD)), Ok(()));
+    let words = "automaton 1 has a mark that is neither 0 nor 1";
+    for number in [2, 3, u16::MAX] {
+        let mut table = with(mark, number);
+        told(check(&table), 17, 1, words);
+        // It is told before the query, the set and the record, by every call.
+        let far = Query { depth: 17, ..QUERY };
+        told(check_query(&table, far), 17, 1, words);
+        told(verify(&table, far, &RECORD), 17, 1, words);
+        told(list(&table, far, &mut [0]), 17, 1, words);
+        told(unwritten(&table, far, 7, 6), 17, 1, words);
+        // Edges come before marks.
+        table[layout::edge(&TABLE, 1).start] = 2;
+        told(check(&table), 7, 1, "edge 1 has an automaton");
+    }
+}
+
+#[test]
+fn the_first_of_several_wrong_marks_is_told() {
+    for wrong in 1..=8 {
+        let mut table = vec![0, 0, 8, 0];
+        for number in 1..=8 {
+            table.extend([
+                0,
+                0,
+                if number < wrong {
+                    number % 2
+                } else {
+                    number + 1
+                },
+            ]);
+        }
+        told(
+            check(&table),
+            17,
+            wrong.into(),
+            &format!("automaton {wrong}"),
+        );
     }
 }
 
@@ -263,6 +307,12 @@ fn branches_and_words() {
     // Principal 4 in 1.4 asks for 4 in 1.3 too, so credential 2 is made 4's.
     let table = with(layout::credential(&TABLE, 2).start + 3, 4);
     let query = Query { name: 4, ..QUERY };
-    let words = "automaton 1 rejects a word";
-    told(verify(&table, query, &[5, 0, 3, 0, 2, 0]), 14, 1, words);
+    let words = "automaton 1 is not met: it rejects a word of the record";
+    let record = [5, 0, 3, 0, 2, 0];
+    told(verify(&table, query, &record), 14, 1, words);
+    // Both words begin with 1.4, so that with mark 1 none is accepted either.
+    let mut table = table;
+    table[layout::automaton(&TABLE, 1)][2] = layout::SOME_WORD;
+    let words = "or with mark 1 every word";
+    told(verify(&table, query, &record), 14, 1, words);
 }

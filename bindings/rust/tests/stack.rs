@@ -48,7 +48,7 @@ fn constrained() -> Vec<u16> {
     for automaton in 1..=8 {
         table[6 * usize::from(automaton) + 3] = automaton;
     }
-    table.extend([1, 1].repeat(8));
+    table.extend([1, 1, 0].repeat(8));
     table.extend((1..=8).flat_map(|automaton| [automaton, 0, 2, 0, 0, 0]));
     table
 }

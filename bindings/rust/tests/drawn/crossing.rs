@@ -3,8 +3,9 @@
 //!
 //! The goal rests on two to four parts, and every part on one shared role, to
 //! which there are two or three ways. A part may forbid one of the ways below
-//! it. So a set with several ways is often minimal, and a part that forbids
-//! none of them may go by any.
+//! it, or demand that some part goes by one. So a set with several ways is often
+//! minimal, and a part that forbids none of them may go by any, as long as each
+//! way that is demanded is gone by some part.
 
 use bwlchareg::{layout, Query};
 
@@ -23,6 +24,14 @@ const SHARED: u16 = 2;
 const LINK: u16 = 3;
 const PART: u16 = 10;
 const WAY: u16 = 20;
+
+/// What a part asks by its constraint.
+enum Wish {
+    /// That no word below the part goes by this way.
+    Not([u16; 2]),
+    /// That some word goes by this way, below whichever part.
+    Some([u16; 2]),
+}
 
 /// The records of a table, by their sorts.
 #[derive(Default)]
@@ -60,8 +69,13 @@ pub fn crossing(random: &mut Random) -> (Vec<u16>, Query) {
     for part in 1..=parts {
         let next = if part == parts { 0 } else { part + 1 };
         records.cells.push([OWNER, PART + part, next]);
-        let forbidden = (!random.one_in(3)).then(|| way(random.between(1, ways), linked));
-        add_part(&mut records, PART + part, forbidden);
+        let named = way(random.between(1, ways), linked);
+        let wish = match random.up_to(2) {
+            0 => None,
+            1 => Some(Wish::Not(named)),
+            _ => Some(Wish::Some(named)),
+        };
+        add_part(&mut records, PART + part, wish);
     }
     add_ways(&mut records, ways, linked);
     shuffle(random, &mut records.credentials);
@@ -74,22 +88,35 @@ pub fn crossing(random: &mut Random) -> (Vec<u16>, Query) {
     (records.numbers(), query)
 }
 
-/// Whoever is in the shared role is in a part; unless, if one is forbidden, by
-/// this role.
-fn add_part(records: &mut Records, part: u16, forbidden: Option<[u16; 2]>) {
+/// Whoever is in the shared role is in a part, if its wish is met.
+fn add_part(records: &mut Records, part: u16, wish: Option<Wish>) {
     let mut credential = [OWNER, part, 2, OWNER, SHARED, 0];
-    if let Some(way) = forbidden {
-        records.automata.push([1, 3]);
-        let automaton = records.automata.len() as u16;
-        credential[5] = automaton;
-        let edge =
-            |from, label, [owner, name]: [u16; 2], to| [automaton, from, label, owner, name, to];
-        // Below the part it is in state 1, and reads every role but the way's.
-        records.edges.push(edge(0, 3, [OWNER, part], 0));
-        records.edges.push(edge(0, 1, [OWNER, part], 1));
-        records.edges.push(edge(1, 3, way, 1));
+    if let Some(wish) = wish {
+        credential[5] = records.automata.len() as u16 + 1;
+        add_automaton(records, part, wish);
     }
     records.credentials.push(credential);
+}
+
+/// The automaton for a part's wish.
+fn add_automaton(records: &mut Records, part: u16, wish: Wish) {
+    let automaton = records.automata.len() as u16 + 1;
+    let edge = |from, label, [owner, name]: [u16; 2], to| [automaton, from, label, owner, name, to];
+    match wish {
+        // Below the part it is in state 1, and reads every role but the way's.
+        Wish::Not(way) => {
+            records.automata.push([1, 3, layout::EVERY_WORD]);
+            records.edges.push(edge(0, 3, [OWNER, part], 0));
+            records.edges.push(edge(0, 1, [OWNER, part], 1));
+            records.edges.push(edge(1, 3, way, 1));
+        }
+        // Behind the way's role, which is the last of a word, it is in state 1.
+        Wish::Some(way) => {
+            records.automata.push([1, 2, layout::SOME_WORD]);
+            records.edges.push(edge(0, 2, [0, 0], 0));
+            records.edges.push(edge(0, 1, way, 1));
+        }
+    }
 }
 
 /// So many ways to the shared role: by one link with several middles, or by a

@@ -120,6 +120,7 @@ pub fn accepted(random: &mut Random) -> Vec<u16> {
     for _ in 0..automata {
         // Few states, so that some words are accepted and some are not.
         table.extend([random.between(0, 3), random.between(0, 7)]);
+        table.push(random.between(layout::EVERY_WORD, layout::SOME_WORD));
     }
     for _ in 0..edges {
         table.extend(edge(random, automata));
