@@ -96,6 +96,7 @@ fn refused(wallet: &Wallet, line: &str) -> Result<Refusal, String> {
         4 | 6 => 1..=table.credentials.len(),
         5 => 1..=table.cells.len(),
         7 => 1..=table.edges.len(),
+        17 => 1..=table.automata.len(),
         8 => 1..=4,
         _ => return Err(not_printed(&format!("listing has no refusal {number}"))),
     };
@@ -120,7 +121,7 @@ mod tests {
     use crate::Wallet;
     use bwlchareg::Refusal;
 
-    /// Three credentials, two part cells, an edge.
+    /// Three credentials, two part cells, a constraint, an edge.
     fn wallet() -> Wallet {
         let text = "A.r <- B\nA.r <- A.s & A.t\nA.s <- B\nconstraint c\n0 -- any --> 0\n";
         parse(text.as_bytes()).expect("a wallet")
@@ -138,6 +139,7 @@ mod tests {
             (5, 2),
             (6, 2),
             (7, 1),
+            (17, 1),
             (8, 4),
             (9, 0),
             (10, 0),
@@ -198,6 +200,7 @@ mod tests {
             ("refused x 0\n", "`x 0` is not two numbers"),
             ("refused 0 0\n", "listing has no refusal 0"),
             ("refused 11 1\n", "listing has no refusal 11"),
+            ("refused 18 1\n", "listing has no refusal 18"),
             (
                 "refused 4294967305 0\n",
                 "listing has no refusal 4294967305",
@@ -217,6 +220,10 @@ mod tests {
             (
                 "refused 7 2\n",
                 "for this wallet refusal 7 has no position 2",
+            ),
+            (
+                "refused 17 2\n",
+                "for this wallet refusal 17 has no position 2",
             ),
             (
                 "refused 8 5\n",

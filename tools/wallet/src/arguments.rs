@@ -12,6 +12,7 @@ usage: wallet encode WALLET                   writes the listing program's input
        wallet list WALLET                     lists all minimal sets, in words
        wallet explain WALLET < OUTPUT         says in words what the program printed
        wallet decode [--names WALLET] < INPUT writes the text of an input
+       wallet upgrade < INPUT                 gives an input of the base layout its marks
        wallet prove WALLET [SET]              writes the record of a listed set, or of each
        wallet verify WALLET RECORD            verifies a proof record, in words
        wallet draw WALLET RECORD              the same as a picture
@@ -42,6 +43,8 @@ pub enum Command {
     Explain(Asked),
     /// Writes the text of an input, in the words of a wallet.
     Decode(Option<Source>),
+    /// Writes an input of the base layout with marks.
+    Upgrade,
     /// Writes records of listed sets.
     Prove(Asked, Wanted),
     /// Verifies a record.
@@ -162,6 +165,7 @@ pub fn read(mut words: impl Iterator<Item = OsString>) -> Result<Arguments, Stri
             names.iter().try_for_each(|source| alone(source, "INPUT"))?;
             Command::Decode(names)
         }
+        Some("upgrade") => Command::Upgrade,
         Some("prove") => Command::Prove(rest.asked()?, rest.wanted()?),
         Some("verify") => {
             let (asked, given) = rest.judged()?;
@@ -352,6 +356,7 @@ mod tests {
         assert_eq!(command("decode"), Ok(Command::Decode(None)));
         let named = Ok(Command::Decode(Some(file("w"))));
         assert_eq!(command("decode --names w"), named);
+        assert_eq!(command("upgrade"), Ok(Command::Upgrade));
         let verify = Ok(Command::Verify(own(Source::Standard), words("1 2")));
         assert_eq!(command("verify - 1 2"), verify);
         let draw = Ok(Command::Draw(own(file("w")), words("")));
@@ -444,6 +449,8 @@ mod tests {
         assert_eq!(told("decode --query q"), no_wallet);
         assert_eq!(told("help --query q"), no_wallet);
         assert_eq!(told("decode w"), "`w` is too much");
+        assert_eq!(told("upgrade w"), "`w` is too much");
+        assert_eq!(told("upgrade --names w"), "`--names` belongs to `decode`");
         let standard = "standard input is for OUTPUT: name the wallet's file";
         assert_eq!(told("explain -"), standard);
         let standard = "standard input is for INPUT: name the wallet's file";

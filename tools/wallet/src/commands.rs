@@ -73,6 +73,7 @@ pub fn run(command: &Command) -> Result<Pieces, Failure> {
             answered(&wallet, query, &answer.map_err(Failure::Wrong)?)
         }
         Command::Decode(names) => decode(names.as_ref())?,
+        Command::Upgrade => upgrade()?,
         Command::Prove(asked, wanted) => return prove(asked, *wanted),
         Command::Verify(asked, given) => in_its_place(judged(asked, given, |wallet, judged| {
             Ok(tree::text(wallet, judged))
@@ -169,14 +170,10 @@ fn decode(names: Option<&Source>) -> Result<Piece, Failure> {
         None => Default::default(),
         Some(source) => read(source)?.names,
     };
-    let mut input = Vec::new();
-    io::stdin()
-        .take(program::MOST_BYTES as u64)
-        .read_to_end(&mut input)
-        .map_err(|error| wrong(&Source::Standard, error))?;
-    let refused =
-        |refusal: Refusal| Failure::Refused(refusal::told(refusal, refusal::of_program(refusal)));
-    let (query, numbers) = program::read(&input).map_err(refused)?;
+    let (query, numbers) = read_input()?;
+    let refused = |refusal: Refusal| {
+        Failure::Refused(refusal::told(refusal, refusal::of_table(&numbers, refusal)))
+    };
     bwlchareg::check_query(&numbers, query).map_err(refused)?;
     let wallet = Wallet {
         table: Table::of_numbers(&numbers).map_err(refused)?,
@@ -185,6 +182,28 @@ fn decode(names: Option<&Source>) -> Result<Piece, Failure> {
         ..Wallet::default()
     };
     Ok(Piece::new(print(&wallet), false))
+}
+
+/// Writes the input of the base layout on standard input with marks.
+fn upgrade() -> Result<Piece, Failure> {
+    let (query, numbers) = read_input()?;
+    let refused = |refusal: Refusal| {
+        Failure::Refused(refusal::told(refusal, refusal::of_base(&numbers, refusal)))
+    };
+    let table = bwlchareg::upgraded(&numbers).map_err(refused)?;
+    Ok(Piece::new(program::input(query, &table), false))
+}
+
+/// The query and the table of the input on standard input, as far as the listing
+/// program would read it.
+fn read_input() -> Result<(Query, Vec<u16>), Failure> {
+    let mut input = Vec::new();
+    io::stdin()
+        .take(program::MOST_BYTES as u64)
+        .read_to_end(&mut input)
+        .map_err(|error| wrong(&Source::Standard, error))?;
+    program::read(&input)
+        .map_err(|refusal| Failure::Refused(refusal::told(refusal, refusal::of_program(refusal))))
 }
 
 /// The wallet of a text, and what is asked about it: the query that is given

@@ -1,16 +1,21 @@
 //! The answer to a listing in words: the credentials of each set with their
-//! lines, and the memberships that showing the set tells; or why there is no
-//! list.
+//! lines, the memberships that showing the set tells, and the words by which it
+//! meets constraints for which one word is enough; or why there is no list.
 
 use bwlchareg::{Query, Refusal};
 
 use crate::answer::{Answer, CELLS};
+use crate::derivation::judge;
+use crate::proof::short_record;
 use crate::refusal;
 use crate::rows::{rows, width};
-use crate::table::{Body, Credential};
+use crate::table::{Body, Credential, Mark};
+use crate::tree::meetings;
+use crate::words::words;
 use crate::Wallet;
 
-/// The columns that a line of memberships has at most, where names allow it.
+/// The columns that a line of memberships or roles has at most, where names
+/// allow it.
 pub const COLUMNS: usize = 100;
 
 /// What stands before a set's memberships.
@@ -21,7 +26,7 @@ pub fn explain(wallet: &Wallet, query: Query, answer: &Answer) -> String {
     match answer {
         Answer::Sets(sets) => {
             let heading = heading(wallet, query, sets.len());
-            let sets = sets.iter().map(|set| explain_set(wallet, *set));
+            let sets = sets.iter().map(|set| explain_set(wallet, query, *set));
             heading + &sets.collect::<String>()
         }
         Answer::Refused(refusal) => explain_refusal(wallet, query, *refusal),
@@ -38,8 +43,8 @@ pub fn heading(wallet: &Wallet, query: Query, count: usize) -> String {
     format!("{count} minimal {sets} {}\n", wallet.names.query(query))
 }
 
-/// A set: its credentials, one on a line, and what it shows.
-fn explain_set(wallet: &Wallet, set: u32) -> String {
+/// A set: its credentials, one on a line, what it shows, and what it meets.
+fn explain_set(wallet: &Wallet, query: Query, set: u32) -> String {
     let chosen: Vec<usize> = (0..wallet.table.credentials.len())
         .filter(|index| set & (1 << index) != 0)
         .collect();
@@ -55,7 +60,7 @@ fn explain_set(wallet: &Wallet, set: u32) -> String {
         lines += row.trim_end();
         lines += "\n";
     }
-    lines + &shown(wallet, &chosen) + "\n"
+    lines + &shown(wallet, &chosen) + &met(wallet, query, set, &chosen)
 }
 
 /// A credential in words.
@@ -78,12 +83,41 @@ fn shown(wallet: &Wallet, chosen: &[usize]) -> String {
         }
     }
     if goals.is_empty() {
-        return format!("{SHOWS}nobody");
+        goals.push("nobody".to_string());
     }
-    // All rows but the last end with a comma.
-    let rows = rows(goals, COLUMNS - SHOWS.len() - 1);
-    let further = format!(",\n{:1$}", "", SHOWS.len());
-    format!("{SHOWS}{}", rows.join(&further))
+    listed(SHOWS, goals)
+}
+
+/// By which word of its first record a set meets each constraint for which one
+/// word is enough. Nothing is said of a record that is too long to be looked at.
+fn met(wallet: &Wallet, query: Query, set: u32, chosen: &[usize]) -> String {
+    let table = &wallet.table;
+    let lenient = |index: &usize| {
+        let own = table.automaton(table.credentials[*index].automaton);
+        own.is_some_and(|own| own.mark == Mark::SomeWord)
+    };
+    if !chosen.iter().any(lenient) {
+        return String::new();
+    }
+    let Some(record) = short_record(wallet, query, set) else {
+        return String::new();
+    };
+    let judged = judge(wallet, query, &record);
+    let meetings = meetings(wallet, &judged, &words(wallet, &judged));
+    let said = meetings.into_iter().map(|meeting| {
+        let name = wallet.names.constraint(meeting.automaton);
+        listed(&format!("  meets {name} by "), meeting.roles)
+    });
+    said.collect()
+}
+
+/// Items behind some words, on as many lines as they need. All but the last end
+/// with a comma.
+fn listed(before: &str, items: Vec<String>) -> String {
+    let indent = width(before);
+    let rows = rows(items, COLUMNS.saturating_sub(indent + 1));
+    let further = format!(",\n{:indent$}", "");
+    format!("{before}{}\n", rows.join(&further))
 }
 
 /// A refusal, with the wallet's line that its position means.
@@ -183,7 +217,15 @@ set 14
             let refusal = Refusal { number, position };
             assert_eq!(words(number, position), refusal.to_string());
         }
-        for (number, position, line) in [(4, 2, 3), (5, 2, 1), (6, 1, 1), (7, 1, 9), (8, 3, 10)] {
+        let lines = [
+            (4, 2, 3),
+            (5, 2, 1),
+            (6, 1, 1),
+            (7, 1, 9),
+            (17, 1, 6),
+            (8, 3, 10),
+        ];
+        for (number, position, line) in lines {
             let refusal = Refusal { number, position };
             assert_eq!(words(number, position), format!("{refusal} (line {line})"));
         }

@@ -39,6 +39,14 @@ pub fn first_record(wallet: &Wallet, query: Query, set: u32) -> Result<Vec<u16>,
     }
 }
 
+/// The first record of a set, if there is one and it is short.
+pub fn short_record(wallet: &Wallet, query: Query, set: u32) -> Option<Vec<u16>> {
+    let mut cells = vec![0; FIRST_CELLS];
+    let length = bwlchareg::write(&wallet.table.numbers(), query, set, &mut cells).ok()?;
+    cells.truncate(length);
+    Some(cells)
+}
+
 /// A refusal of a set in words.
 pub fn refused(wallet: &Wallet, query: Query, set: u32, refusal: Refusal) -> String {
     let words = match refusal.number {

@@ -2,7 +2,7 @@
 
 use std::fmt::Display;
 
-use bwlchareg::Refusal;
+use bwlchareg::{layout, upgraded, Refusal};
 
 use crate::Wallet;
 
@@ -27,6 +27,28 @@ pub fn of_program(refusal: Refusal) -> String {
     }
 }
 
+/// The words for a refusal of an input's table, which may be one of the base
+/// layout.
+pub fn of_table(table: &[u16], refusal: Refusal) -> String {
+    let said = of_program(refusal);
+    match refusal.number {
+        3 if upgraded(table).is_ok() => format!(
+            "{said}; it is that of the base layout, which has no marks: `wallet upgrade` adds them"
+        ),
+        _ => said,
+    }
+}
+
+/// The words for a refusal of an input's table that should be one of the base
+/// layout.
+pub fn of_base(table: &[u16], refusal: Refusal) -> String {
+    match refusal.number {
+        3 if table.len() == layout::length(table) => "the table has marks already".to_string(),
+        3 => "the table's length is not what its head says in the base layout".to_string(),
+        _ => of_program(refusal),
+    }
+}
+
 /// The line of the record or the query that a refusal's position means.
 pub fn line(wallet: &Wallet, refusal: Refusal) -> Option<usize> {
     let lines = &wallet.lines;
@@ -39,15 +61,15 @@ pub fn line(wallet: &Wallet, refusal: Refusal) -> Option<usize> {
         5 => of(&lines.cells),
         7 => of(&lines.edges),
         8 => lines.query,
-        14 => of(&lines.automata),
+        14 | 17 => of(&lines.automata),
         _ => None,
     }
 }
 
 #[cfg(test)]
 mod tests {
-    use super::told;
-    use bwlchareg::Refusal;
+    use super::{of_base, of_table, told};
+    use bwlchareg::{upgraded, Refusal};
 
     #[test]
     fn a_position_of_0_is_left_out() {
@@ -56,5 +78,29 @@ mod tests {
         assert_eq!(said(14, 1), "refused 14 at 1: so it is");
         let highest = "refused 11 at 18446744073709551615: so it is";
         assert_eq!(said(11, u64::MAX), highest);
+    }
+
+    #[test]
+    fn a_table_of_the_other_layout_is_told_apart() {
+        let length = Refusal {
+            number: 3,
+            position: 0,
+        };
+        let base = [0, 0, 1, 0, 1, 2];
+        let today = upgraded(&base).expect("the base layout");
+        let said = of_table(&base, length);
+        assert!(said.starts_with("the table's length is not what its head says; "));
+        assert!(said.ends_with(": `wallet upgrade` adds them"), "{said}");
+        assert_eq!(of_base(&today, length), "the table has marks already");
+        let neither = [0, 0, 1, 0, 1];
+        assert_eq!(of_table(&neither, length), length.to_string());
+        let said = of_base(&neither, length);
+        let words = "the table's length is not what its head says in the base layout";
+        assert_eq!(said, words);
+        let short = Refusal {
+            number: 1,
+            position: 0,
+        };
+        assert_eq!(of_base(&[], short), of_table(&[], short));
     }
 }

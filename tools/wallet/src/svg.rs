@@ -2,7 +2,8 @@
 //! at its leaves, what the automata say of them, and the verdict above.
 //!
 //! The picture is one SVG document that needs nothing besides. What is at
-//! fault is said in words and has another colour too.
+//! fault is said in words and has another colour too, and so has a word that
+//! meets an automaton for which one word is enough.
 
 mod boxes;
 mod layout;
@@ -12,9 +13,10 @@ use crate::derivation::Judged;
 use crate::tree::{counted, verdict};
 use crate::words::words;
 use crate::Wallet;
-use boxes::{columns, sheets, Sheet};
+use boxes::{columns, sheets, Sheet, Tone};
 use layout::{place, Extent, Pixels, Placed};
-use marks::{line_width, Marks, Rectangle, BAD, GOOD, INK, LIGHT, LIGHT_BAD, PALE, WHITE};
+use marks::{line_width, Marks, Rectangle};
+use marks::{BAD, GOOD, INK, LIGHT, LIGHT_BAD, LIGHT_GOOD, PALE, WHITE};
 
 /// A picture of more nodes than this can no longer be read.
 pub const MOST_NODES: usize = 500;
@@ -203,13 +205,14 @@ impl Drawing {
             height: under_height(sheet),
             ..room
         };
-        let (fill, fill_under, ink) = match sheet.marked {
-            true => (LIGHT_BAD, LIGHT_BAD, BAD),
-            false => (WHITE, LIGHT, INK),
+        let (fill, fill_under, mark) = match sheet.tone {
+            Tone::Plain => (WHITE, LIGHT, None),
+            Tone::Good => (LIGHT_GOOD, LIGHT_GOOD, Some(GOOD)),
+            Tone::Bad => (LIGHT_BAD, LIGHT_BAD, Some(BAD)),
         };
-        marks.rectangle(room, fill, sheet.marked);
+        marks.rectangle(room, fill, mark);
         if under.height > 0 {
-            marks.rectangle(under, fill_under, sheet.marked);
+            marks.rectangle(under, fill_under, mark);
         }
         let left = room.left + INSIDE;
         let mut y = top + INSIDE + ASCENT;
@@ -219,6 +222,7 @@ impl Drawing {
             y += LINE;
         }
         lines(marks, left, y, INK, &sheet.credential);
+        let ink = mark.unwrap_or(INK);
         lines(marks, left, under.top + INSIDE + ASCENT, ink, &sheet.under);
     }
 }

@@ -66,13 +66,43 @@ pub struct Cell {
     pub next: u16,
 }
 
-/// An automaton: two sets of states, in which state s counts 2^s.
+/// An automaton: two sets of states, in which state s counts 2^s, and its mark.
 #[derive(Clone, Copy, Debug, PartialEq, Eq)]
 pub struct Automaton {
     /// The starting states.
     pub start: u16,
     /// The accepting states.
     pub accept: u16,
+    /// What it demands of the words of a record.
+    pub mark: Mark,
+}
+
+/// What an automaton demands of the words of a record.
+#[derive(Clone, Copy, Debug, Default, PartialEq, Eq)]
+pub enum Mark {
+    /// Mark 0: that it accepts every word.
+    #[default]
+    EveryWord,
+    /// Mark 1: that it accepts at least one word.
+    SomeWord,
+}
+
+impl Mark {
+    /// The mark's number.
+    fn number(self) -> u16 {
+        match self {
+            Mark::EveryWord => layout::EVERY_WORD,
+            Mark::SomeWord => layout::SOME_WORD,
+        }
+    }
+
+    /// The line of a wallet's text that says so.
+    pub fn text(self) -> &'static str {
+        match self {
+            Mark::EveryWord => "every word",
+            Mark::SomeWord => "some word",
+        }
+    }
 }
 
 /// Which roles an edge reads.
@@ -137,7 +167,7 @@ impl Table {
         ];
         numbers.extend(self.credentials.iter().flat_map(credential_numbers));
         numbers.extend(self.cells.iter().flat_map(cell_numbers));
-        numbers.extend(self.automata.iter().flat_map(|a| [a.start, a.accept]));
+        numbers.extend(self.automata.iter().flat_map(automaton_numbers));
         numbers.extend(self.edges.iter().flat_map(edge_numbers));
         numbers
     }
@@ -160,6 +190,11 @@ impl Table {
                 .collect(),
             edges: records(edges, layout::edge).map(edge).collect(),
         })
+    }
+
+    /// The automaton of a number, from 1, if there is one.
+    pub fn automaton(&self, number: u16) -> Option<&Automaton> {
+        self.automata.get(usize::from(number).checked_sub(1)?)
     }
 
     /// The roles of the chain that begins at a part cell.
@@ -190,6 +225,10 @@ fn cell_numbers(cell: &Cell) -> [u16; layout::CELL] {
     [cell.role.owner, cell.role.name, cell.next]
 }
 
+fn automaton_numbers(automaton: &Automaton) -> [u16; layout::AUTOMATON] {
+    [automaton.start, automaton.accept, automaton.mark.number()]
+}
+
 fn edge_numbers(edge: &Edge) -> [u16; layout::EDGE] {
     let (label, owner, name) = match edge.label {
         Label::Only(role) => (1, role.owner, role.name),
@@ -201,7 +240,7 @@ fn edge_numbers(edge: &Edge) -> [u16; layout::EDGE] {
 }
 
 // The checker has accepted the numbers that the functions below are given, so
-// every kind and label is one of those that are told apart.
+// every kind, mark and label is one of those that are told apart.
 
 fn credential(numbers: &[u16]) -> Credential {
     let (first, second) = (numbers[3], numbers[4]);
@@ -228,6 +267,10 @@ fn automaton(numbers: &[u16]) -> Automaton {
     Automaton {
         start: numbers[0],
         accept: numbers[1],
+        mark: match numbers[2] {
+            layout::EVERY_WORD => Mark::EveryWord,
+            _ => Mark::SomeWord,
+        },
     }
 }
 

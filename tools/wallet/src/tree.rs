@@ -1,15 +1,16 @@
 //! A judged record as text: its nodes as an indented tree, its words, the
 //! runs of its automata, and the verdict on the last line.
 //!
-//! A line that begins with `>>` is at fault. Records can be very long; then
-//! the first nodes and words are shown, what is at fault, and how many more
-//! there are.
+//! A line that begins with `>>` is at fault. Where one word is enough for an
+//! automaton, it is said which word meets it. Records can be very long; then the
+//! first nodes and words are shown, what is at fault, and how many more there
+//! are.
 
 use crate::derivation::{ancestors, numbered, Judged, Node};
 use crate::limits::NAMES;
 use crate::names::Names;
 use crate::refusal;
-use crate::table::Role;
+use crate::table::{Mark, Role};
 use crate::words::{roles, run, states, used_credentials, words, Word, Words};
 use crate::Wallet;
 
@@ -17,8 +18,8 @@ use crate::Wallet;
 pub const NODES_SHOWN: usize = 1_000;
 /// So many words are shown, and so many runs of each automaton.
 pub const WORDS_SHOWN: usize = 1_000;
-/// So many rejected words are shown behind those.
-pub const REJECTED_SHOWN: usize = 10;
+/// So many words on which the automaton's judgement rests are shown behind those.
+pub const DECISIVE_SHOWN: usize = 10;
 /// A tree whose goals take more columns than this is not lined up further.
 const WIDEST: usize = 72;
 
@@ -49,13 +50,52 @@ pub fn text(wallet: &Wallet, judged: &Judged) -> String {
     lines.join("\n")
 }
 
-/// The tree of a judged record and the verdict, without its words and runs.
+/// The tree of a judged record and the verdict, without its words and runs; but
+/// with the words that meet automata for which one word is enough.
 pub fn short(wallet: &Wallet, judged: &Judged) -> String {
+    let words = words(wallet, judged);
     let mut lines = Vec::new();
     tree(wallet, judged, &mut lines);
-    lines.push(verdict(wallet, judged, &words(wallet, judged)));
+    for Meeting {
+        automaton,
+        number,
+        roles,
+    } in meetings(wallet, judged, &words)
+    {
+        let name = wallet.names.constraint(automaton);
+        let roles = roles.join(", ");
+        lines.push(format!(
+            "constraint {name} is met by word {number}: {roles}"
+        ));
+    }
+    lines.push(verdict(wallet, judged, &words));
     lines.push(String::new());
     lines.join("\n")
+}
+
+/// That a word meets an automaton for which one word is enough.
+pub struct Meeting {
+    /// The automaton.
+    pub automaton: u16,
+    /// The word's number, from 1.
+    pub number: usize,
+    /// The word's roles, by their names.
+    pub roles: Vec<String>,
+}
+
+/// For each automaton for which one word is enough, the first word that meets it,
+/// if there is one.
+pub fn meetings(wallet: &Wallet, judged: &Judged, words: &Words) -> Vec<Meeting> {
+    let first = |automaton| {
+        let mut numbered = (1..).zip(&words.words);
+        let (number, word) = numbered.find(|(_, word)| words.meets(word, automaton))?;
+        Some(Meeting {
+            automaton,
+            number,
+            roles: role_names(wallet, judged, word),
+        })
+    };
+    words.lenient().filter_map(first).collect()
 }
 
 /// The verdict: `accepted: used set 7 = credentials 1, 2, 3`, or `refused 14
@@ -86,15 +126,16 @@ fn credentials(numbers: &[u16]) -> String {
     format!("credential{plural} {}", listed.join(", "))
 }
 
-/// How many words the automaton at this position rejects.
+/// How many words the automaton at this position rejects, or that it accepts none.
 fn rejection(wallet: &Wallet, words: &Words, position: u64) -> Option<String> {
     let automaton = u16::try_from(position).ok()?;
-    let rejected = words.rejected(automaton);
+    let said = match words.is_lenient(automaton) {
+        true => "accepts none".to_string(),
+        false => format!("rejects {}", words.rejected(automaton)),
+    };
     let name = wallet.names.constraint(automaton);
-    (rejected > 0).then(|| {
-        let all = counted(words.words.len(), "word");
-        format!("constraint {name} rejects {rejected} of {all}")
-    })
+    let all = counted(words.words.len(), "word");
+    (!words.is_met(automaton)).then(|| format!("constraint {name} {said} of {all}"))
 }
 
 /// So many of something: `1 word`, `2 words`.
@@ -220,14 +261,19 @@ fn word_list(wallet: &Wallet, judged: &Judged, words: &Words, lines: &mut Vec<St
     lines.push("words".to_string());
     let width = width(words);
     for (number, word) in (1..).zip(&words.words).take(WORDS_SHOWN) {
-        let roles = roles(judged, &judged.nodes[word.leaf]);
-        let roles: Vec<String> = roles.iter().map(|role| wallet.names.role(*role)).collect();
-        lines.push(format!("{NO_FAULT} {number:>width$}  {}", roles.join(", ")));
+        let roles = role_names(wallet, judged, word).join(", ");
+        lines.push(format!("{NO_FAULT} {number:>width$}  {roles}"));
     }
     let more = words.words.len().saturating_sub(WORDS_SHOWN);
     if more > 0 {
         lines.push(format!("{NO_FAULT} ... and {}", counted(more, "more word")));
     }
+}
+
+/// The roles of a word, by their names.
+fn role_names(wallet: &Wallet, judged: &Judged, word: &Word) -> Vec<String> {
+    let roles = roles(judged, &judged.nodes[word.leaf]);
+    roles.iter().map(|role| wallet.names.role(*role)).collect()
 }
 
 /// The width of the greatest word's number.
@@ -240,12 +286,16 @@ fn width(words: &Words) -> usize {
 fn runs(wallet: &Wallet, judged: &Judged, words: &Words, automaton: u16, lines: &mut Vec<String>) {
     lines.push(heading(wallet, judged, automaton));
     let line = |(number, word): (usize, &Word)| {
-        let mark = match word.rejected_by(automaton) {
+        let mark = match words.is_fault(word, automaton) {
             true => FAULT,
             false => NO_FAULT,
         };
         let run = run_line(wallet, judged, automaton, word);
-        format!("{mark} {number:>0$}  {run}", width(words))
+        let met = match words.meets(word, automaton) {
+            true => "; met by this word",
+            false => "",
+        };
+        format!("{mark} {number:>0$}  {run}{met}", width(words))
     };
     let numbered = (1..).zip(&words.words);
     lines.extend(numbered.clone().take(WORDS_SHOWN).map(line));
@@ -254,13 +304,16 @@ fn runs(wallet: &Wallet, judged: &Judged, words: &Words, automaton: u16, lines: 
         return;
     }
     let hidden = numbered.skip(WORDS_SHOWN);
-    let rejected = hidden.filter(|(_, word)| word.rejected_by(automaton));
-    let count = rejected.clone().count();
+    // One rejected word decides, or one accepted word where that is enough.
+    let lenient = words.is_lenient(automaton);
+    let decisive = hidden.filter(|(_, word)| word.rejected_by(automaton) != lenient);
+    let count = decisive.clone().count();
+    let judged_so = if lenient { "accepted" } else { "rejected" };
     lines.push(format!(
-        "{NO_FAULT} ... and {}, {count} of them rejected",
+        "{NO_FAULT} ... and {}, {count} of them {judged_so}",
         counted(more, "more word")
     ));
-    lines.extend(rejected.take(REJECTED_SHOWN).map(line));
+    lines.extend(decisive.take(DECISIVE_SHOWN).map(line));
 }
 
 /// What stands above an automaton's runs.
@@ -270,14 +323,16 @@ fn heading(wallet: &Wallet, judged: &Judged, automaton: u16) -> String {
     attached.retain(|&number| {
         numbered(table, number).is_some_and(|credential| credential.automaton == automaton)
     });
-    let accept = usize::from(automaton).checked_sub(1);
-    let accept = accept.and_then(|index| table.automata.get(index));
-    let accept = accept.map_or(0, |own| own.accept);
+    let own = table.automaton(automaton);
+    let demands = match own.map(|own| own.mark) {
+        Some(Mark::SomeWord) => ", demands some word",
+        _ => "",
+    };
     format!(
-        "constraint {}, attached to {}, accepts in {}",
+        "constraint {}, attached to {}, accepts in {}{demands}",
         wallet.names.constraint(automaton),
         credentials(&attached),
-        set(&wallet.names, automaton, accept)
+        set(&wallet.names, automaton, own.map_or(0, |own| own.accept))
     )
 }
 

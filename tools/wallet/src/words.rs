@@ -7,8 +7,11 @@
 
 use crate::derivation::{ancestors, numbered, Judged, Node};
 use crate::limits::{AUTOMATA, STATES};
-use crate::table::{Role, Table};
+use crate::table::{Mark, Role, Table};
 use crate::Wallet;
+
+/// A set of automata, in which automaton i counts 2^(i-1).
+type Automata = u8;
 
 /// A set of states for each automaton, automaton 1 first.
 type Standing = [u16; AUTOMATA];
@@ -18,19 +21,14 @@ type Standing = [u16; AUTOMATA];
 pub struct Word {
     /// The index of its kind 1 node in the list of nodes.
     pub leaf: usize,
-    /// The used automata that reject it: automaton i counts 2^(i-1).
-    rejecting: u8,
+    /// The used automata that reject it.
+    rejecting: Automata,
 }
 
 impl Word {
     /// Whether an automaton, which is a used one, rejects the word.
     pub fn rejected_by(&self, automaton: u16) -> bool {
-        (1..=AUTOMATA as u16).contains(&automaton) && (self.rejecting >> (automaton - 1)) & 1 == 1
-    }
-
-    /// Whether some used automaton rejects the word.
-    pub fn is_rejected(&self) -> bool {
-        self.rejecting != 0
+        is_in(automaton, self.rejecting)
     }
 }
 
@@ -42,13 +40,69 @@ pub struct Words {
     pub words: Vec<Word>,
     /// The used automata, ascending.
     pub automata: Vec<u16>,
+    /// Those of them for which one word is enough.
+    lenient: Automata,
+    /// Those of them that the words do not meet.
+    unmet: Automata,
 }
 
 impl Words {
+    /// These words, as automata that are used with a table judge them.
+    fn new(table: &Table, automata: Vec<u16>, words: Vec<Word>) -> Words {
+        let with_mark = |mark| {
+            let own = |number: &&u16| table.automaton(**number).is_some_and(|a| a.mark == mark);
+            set_of(automata.iter().filter(own))
+        };
+        let by_some = words.iter().fold(0, |set, word| set | word.rejecting);
+        let by_every = words
+            .iter()
+            .fold(Automata::MAX, |set, word| set & word.rejecting);
+        let lenient = with_mark(Mark::SomeWord);
+        Words {
+            unmet: with_mark(Mark::EveryWord) & by_some | lenient & by_every,
+            lenient,
+            words,
+            automata,
+        }
+    }
+
     /// How many of the words an automaton rejects.
     pub fn rejected(&self, automaton: u16) -> usize {
         let words = self.words.iter();
         words.filter(|word| word.rejected_by(automaton)).count()
+    }
+
+    /// Whether the words meet what a used automaton demands.
+    pub fn is_met(&self, automaton: u16) -> bool {
+        !is_in(automaton, self.unmet)
+    }
+
+    /// Whether it is for this word, or for this one too, that an automaton is not
+    /// met. Where one word is enough, a rejected one is at fault only if all are.
+    pub fn is_fault(&self, word: &Word, automaton: u16) -> bool {
+        word.rejected_by(automaton) && !self.is_met(automaton)
+    }
+
+    /// Whether it is for this word, or for this one too, that some automaton is not
+    /// met.
+    pub fn is_at_fault(&self, word: &Word) -> bool {
+        word.rejecting & self.unmet != 0
+    }
+
+    /// Whether one word is enough for an automaton, which is a used one.
+    pub fn is_lenient(&self, automaton: u16) -> bool {
+        is_in(automaton, self.lenient)
+    }
+
+    /// The used automata for which one word is enough, ascending.
+    pub fn lenient(&self) -> impl Iterator<Item = u16> + '_ {
+        let automata = self.automata.iter().copied();
+        automata.filter(|automaton| self.is_lenient(*automaton))
+    }
+
+    /// Whether a word meets an automaton for which one word is enough.
+    pub fn meets(&self, word: &Word, automaton: u16) -> bool {
+        self.is_lenient(automaton) && !word.rejected_by(automaton)
     }
 }
 
@@ -75,7 +129,7 @@ pub fn words(wallet: &Wallet, judged: &Judged) -> Words {
             });
         }
     }
-    Words { words, automata }
+    Words::new(table, automata, words)
 }
 
 /// The credentials that nodes use, ascending.
@@ -134,8 +188,7 @@ pub fn run(table: &Table, automaton: u16, word: &[Role]) -> Vec<u16> {
 
 /// Whether an automaton accepts a word after which it is in these states.
 pub fn accepts(table: &Table, automaton: u16, reached: u16) -> bool {
-    let index = usize::from(automaton).wrapping_sub(1);
-    let accepting = table.automata.get(index).map_or(0, |own| own.accept);
+    let accepting = table.automaton(automaton).map_or(0, |own| own.accept);
     accepting & reached != 0
 }
 
@@ -174,14 +227,27 @@ pub fn states(set: u16) -> impl Iterator<Item = u16> {
 
 /// Which of some automata do not accept a word after which all are in these
 /// sets.
-fn rejecting(table: &Table, automata: &[u16], reached: Standing) -> u8 {
-    let mut set = 0;
-    for &automaton in automata {
-        let index = usize::from(automaton).wrapping_sub(1);
+fn rejecting(table: &Table, automata: &[u16], reached: Standing) -> Automata {
+    let rejects = |automaton: &&u16| {
+        let index = usize::from(**automaton).wrapping_sub(1);
         let own = reached.get(index).copied().unwrap_or(0);
-        if !accepts(table, automaton, own) {
-            set |= 1u8.checked_shl(index as u32).unwrap_or(0);
-        }
-    }
-    set
+        !accepts(table, **automaton, own)
+    };
+    set_of(automata.iter().filter(rejects))
+}
+
+/// The set of some automata.
+fn set_of<'a>(automata: impl Iterator<Item = &'a u16>) -> Automata {
+    automata.fold(0, |set, &automaton| set | bit(automaton))
+}
+
+/// Whether an automaton is in a set.
+fn is_in(automaton: u16, set: Automata) -> bool {
+    set & bit(automaton) != 0
+}
+
+/// What an automaton counts in a set: nothing, if there is no such automaton.
+fn bit(automaton: u16) -> Automata {
+    let index = u32::from(automaton).wrapping_sub(1);
+    (1 as Automata).checked_shl(index).unwrap_or(0)
 }

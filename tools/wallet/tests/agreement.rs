@@ -15,9 +15,9 @@ use reference::generate::{every, policies, valid};
 use reference::random::Random;
 use shown::claims::{made_up, query, wallet};
 use wallet::derivation::{judge, read, Fault, Goal, Judged, Node, Why};
-use wallet::table::{Automaton, Body, Cell, Credential, Edge, Label, Role, Table};
-use wallet::tree::{text, NODES_SHOWN, WORDS_SHOWN};
-use wallet::words::{accepts, roles, run, used_credentials, words};
+use wallet::table::{Automaton, Body, Cell, Credential, Edge, Label, Mark, Role, Table};
+use wallet::tree::{meetings, text, NODES_SHOWN, WORDS_SHOWN};
+use wallet::words::{accepts, roles, run, used_credentials, words, Words};
 use wallet::{svg, Wallet};
 
 /// How often each answer and each reason came up.
@@ -38,9 +38,9 @@ fn check(claim: &Claim, tally: &mut Tally) {
     };
     *tally.entry(key).or_default() += 1;
     match judged.refusal().map(|refusal| refusal.number) {
-        Some(1..=10) => check_unread(&judged),
+        Some(1..=10 | 17) => check_unread(&judged),
         Some(11..=13) => check_fault(&wallet, claim, &judged, tally),
-        _ => check_tree(&wallet, claim, &judged),
+        _ => check_tree(&wallet, claim, &judged, tally),
     }
     check_nodes(&wallet, &judged);
     check_text(&wallet, &judged);
@@ -125,7 +125,7 @@ fn first_reason(wallet: &Wallet, claim: &Claim, judged: &Judged, node: &Node) ->
 
 /// A record that is one whole tree is read whole, and its words and runs are
 /// those by which the checker judges it.
-fn check_tree(wallet: &Wallet, claim: &Claim, judged: &Judged) {
+fn check_tree(wallet: &Wallet, claim: &Claim, judged: &Judged, tally: &mut Tally) {
     assert_eq!(judged.fault, None);
     assert_eq!(
         read(&wallet.table, judged.query, &claim.record),
@@ -137,13 +137,28 @@ fn check_tree(wallet: &Wallet, claim: &Claim, judged: &Judged) {
     let words = words(wallet, judged);
     check_words(wallet, claim, judged, set);
     let mut automata = words.automata.iter();
-    let rejecting = automata.find(|&&automaton| words.rejected(automaton) > 0);
-    match rejecting {
+    let unmet = automata.find(|&&automaton| !is_met(wallet, &words, automaton));
+    match unmet {
         None => assert_eq!(judged.verdict, Ok(set)),
         Some(&automaton) => {
             let (number, position) = (14, u64::from(automaton));
             assert_eq!(judged.verdict, Err(Refusal { number, position }));
         }
+    }
+    for &automaton in &words.automata {
+        let mark = wallet.table.automata[usize::from(automaton) - 1].mark;
+        let met = is_met(wallet, &words, automaton);
+        assert_eq!(words.is_met(automaton), met);
+        *tally.entry(format!("{mark:?} met: {met}")).or_default() += 1;
+    }
+}
+
+/// Whether an automaton accepts as many of the words as it demands.
+fn is_met(wallet: &Wallet, words: &Words, automaton: u16) -> bool {
+    let rejected = words.rejected(automaton);
+    match wallet.table.automata[usize::from(automaton) - 1].mark {
+        Mark::EveryWord => rejected == 0,
+        Mark::SomeWord => rejected < words.words.len(),
     }
 }
 
@@ -222,7 +237,7 @@ fn check_text(wallet: &Wallet, judged: &Judged) {
             let expected = match judged.fault.map(|fault| fault.why) {
                 Some(Why::Remaining(_)) => 1,
                 Some(_) => 2,
-                None if number == 14 => rejected_runs(wallet, judged),
+                None if number == 14 => faulty_runs(wallet, judged),
                 None => 0,
             };
             assert_eq!(marked, expected, "{text}");
@@ -236,14 +251,55 @@ fn check_text(wallet: &Wallet, judged: &Judged) {
         assert_eq!(shown, judged.nodes.len() + 1, "{text}");
     }
     check_shown_runs(judged, &text);
+    check_meetings(wallet, judged, &text);
 }
 
-/// How many runs of used automata reject, of a record without hidden words.
-fn rejected_runs(wallet: &Wallet, judged: &Judged) -> usize {
+/// How many runs of used automata that are not met reject, of a record without
+/// hidden words.
+fn faulty_runs(wallet: &Wallet, judged: &Judged) -> usize {
     let words = words(wallet, judged);
     assert!(words.words.len() <= WORDS_SHOWN);
     let automata = words.automata.iter();
-    automata.map(|&automaton| words.rejected(automaton)).sum()
+    let unmet = automata.filter(|&&automaton| !is_met(wallet, &words, automaton));
+    unmet.map(|&automaton| words.rejected(automaton)).sum()
+}
+
+/// Every word that an automaton accepts for which one word is enough is said to
+/// meet it, and the first of them where the words are not shown.
+fn check_meetings(wallet: &Wallet, judged: &Judged, text: &str) {
+    let words = words(wallet, judged);
+    if words.words.len() > WORDS_SHOWN {
+        return;
+    }
+    let lenient = words.automata.iter().filter(|&&automaton| {
+        wallet.table.automata[usize::from(automaton) - 1].mark == Mark::SomeWord
+    });
+    let accepted = lenient.map(|&automaton| words.words.len() - words.rejected(automaton));
+    let accepted: Vec<usize> = accepted.collect();
+    let met = text
+        .lines()
+        .filter(|line| line.ends_with("; met by this word"));
+    assert!(
+        met.clone().all(|line| line.contains("  accepted: ")),
+        "{text}"
+    );
+    assert_eq!(met.count(), accepted.iter().sum(), "{text}");
+    let demands = text
+        .lines()
+        .filter(|line| line.ends_with(", demands some word"));
+    assert_eq!(demands.count(), accepted.len(), "{text}");
+    let meetings = meetings(wallet, judged, &words);
+    let count = accepted.iter().filter(|count| **count > 0).count();
+    assert_eq!(meetings.len(), count);
+    for meeting in meetings {
+        let earlier = &words.words[..meeting.number];
+        let rejected = earlier
+            .iter()
+            .filter(|word| word.rejected_by(meeting.automaton));
+        assert_eq!(rejected.count(), meeting.number - 1, "{text}");
+        let line = format!(" {}  {}\n", meeting.number, meeting.roles.join(", "));
+        assert!(text.contains(&line), "{line} in {text}");
+    }
 }
 
 /// The lowest automaton with a marked run is the one at which the record is
@@ -306,6 +362,11 @@ fn made_up_records_are_shown_as_they_are_judged() {
     }
     for why in ["MiddleNotZero", "TooDeep", "OnBranch"] {
         met(&tally, why, 100);
+    }
+    for mark in [Mark::EveryWord, Mark::SomeWord] {
+        for is_met in [true, false] {
+            met(&tally, &format!("{mark:?} met: {is_met}"), 200);
+        }
     }
 }
 
@@ -380,6 +441,7 @@ fn constrain_owners(random: &mut Random, table: &mut Table, credential: u16) {
     table.automata.push(Automaton {
         start: random.between(1, 3),
         accept: random.between(1, 3),
+        mark: *random.pick(&[Mark::EveryWord, Mark::SomeWord]),
     });
     let automaton = table.automata.len() as u16;
     table.credentials[usize::from(credential) - 1].automaton = automaton;
@@ -504,6 +566,7 @@ fn any_table(random: &mut Random) -> Table {
         table.automata.push(Automaton {
             start: random.between(0, 3),
             accept: random.between(0, 3),
+            mark: *random.pick(&[Mark::EveryWord, Mark::SomeWord]),
         });
     }
     for _ in 0..random.below(4) {

@@ -85,6 +85,95 @@ fn decode() {
     assert!(done.err.starts_with("wallet: refused 3: "), "{}", done.err);
 }
 
+/// The constrained shop's input in the base layout, whose automaton has no mark.
+fn base_input() -> Vec<u8> {
+    let mut input = run(&["encode", CONSTRAINED], b"").out;
+    // Query, head, four credentials, and the automaton's two sets stand before it.
+    let mark = 2 * (4 + 4 + 4 * 6 + 2);
+    assert_eq!(input[mark..mark + 2], [0, 0]);
+    input.drain(mark..mark + 2);
+    input
+}
+
+#[test]
+fn upgrade() {
+    let today = run(&["encode", CONSTRAINED], b"").out;
+    let done = run(&["upgrade"], &base_input());
+    assert_eq!((done.code, done.err.as_str()), (Some(0), ""));
+    assert_eq!(done.out, today);
+    // Without automata there is nothing to add.
+    let shop = run(&["encode", SHOP], b"").out;
+    assert_eq!(run(&["upgrade"], &shop).out, shop);
+    let path = fresh("upgraded.input");
+    let name = path.to_str().expect("a path in text");
+    let done = run(&["upgrade", "-o", name], &base_input());
+    assert_eq!((done.code, done.out.len()), (Some(0), 0));
+    assert_eq!(fs::read(&path).expect("the file"), today);
+}
+
+#[test]
+fn what_has_not_the_base_layout_is_not_upgraded() {
+    let today = run(&["encode", CONSTRAINED], b"").out;
+    let base = base_input();
+    let over = [&[4, 0, 1, 0, 1, 0, 2, 0, 21, 0][..], &[0; 6]].concat();
+    for (input, told) in [
+        (&today[..], "3: the table has marks already"),
+        (
+            &base[..base.len() - 2],
+            "3: the table's length is not what its head says in the base layout",
+        ),
+        (&over, "2: a count in the table's head is over its limit"),
+        (
+            &base[..9],
+            "1: the input has fewer than 16 bytes, or an odd number of them",
+        ),
+        (
+            b"",
+            "1: the input has fewer than 16 bytes, or an odd number of them",
+        ),
+    ] {
+        let done = run(&["upgrade"], input);
+        assert_eq!(done.code, Some(1), "{told}");
+        assert!(done.out.is_empty(), "{told}");
+        assert_eq!(done.err, format!("wallet: refused {told}\n"));
+    }
+}
+
+#[test]
+fn an_input_of_the_base_layout_is_told_as_one() {
+    let done = run(&["decode"], &base_input());
+    assert_eq!(done.code, Some(1));
+    let told = "wallet: refused 3: the table's length is not what its head says; it is that of \
+        the base layout, which has no marks: `wallet upgrade` adds them\n";
+    assert_eq!(done.err, told);
+}
+
+#[test]
+fn marks() {
+    let mut input = run(&["encode", CONSTRAINED], b"").out;
+    let mark = 2 * (4 + 4 + 4 * 6 + 2);
+    input[mark] = 1;
+    let text = run(&["decode", "--names", CONSTRAINED], &input).text();
+    let head = "constraint not-for-discounts\n  some word\n  start 0\n";
+    assert!(text.contains(head), "{text}");
+    assert_eq!(run(&["encode", "-"], text.as_bytes()).out, input);
+    // That every word is demanded may be said, and need not.
+    let every = text.replace("some word", "every word");
+    let bare = text.replace("  some word\n", "");
+    let usual = run(&["encode", CONSTRAINED], b"").out;
+    assert_eq!(run(&["encode", "-"], every.as_bytes()).out, usual);
+    assert_eq!(run(&["encode", "-"], bare.as_bytes()).out, usual);
+    input[mark] = 2;
+    let done = run(&["decode"], &input);
+    assert_eq!(done.code, Some(1));
+    let told = "wallet: refused 17 at 1: automaton 1 has a mark that is neither 0 nor 1\n";
+    assert_eq!(done.err, told);
+    let done = run(&["explain", CONSTRAINED], b"refused 17 1\n");
+    assert_eq!(done.code, Some(1));
+    let told = "refused 17 at 1: automaton 1 has a mark that is neither 0 nor 1 (line 10)\n";
+    assert_eq!(done.text(), told);
+}
+
 #[test]
 fn an_input_that_is_refused_has_no_text() {
     let mut input = run(&["encode", SHOP], b"").out;

@@ -52,8 +52,8 @@ const SHOP: &[u8] = include_bytes!("../../../examples/shop-constrained.wallet");
 
 /// A text with all kinds of lines.
 const CELLS: &str = "cell 1 = A.r then 2\ncell 2 = B.s\nA.r <- A.r & B.s at cell 1 under c\n\
-    A.r <- A.r & B.s & C.t\nconstraint c\nstart x 0\naccept\nx -- not A.r --> y\n\
-    constraint d\nedges of c\n0 -- C.t --> 15\n0 -- any of E --> x\n0 -- any --> x\n\
+    A.r <- A.r & B.s & C.t\nconstraint c\nstart x 0\nsome word\naccept\nx -- not A.r --> y\n\
+    constraint d\nevery word\nedges of c\n0 -- C.t --> 15\n0 -- any of E --> x\n0 -- any --> x\n\
     D in A.r within 16\nprincipals Z = 64\n";
 
 #[test]
@@ -105,6 +105,10 @@ fn random_words_of_the_lines() {
         "0 -- any --> 1",
         "0 -- any of A --> 1",
         "constraint c\n",
+        "some word\n",
+        "every",
+        "some",
+        "word",
         "at cell 1",
     ];
     let words = [&KEPT[..], &others].concat();

@@ -4,18 +4,20 @@
 
 mod common;
 
+use std::collections::BTreeSet;
 use std::io::Write;
 use std::path::PathBuf;
 use std::process::{Command, Stdio};
 
-use common::{made_up, nameless, query};
+use common::{made_up, marked, nameless, query};
 use reference::generate::{crossed, wallets};
 use reference::random::Random;
 use wallet::answer::{listed, printed, Answer};
 use wallet::explain::{explain, COLUMNS};
 use wallet::parse::parse;
 use wallet::print::print;
-use wallet::table::Body;
+use wallet::table::{Body, Mark, Role};
+use wallet::words::{accepts, run as run_of};
 use wallet::{program, Wallet};
 
 /// What the listing program prints.
@@ -75,8 +77,45 @@ fn assert_words(words: &str, wallet: &Wallet, answer: &Answer) {
             assert!(line.ends_with(&format!("  line {place}")), "{line}");
         }
         let rows: Vec<&str> = lines.collect();
-        assert_shown(&rows, wallet, *set);
+        let meets = rows.iter().position(|row| row.starts_with("  meets "));
+        let (shown, met) = rows.split_at(meets.unwrap_or(rows.len()));
+        assert_shown(shown, wallet, *set);
+        assert_met(met, wallet, *set);
     }
+}
+
+/// The rows have each constraint of a set's credentials for which one word is
+/// enough, with a word that it accepts.
+fn assert_met(rows: &[&str], wallet: &Wallet, set: u32) {
+    let (table, names) = (&wallet.table, &wallet.names);
+    let numbered = table.credentials.iter().enumerate();
+    let used = numbered.filter(|(index, _)| set & (1 << index) != 0);
+    let automata: BTreeSet<u16> = used.map(|(_, credential)| credential.automaton).collect();
+    let lenient = automata.into_iter().filter(|&number| {
+        let own = table.automaton(number);
+        own.is_some_and(|own| own.mark == Mark::SomeWord)
+    });
+    let mut rows = rows.iter().peekable();
+    for automaton in lenient {
+        let before = format!("  meets {} by ", names.constraint(automaton));
+        let first = rows.next().expect("a row for each constraint");
+        let mut word = first.strip_prefix(&before).expect("its word").to_string();
+        while let Some(more) = rows.next_if(|row| row.starts_with("   ")) {
+            assert!(word.ends_with(','));
+            word = format!("{word} {}", more.trim_start());
+        }
+        let roles: Vec<Role> = word.split(", ").map(|name| role(wallet, name)).collect();
+        let reached = run_of(table, automaton, &roles).last().copied();
+        assert!(accepts(table, automaton, reached.unwrap_or(0)), "{word}");
+    }
+    assert_eq!(rows.next(), None);
+}
+
+/// The role with these names.
+fn role(wallet: &Wallet, text: &str) -> Role {
+    let all = (1..=64).flat_map(|owner| (1..=64).map(move |name| Role { owner, name }));
+    let mut all = all.filter(|role| wallet.names.role(*role) == text);
+    all.next().unwrap_or_else(|| panic!("no role {text}"))
 }
 
 /// The rows have the members that a set's credentials of kind 1 name, each
@@ -121,20 +160,23 @@ fn give_long_names(wallet: &mut Wallet) {
 #[test]
 fn wallets_with_lists() {
     let mut random = Random::new(2020);
-    let (mut several, mut wrapped) = (0, 0);
+    let (mut several, mut wrapped, mut met) = (0, 0, 0);
     for round in 0..200 {
         let grown = match round % 2 {
             0 => wallets::made_up(&mut random),
             _ => crossed::made_up(&mut random),
         };
-        let mut wallet = nameless(&grown.records.numbers(), Some(query(grown.query)));
+        let numbers = marked(&mut random, grown.records.numbers());
+        let mut wallet = nameless(&numbers, Some(query(grown.query)));
         give_long_names(&mut wallet);
         let answer = compare(&wallet);
         let words = explain(&wallet, wallet.query.expect("a query"), &answer);
         wrapped += usize::from(words.contains(",\n"));
+        met += usize::from(words.contains("\n  meets "));
         several += usize::from(matches!(answer, Answer::Sets(sets) if sets.len() > 1));
     }
-    assert!(several > 30 && wrapped > 30, "{several} {wrapped}");
+    let counts = [several, wrapped, met];
+    assert!(counts.iter().all(|count| *count > 30), "{counts:?}");
 }
 
 #[test]

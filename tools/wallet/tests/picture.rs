@@ -8,15 +8,19 @@ use bwlchareg::Query;
 use reference::generate::wide;
 use shown::claims::{made_up, query, wallet};
 use shown::xml::{elements, Element};
-use shown::{club, constrained_shop, shop, Q};
+use shown::{club, constrained_shop, race, shop, Q};
 use wallet::derivation::{judge, Judged};
 use wallet::svg::{picture, MOST_NODES};
 use wallet::table::Table;
 use wallet::tree::text;
+use wallet::words::Word;
 use wallet::Wallet;
 
 /// Record R of the shop example.
 const R: [u16; 6] = [1, 2, 2, 0, 3, 0];
+/// The edges of boxes that are marked.
+const GOOD: &str = "#116329";
+const BAD: &str = "#b42318";
 
 /// A rectangle: left, top, right, foot.
 type Room = [i64; 4];
@@ -60,8 +64,9 @@ struct Parts {
     whole: Room,
     /// The boxes, and what stands under them.
     boxes: Vec<Room>,
-    /// How many of those are marked.
+    /// How many of those are marked as bad, and how many as good.
     marked: usize,
+    good: usize,
     /// The patches under what stands on a branch.
     patches: Vec<Room>,
     /// The strokes.
@@ -88,6 +93,7 @@ fn parts(svg: &str) -> Parts {
         whole: [0, 0, width, height],
         boxes: Vec::new(),
         marked: 0,
+        good: 0,
         patches: Vec::new(),
         strokes: Vec::new(),
         texts: Vec::new(),
@@ -97,8 +103,13 @@ fn parts(svg: &str) -> Parts {
         match element.name.as_str() {
             "rect" if element.attributes.contains_key("stroke") => {
                 parts.boxes.push(room(element));
-                let marked = element.attributes.contains_key("stroke-width");
-                parts.marked += usize::from(marked);
+                if element.attributes.contains_key("stroke-width") {
+                    match element.attributes["stroke"].as_str() {
+                        BAD => parts.marked += 1,
+                        GOOD => parts.good += 1,
+                        other => panic!("a mark in the colour {other}"),
+                    }
+                }
             }
             "rect" => parts.patches.push(room(element)),
             "line" => parts.strokes.push(stroke(element)),
@@ -200,6 +211,34 @@ fn rejected_words_are_marked() {
     }
     assert_eq!((parts.boxes.len(), parts.marked), (5, 4));
     assert!(parts.title.contains("refused 14 at 1: "));
+}
+
+#[test]
+fn the_word_that_is_enough_is_marked() {
+    let wallet = race();
+    let query = wallet.query.expect("a query");
+    // Through the centre, which both constraints like.
+    let judged = judge(&wallet, query, &[1, 0, 2, 0, 3, 0, 4, 4, 5, 0, 7, 0]);
+    let parts = check(&picture(&wallet, &judged).expect("a picture"));
+    let text = said(&parts);
+    for number in [1, 2] {
+        let plain = format!("word {number} through-centre rejects for-races accepts");
+        assert!(text.contains(&plain), "{text}");
+    }
+    let enough = "word 3 through-centre accepts: met for-races accepts";
+    assert!(text.contains(enough), "{text}");
+    assert_eq!((parts.marked, parts.good), (0, 2));
+    // Through the physiotherapist, which no word makes good.
+    let judged = judge(&wallet, query, &[1, 0, 2, 0, 3, 0, 4, 5, 6, 0, 8, 0]);
+    let parts = check(&picture(&wallet, &judged).expect("a picture"));
+    let text = said(&parts);
+    let none = "refused 14 at 1: constraint through-centre accepts none of 3 words";
+    assert!(text.contains(none), "{text}");
+    for number in 1..=3 {
+        let rejected = format!("word {number}: rejected through-centre rejects");
+        assert!(text.contains(&rejected), "{text}");
+    }
+    assert_eq!((parts.marked, parts.good), (6, 0));
 }
 
 #[test]
@@ -305,8 +344,8 @@ fn name_everything(wallet: &mut Wallet) {
 
 #[test]
 fn made_up_records_are_drawn() {
-    let (mut drawn, mut marked, mut largest) = (0, 0, 0);
-    made_up(7, 100, |claim| {
+    let (mut drawn, mut marked, mut good, mut largest) = (0, 0, 0, 0);
+    made_up(7, 60, |claim| {
         let Some(mut wallet) = wallet(claim) else {
             return;
         };
@@ -319,12 +358,13 @@ fn made_up_records_are_drawn() {
         check_content(&wallet, &judged, &parts);
         drawn += 1;
         marked += usize::from(parts.marked > 0);
+        good += usize::from(parts.good > 0);
         largest = largest.max(judged.nodes.len());
         name_everything(&mut wallet);
         check(&picture(&wallet, &judged).expect("a picture"));
     });
-    println!("{drawn} pictures, {marked} with marks, up to {largest} nodes");
-    assert!(drawn > 2_000 && marked > 1_000 && largest > 100);
+    println!("{drawn} pictures, {marked} with faults, {good} with good words, to {largest} nodes");
+    assert!(drawn > 2_000 && marked > 1_000 && good > 50 && largest > 100);
 }
 
 /// Every node, word and verdict of a record is in its picture.
@@ -333,8 +373,13 @@ fn check_content(wallet: &Wallet, judged: &Judged, parts: &Parts) {
     let faulty = usize::from(judged.faulty().is_some());
     let boxes = judged.nodes.len() + words.words.len() + faulty;
     assert_eq!(parts.boxes.len(), boxes);
-    let rejected = words.words.iter().filter(|word| word.is_rejected());
-    assert_eq!(parts.marked, 2 * (rejected.count() + faulty));
+    let (bad, others): (Vec<&Word>, Vec<&Word>) = words
+        .words
+        .iter()
+        .partition(|word| words.automata.iter().any(|&own| words.is_fault(word, own)));
+    assert_eq!(parts.marked, 2 * (bad.len() + faulty));
+    let meets = |word: &&&Word| words.automata.iter().any(|&own| words.meets(word, own));
+    assert_eq!(parts.good, 2 * others.iter().filter(meets).count());
     let said = said(parts);
     for number in 1..=words.words.len() {
         assert!(said.contains(&format!("word {number}")), "{said}");
@@ -349,7 +394,14 @@ fn check_content(wallet: &Wallet, judged: &Judged, parts: &Parts) {
         // The verdict says it once more of the lowest one.
         let above = u64::from(*automaton);
         let above = judged.refusal().is_some_and(|one| one.position == above);
+        let above = above && !words.is_lenient(*automaton);
         assert_eq!(rejects, words.rejected(*automaton) + usize::from(above));
+        let met = said.matches(&format!(" {name} accepts: met")).count();
+        let meets = words
+            .words
+            .iter()
+            .filter(|word| words.meets(word, *automaton));
+        assert_eq!(met, meets.count());
     }
     let text = text(wallet, judged);
     let verdict = text.lines().last().unwrap_or_default();

@@ -5,7 +5,7 @@
 mod common;
 
 use bwlchareg::{layout, Query, Refusal};
-use common::{made_up, nameless, query};
+use common::{made_up, marked, nameless, query};
 use reference::generate::{crossed, wallets};
 use reference::random::Random;
 use wallet::answer::{listed, Answer};
@@ -19,11 +19,13 @@ use wallet::Wallet;
 /// The most sets of one wallet that are looked at.
 const SETS: usize = 12;
 
-/// How many records there were, and how many of them had a middle.
+/// How many records there were, how many of them had a middle, and how many
+/// words were enough for a constraint.
 #[derive(Default)]
 struct Seen {
     records: usize,
     linked: usize,
+    met: usize,
 }
 
 /// Looks at the listed sets of a wallet, and at a set that is not listed.
@@ -62,8 +64,19 @@ fn check_set(wallet: &Wallet, asked: Query, set: u32, seen: &mut Seen) {
     let tree = block.text.strip_prefix(&head).expect("the record");
     // The tree and the verdict are those of `verify`.
     let shown = text(wallet, &judged);
-    let (verdict, nodes) = last_line(tree);
+    let (verdict, above) = last_line(tree);
     assert_eq!(verdict, last_line(&shown).0);
+    // Between them are the words that meet constraints for which one is enough.
+    let (nodes, met) = match above.find("\nconstraint ") {
+        Some(place) => above.split_at(place),
+        None => (above, ""),
+    };
+    for line in met.trim_start().lines() {
+        let (_, word) = line.split_once(" is met by word ").expect("a word");
+        let (number, roles) = word.split_once(": ").expect("its roles");
+        assert!(shown.contains(&format!(" {number}  {roles}\n")), "{shown}");
+        seen.met += 1;
+    }
     assert!(
         shown.contains(&format!("\n\n{nodes}\n\nwords\n")),
         "{shown}"
@@ -127,11 +140,11 @@ fn wallets_with_lists() {
             0 => wallets::made_up(&mut random),
             _ => crossed::made_up(&mut random),
         };
-        let numbers = grown.records.numbers();
+        let numbers = marked(&mut random, grown.records.numbers());
         check(&nameless(&numbers, Some(query(grown.query))), &mut seen);
     }
-    let Seen { records, linked } = seen;
-    assert!(records > 500 && linked > 50, "{records} {linked}");
+    let counts = [seen.records, 10 * seen.linked, 10 * seen.met];
+    assert!(counts.iter().all(|count| *count > 500), "{counts:?}");
 }
 
 #[test]

@@ -10,7 +10,7 @@ use reference::random::Random;
 use wallet::parse::parse;
 use wallet::print::print;
 use wallet::program;
-use wallet::table::{Body, Edge, Label, Table};
+use wallet::table::{Automaton, Body, Edge, Label, Mark, Table};
 use wallet::Wallet;
 
 const TABLES: usize = 6000;
@@ -179,6 +179,7 @@ struct Seen {
     edges_in_order: usize,
     labels_of_an_owner: usize,
     empty_sets: usize,
+    mixed_marks: usize,
     full: usize,
 }
 
@@ -210,6 +211,10 @@ impl Seen {
         let of_an_owner = |edge: &Edge| matches!(edge.label, Label::Of(_));
         self.labels_of_an_owner += usize::from(table.edges.iter().any(of_an_owner));
         self.empty_sets += usize::from(table.automata.iter().any(|a| a.start == 0));
+        let lenient = |automaton: &&Automaton| automaton.mark == Mark::SomeWord;
+        let lenient = table.automata.iter().filter(lenient).count();
+        assert_eq!(text.matches("\n  some word\n").count(), lenient, "{text}");
+        self.mixed_marks += usize::from((1..table.automata.len()).contains(&lenient));
         self.full += usize::from(table.credentials.len() == 20 && table.cells.len() == 63);
     }
 
@@ -224,6 +229,7 @@ impl Seen {
             self.edges_in_order,
             self.labels_of_an_owner,
             self.empty_sets,
+            self.mixed_marks,
             self.full,
         ];
         assert!(counts.iter().all(|count| *count >= 40), "{self:?}");

@@ -99,11 +99,11 @@ D in A.r within 1
 
 #[test]
 fn states_that_are_words_get_the_least_that_is_not_named() {
-    let text = "constraint c\naccept b 1\nstart a\n a -- any --> b\n b -- any --> z\n\
+    let text = "constraint c\naccept b 1\nsome word\nstart a\n a -- any --> b\n b -- any --> z\n\
                 constraint d\n x -- any --> a\nedges of c\n 3 -- any --> y\n";
     let wallet = read(text);
     // b, a, z, y around 1 and 3: 0, 2, 4, 5; x and a are 0 and 1.
-    let automata = [1 << 2, 1 << 0 | 1 << 1, 0, 0];
+    let automata = [1 << 2, 1 << 0 | 1 << 1, 1, 0, 0, 0];
     let edges = [
         [1, 2, 2, 0, 0, 0],
         [1, 0, 2, 0, 0, 4],
@@ -116,7 +116,8 @@ fn states_that_are_words_get_the_least_that_is_not_named() {
     assert_eq!(wallet.names.state(1, 3), "3");
     assert_eq!(wallet.names.state(2, 1), "a");
     // `accept` stood first, and must, for the words to have these numbers.
-    let expected = "constraint c\n  accept b 1\n  start a\n  a -- any --> b\n  b -- any --> z\n\
+    let expected =
+        "constraint c\n  some word\n  accept b 1\n  start a\n  a -- any --> b\n  b -- any --> z\n\
                     \nconstraint d\n  x -- any --> a\n\nedges of c\n  3 -- any --> y\n";
     assert_eq!(print(&wallet), expected);
 }
@@ -131,7 +132,7 @@ fn cells_are_shared_and_own() {
         vec![1, 1, 4, 4, 0, 0, 1, 1, 4, 2, 0, 1],
         vec![1, 1, 0, 1, 2, 3, 1, 3, 0],
         vec![1, 2, 5, 1, 3, 6, 1, 2, 0],
-        vec![0, 0],
+        vec![0, 0, 0],
     ];
     assert_eq!(wallet.table.numbers(), expected.concat());
     let expected = "principals A = 1\nnames r = 1, s = 2, t = 3\n\n\

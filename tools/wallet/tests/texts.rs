@@ -9,6 +9,7 @@ use common::{assert_same, made_up, nameless};
 use reference::random::Random;
 use wallet::parse::parse;
 use wallet::print::print;
+use wallet::table::Mark;
 use wallet::Wallet;
 
 /// A text in the making, and what it says.
@@ -19,8 +20,8 @@ struct Text {
     credentials: Vec<(String, usize)>,
     /// Each edge's words, and its line.
     edges: Vec<(String, usize)>,
-    /// Each constraint's name, starting states and accepting states.
-    constraints: Vec<(String, Vec<String>, Vec<String>)>,
+    /// Each constraint's name, mark, starting states and accepting states.
+    constraints: Vec<(String, Mark, Vec<String>, Vec<String>)>,
     query: Option<String>,
     /// The principals and the role names in the order in which they stand.
     principals: Vec<String>,
@@ -117,13 +118,19 @@ impl Text {
 
     fn add_constraint(&mut self, random: &mut Random, name: String) {
         self.lines.push(format!("constraint {name}"));
-        let pool = ["x", "y", "z", "0", "1", "2", "5"];
+        let pool = ["x", "some", "word", "0", "1", "2", "5"];
         let pool: Vec<&str> = pool.into_iter().filter(|_| !random.one_in(3)).collect();
         let mut sets = [Vec::new(), Vec::new()];
-        let mut order = [0, 1];
+        let mut mark = Mark::EveryWord;
+        let mut order = [0, 1, 2];
         random.shuffle(&mut order);
         for which in order {
             if random.one_in(6) {
+                continue;
+            }
+            if which == 2 {
+                mark = *random.pick(&[Mark::EveryWord, Mark::SomeWord]);
+                self.lines.push(format!("  {}", mark.text()));
                 continue;
             }
             let states = pool.iter().filter(|_| random.one_in(3));
@@ -134,7 +141,7 @@ impl Text {
             sets[which] = states;
         }
         let [start, accept] = sets;
-        self.constraints.push((name, start, accept));
+        self.constraints.push((name, mark, start, accept));
         for _ in 0..random.below(6) {
             if pool.is_empty() {
                 break;
@@ -198,8 +205,9 @@ impl Text {
             "{text}"
         );
         let both = wallet.table.automata.iter().zip(&self.constraints);
-        for (number, (automaton, (name, start, accept))) in (1..).zip(both) {
+        for (number, (automaton, (name, mark, start, accept))) in (1..).zip(both) {
             assert_eq!(wallet.names.constraint(number), *name, "{text}");
+            assert_eq!(automaton.mark, *mark, "{text}");
             for (set, states) in [(automaton.start, start), (automaton.accept, accept)] {
                 let members = (0..16).filter(|state| set & (1 << state) != 0);
                 let members = members.map(|state| wallet.names.state(number, state));

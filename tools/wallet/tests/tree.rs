@@ -5,10 +5,10 @@ mod shown;
 
 use bwlchareg::{Query, Refusal};
 use reference::generate::wide;
-use shown::{chain, club, constrained_shop, credential, edge, names, role, shop, Q};
+use shown::{chain, club, constrained_shop, credential, edge, names, race, role, shop, Q};
 use wallet::derivation::{judge, Judged};
-use wallet::table::{Automaton, Body, Label, Role, Table};
-use wallet::tree::{dead, text, NODES_SHOWN, REJECTED_SHOWN, WORDS_SHOWN};
+use wallet::table::{Automaton, Body, Label, Mark, Role, Table};
+use wallet::tree::{dead, short, text, DECISIVE_SHOWN, NODES_SHOWN, WORDS_SHOWN};
 use wallet::Wallet;
 
 /// Record R of the shop example.
@@ -330,10 +330,12 @@ fn tender() -> Wallet {
             Automaton {
                 start: 1,
                 accept: 5,
+                mark: Mark::EveryWord,
             },
             Automaton {
                 start: 3,
                 accept: 2,
+                mark: Mark::EveryWord,
             },
         ],
         edges: vec![
@@ -395,6 +397,77 @@ fn roles_and_intersections_have_their_children() {
          |refused 14 at 2: constraint constraint-2 rejects 1 of 3 words",
     );
     assert_eq!(judged.refusal(), refused(14, 2));
+}
+
+#[test]
+fn the_word_that_is_enough_is_said() {
+    let race = race();
+    let judged = check(
+        &race,
+        asked(&race),
+        &[1, 0, 2, 0, 3, 0, 4, 4, 5, 0, 7, 0],
+        "|Dora in Race.starter within 3
+         |
+         |   1  Dora in Race.starter       credential 1, line 1: Race.starter <- Race.entered & Race.fit
+         |   2    Dora in Race.entered     credential 2, line 2: Race.entered <- Club.member
+         |   3      Dora in Club.member    credential 3, line 3: Club.member <- Dora under through-centre
+         |   4    Dora in Race.fit         credential 4, line 4: Race.fit <- Race.doctor.passed; middle Centre
+         |   5      Centre in Race.doctor  credential 5, line 5: Race.doctor <- Centre
+         |   6      Dora in Centre.passed  credential 7, line 7: Centre.passed <- Dora under for-races
+         |
+         |words
+         |   1  Race.starter, Race.entered, Club.member
+         |   2  Race.starter, Race.fit, Race.doctor
+         |   3  Race.starter, Race.fit, Centre.passed
+         |
+         |constraint through-centre, attached to credential 3, accepts in {in-centre}, demands some word
+         |   1  rejected: {out} Race.starter {out} Race.entered {out} Club.member {out}
+         |   2  rejected: {out} Race.starter {out} Race.fit {out} Race.doctor {out}
+         |   3  accepted: {out} Race.starter {out} Race.fit {out} Centre.passed {out in-centre}; met by this word
+         |
+         |constraint for-races, attached to credential 7, accepts in {race}
+         |   1  accepted: {new} Race.starter {race} Race.entered {race} Club.member {race}
+         |   2  accepted: {new} Race.starter {race} Race.fit {race} Race.doctor {race}
+         |   3  accepted: {new} Race.starter {race} Race.fit {race} Centre.passed {race}
+         |
+         |accepted: used set 95 = credentials 1, 2, 3, 4, 5, 7",
+    );
+    let short = short(&race, &judged);
+    let met = "\nconstraint through-centre is met by word 3: \
+        Race.starter, Race.fit, Centre.passed\naccepted: used set 95 ";
+    assert!(short.contains(met), "{short}");
+}
+
+#[test]
+fn where_one_word_is_enough_all_are_at_fault_if_none_is_accepted() {
+    let race = race();
+    let judged = check(
+        &race,
+        asked(&race),
+        &[1, 0, 2, 0, 3, 0, 4, 5, 6, 0, 8, 0],
+        "|Dora in Race.starter within 3
+         |
+         |   1  Dora in Race.starter       credential 1, line 1: Race.starter <- Race.entered & Race.fit
+         |   2    Dora in Race.entered     credential 2, line 2: Race.entered <- Club.member
+         |   3      Dora in Club.member    credential 3, line 3: Club.member <- Dora under through-centre
+         |   4    Dora in Race.fit         credential 4, line 4: Race.fit <- Race.doctor.passed; middle Physio
+         |   5      Physio in Race.doctor  credential 6, line 6: Race.doctor <- Physio
+         |   6      Dora in Physio.passed  credential 8, line 8: Physio.passed <- Dora
+         |
+         |words
+         |   1  Race.starter, Race.entered, Club.member
+         |   2  Race.starter, Race.fit, Race.doctor
+         |   3  Race.starter, Race.fit, Physio.passed
+         |
+         |constraint through-centre, attached to credential 3, accepts in {in-centre}, demands some word
+         |>> 1  rejected: {out} Race.starter {out} Race.entered {out} Club.member {out}
+         |>> 2  rejected: {out} Race.starter {out} Race.fit {out} Race.doctor {out}
+         |>> 3  rejected: {out} Race.starter {out} Race.fit {out} Physio.passed {out}
+         |
+         |refused 14 at 1: constraint through-centre accepts none of 3 words",
+    );
+    assert_eq!(judged.refusal(), refused(14, 1));
+    assert!(!short(&race, &judged).contains("is met by"));
 }
 
 #[test]
@@ -526,6 +599,7 @@ fn wide_wallet() -> Wallet {
     table.automata = vec![Automaton {
         start: 1,
         accept: 1,
+        mark: Mark::EveryWord,
     }];
     table.credentials[usize::from(LEVELS) - 1].automaton = 1;
     Wallet {
@@ -585,7 +659,43 @@ fn the_first_rejected_words_of_long_records_are_shown() {
     let text = text(&wallet, &judged);
     let expected = "\n   ... and 3096 more words, 1024 of them rejected\n>> 3073  rejected:";
     assert!(text.contains(expected), "{text}");
-    assert_eq!(text.matches("\n>> ").count(), REJECTED_SHOWN);
+    assert_eq!(text.matches("\n>> ").count(), DECISIVE_SHOWN);
+}
+
+#[test]
+fn a_word_far_behind_that_is_enough_is_shown() {
+    let mut wallet = wide_wallet();
+    wallet.table.automata[0].mark = Mark::SomeWord;
+    // The last part of level 1 is another role, which one word in four has.
+    let other = role(1, 50);
+    wallet.table.cells[3].role = other;
+    let again = Body::Contained(role(1, 2));
+    wallet.table.credentials.push(credential(other, again));
+    wallet.table.automata[0].accept = 2;
+    wallet.table.edges = vec![
+        edge(1, 0, Label::Any, 0),
+        edge(1, 0, Label::Only(other), 1),
+        edge(1, 1, Label::Any, 1),
+    ];
+    let mut record = wide::record(LEVELS);
+    let place = record.len() - (record.len() - 2) / 4;
+    record.splice(place..place, [LEVELS + 1, 0]);
+    let query = Query {
+        depth: LEVELS + 1,
+        ..wide_query()
+    };
+    let judged = judge(&wallet, query, &record);
+    assert_eq!(judged.verdict, Ok(255));
+    let text = text(&wallet, &judged);
+    let expected = "\n   ... and 3096 more words, 1024 of them accepted\n   3073  accepted:";
+    assert!(text.contains(expected), "{text}");
+    let met = text
+        .lines()
+        .filter(|line| line.ends_with("; met by this word"));
+    assert_eq!(met.count(), DECISIVE_SHOWN);
+    assert!(!text.contains(">>"));
+    let short = short(&wallet, &judged);
+    assert!(short.contains("\nconstraint constraint-1 is met by word 3073: "));
 }
 
 #[test]

@@ -8,7 +8,7 @@ use crate::mistake::{quoted, Mistake, Place};
 use crate::parse::reader::Word;
 use crate::parse::statement::StateWord;
 use crate::parse::states::States;
-use crate::table::{Automaton, Edge, Label};
+use crate::table::{Automaton, Edge, Label, Mark};
 
 /// The constraints so far. States are known by their ranks.
 #[derive(Clone, Debug, Default)]
@@ -24,6 +24,8 @@ pub struct Constraints {
 #[derive(Clone, Debug)]
 struct Constraint {
     name: Word,
+    /// What it demands, and the line on which that stands.
+    mark: Option<(Mark, usize)>,
     start: Option<Set>,
     accept: Option<Set>,
     states: States,
@@ -40,7 +42,7 @@ struct Set {
 #[derive(Clone, Copy, Debug)]
 struct Open {
     index: usize,
-    /// Whether `start` and `accept` may still come.
+    /// Whether `start`, `accept` and what it demands may still come.
     head: bool,
 }
 
@@ -80,6 +82,7 @@ impl Constraints {
         }
         self.all.push(Constraint {
             name: name.clone(),
+            mark: None,
             start: None,
             accept: None,
             states: States::default(),
@@ -97,6 +100,25 @@ impl Constraints {
             )
         })?;
         self.open = Some(Open { index, head: false });
+        Ok(())
+    }
+
+    /// `every word` or `some word`
+    pub fn demand(&mut self, mark: Mark, place: Place) -> Result<(), Mistake> {
+        let text = quoted(mark.text());
+        let open = self.open.ok_or_else(|| outside(place, &text))?;
+        let own = &mut self.all[open.index].mark;
+        if let Some((earlier, line)) = own {
+            let earlier = quoted(earlier.text());
+            return Err(place.mistake(
+                format_args!("{earlier} stands on line {line} already"),
+                "leave one of the two lines out",
+            ));
+        }
+        if !open.head {
+            return Err(below_edges(place, &text));
+        }
+        *own = Some((mark, place.line));
         Ok(())
     }
 
@@ -119,10 +141,7 @@ impl Constraints {
             ));
         }
         if !open.head {
-            return Err(place.mistake(
-                format_args!("{word} stands below an edge or `edges of`"),
-                "write it right below `constraint`, above the edges",
-            ));
+            return Err(below_edges(place, word));
         }
         *own = Some(Set {
             states: constraint.states.set(states)?,
@@ -170,6 +189,7 @@ impl Constraints {
             Automaton {
                 start: constraint.start.map_or(0, numbered),
                 accept: constraint.accept.map_or(0, numbered),
+                mark: constraint.mark.map_or(Mark::default(), |(mark, _)| mark),
             }
         };
         self.all.iter().map(automaton).collect()
@@ -206,6 +226,14 @@ impl Constraints {
         let same = |constraint: &Constraint| constraint.name.text == name.text;
         self.all.iter().position(same)
     }
+}
+
+/// A line about the whole of a constraint, where its edges have begun.
+fn below_edges(place: Place, what: &str) -> Mistake {
+    place.mistake(
+        format_args!("{what} stands below an edge or `edges of`"),
+        "write it right below `constraint`, above the edges",
+    )
 }
 
 /// A line that belongs to a constraint, outside of any.

@@ -75,6 +75,7 @@ impl Draft {
                 self.add_credential(role, body, under.clone(), place)
             }
             Statement::Constraint(name) => self.constraints.add(name, place),
+            Statement::Demand(mark) => self.constraints.demand(*mark, place),
             Statement::Start(states) => self.constraints.set(Which::Start, states, place),
             Statement::Accept(states) => self.constraints.set(Which::Accept, states, place),
             Statement::Edge(from, label, to) => {

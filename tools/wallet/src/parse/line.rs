@@ -6,12 +6,14 @@ use crate::mistake::{quoted, Mistake, Place};
 use crate::parse::credential;
 use crate::parse::reader::{kept, Number, Reader, Word};
 use crate::parse::statement::{LabelWords, QueryWords, RoleWords, StateWord, Statement};
+use crate::table::Mark;
 use crate::tokens::{Sign, Token};
 
 /// What each kind of line looks like.
 const CREDENTIAL: &str = "`A.r <- D`, `A.r <- B.s`, `A.r <- A.s.t` or `A.r <- B.s & C.t`";
 const EDGE: &str =
     "`0 -- A.r --> 1`, `0 -- not A.r --> 1`, `0 -- any --> 1` or `0 -- any of A --> 1`";
+const DEMAND: &str = "`every word` or `some word`";
 pub const QUERY: &str = "`D in A.r within 2`";
 
 /// Reads a line that has at least one token.
@@ -19,6 +21,9 @@ pub fn statement(line: usize, tokens: &[Token]) -> Result<Statement, Mistake> {
     let reader = |shape| Reader::new(line, tokens, shape);
     let has = |sign: &Sign| tokens.iter().any(|token| token.sign == *sign);
     let has_word = |word: &str| has(&Sign::Word(word.to_string()));
+    if let Some(mark) = demanded(tokens) {
+        return demand(reader(DEMAND), mark);
+    }
     match beginning(line, tokens)? {
         "principals" => {
             numbered(reader("`principals A = 1, B = 2`"), "a principal").map(Statement::Principals)
@@ -33,6 +38,24 @@ pub fn statement(line: usize, tokens: &[Token]) -> Result<Statement, Mistake> {
         _ if has(&Sign::Dashes) || has(&Sign::Onward) => edge(reader(EDGE)),
         _ if has_word("in") || has_word("within") => query(reader(QUERY)).map(Statement::Query),
         _ => Err(unknown(line, tokens)),
+    }
+}
+
+/// What a line demands that begins like `every word` or `some word`. These words
+/// may be names as well, and then the line goes on with a sign or with `in`.
+fn demanded(tokens: &[Token]) -> Option<Mark> {
+    let mut words = tokens.iter().map(|token| match &token.sign {
+        Sign::Word(word) => word.as_str(),
+        _ => "",
+    });
+    let mark = match words.next()? {
+        "every" => Mark::EveryWord,
+        "some" => Mark::SomeWord,
+        _ => return None,
+    };
+    match words.next() {
+        Some("" | "in" | "within") => None,
+        _ => Some(mark),
     }
 }
 
@@ -77,8 +100,8 @@ fn unknown(line: usize, tokens: &[Token]) -> Mistake {
         ),
         format_args!(
             "write a credential like `A.r <- D`, a query like {QUERY}, an edge like \
-             `0 -- any --> 1`, or begin with `principals`, `names`, `constraint`, `start`, \
-             `accept`, `cell` or `edges`"
+             `0 -- any --> 1`, {DEMAND}, or begin with `principals`, `names`, `constraint`, \
+             `start`, `accept`, `cell` or `edges`"
         ),
     )
 }
@@ -105,6 +128,14 @@ fn constraint(mut reader: Reader) -> Result<Statement, Mistake> {
     let word = reader.name("a constraint")?;
     reader.end()?;
     Ok(Statement::Constraint(word))
+}
+
+/// `every word` or `some word`
+fn demand(mut reader: Reader, mark: Mark) -> Result<Statement, Mistake> {
+    reader.pass();
+    reader.kept("word")?;
+    reader.end()?;
+    Ok(Statement::Demand(mark))
 }
 
 /// `edges of c`

@@ -87,7 +87,7 @@ impl<'a> Reader<'a> {
         is_next
     }
 
-    /// The same for one of the words that are kept for the lines.
+    /// The same for a word that belongs to the line and names nothing.
     pub fn passes_kept(&mut self, word: &str) -> bool {
         let is_next = matches!(self.next(), Some(Sign::Word(text)) if text == word);
         if is_next {
@@ -104,7 +104,7 @@ impl<'a> Reader<'a> {
         Err(self.expected(&quoted(sign.text())))
     }
 
-    /// The same for one of the words that are kept for the lines.
+    /// The same for a word that belongs to the line and names nothing.
     pub fn kept(&mut self, word: &str) -> Result<(), Mistake> {
         if self.passes_kept(word) {
             return Ok(());

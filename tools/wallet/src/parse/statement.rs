@@ -1,6 +1,7 @@
 //! What a line says, in words and with their places.
 
 use crate::parse::reader::{Number, Word};
+use crate::table::Mark;
 
 /// A role in words.
 #[derive(Clone, Debug, PartialEq, Eq)]
@@ -64,6 +65,8 @@ pub enum Statement {
     Credential(RoleWords, BodyWords, Option<Word>),
     /// `constraint c`
     Constraint(Word),
+    /// `every word` or `some word`
+    Demand(Mark),
     /// `start ...`
     Start(Vec<StateWord>),
     /// `accept ...`
@@ -87,7 +90,7 @@ impl Statement {
     pub fn is_within_constraint(&self) -> bool {
         matches!(
             self,
-            Statement::Start(_) | Statement::Accept(_) | Statement::Edge(..)
+            Statement::Demand(_) | Statement::Start(_) | Statement::Accept(_) | Statement::Edge(..)
         )
     }
 }

@@ -8,7 +8,7 @@ use crate::limits::STATES;
 use crate::names::Names;
 use crate::print::naming::kept;
 use crate::print::states::written;
-use crate::table::{Edge, Table};
+use crate::table::{Edge, Mark, Table};
 use crate::words;
 
 /// The blocks of lines about constraints, in order. The names of states that
@@ -44,15 +44,19 @@ fn head(table: &Table, names: &mut Names, automaton: u16) -> Vec<String> {
     names
         .states
         .extend(words.map(|(state, word)| ((automaton, state), word)));
-    let sets = &table.automata[usize::from(automaton) - 1];
-    let start = set("start", sets.start, names, automaton);
-    let accept = set("accept", sets.accept, names, automaton);
+    let own = &table.automata[usize::from(automaton) - 1];
+    let start = set("start", own.start, names, automaton);
+    let accept = set("accept", own.accept, names, automaton);
     let sets = if states.accept_first {
         [accept, start]
     } else {
         [start, accept]
     };
     let mut lines = vec![format!("constraint {}", names.constraint(automaton))];
+    // That every word is demanded need not be said.
+    if own.mark == Mark::SomeWord {
+        lines.push(format!("  {}", own.mark.text()));
+    }
     lines.extend(sets.into_iter().flatten());
     lines
 }

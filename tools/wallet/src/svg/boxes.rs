@@ -25,8 +25,20 @@ pub struct Sheet {
     pub under: Vec<String>,
     /// What stands on the branch that leads to the box.
     pub branch: Option<String>,
-    /// Whether the node is at fault, or ends a word that is rejected.
-    pub marked: bool,
+    /// Whether something is to be seen at a glance.
+    pub tone: Tone,
+}
+
+/// What is to be seen of a node at a glance.
+#[derive(Clone, Copy, Debug, Default, PartialEq, Eq)]
+pub enum Tone {
+    /// Nothing.
+    #[default]
+    Plain,
+    /// It ends a word that meets an automaton for which one word is enough.
+    Good,
+    /// It is at fault, or ends a word for which an automaton is not met.
+    Bad,
 }
 
 impl Sheet {
@@ -68,15 +80,23 @@ pub fn sheets(wallet: &Wallet, judged: &Judged, words: &Words) -> Vec<Sheet> {
     let mut sheets: Vec<Sheet> = nodes.iter().map(sheet).collect();
     for (number, word) in (1..).zip(&words.words) {
         let sheet = &mut sheets[word.leaf];
-        let rejected = if word.is_rejected() { ": rejected" } else { "" };
+        let at_fault = words.is_at_fault(word);
+        let rejected = if at_fault { ": rejected" } else { "" };
         sheet.under = vec![format!("word {number}{rejected}")];
         sheet.under.extend(judgements(wallet, judged, words, word));
-        sheet.marked = word.is_rejected();
+        let meets = words
+            .lenient()
+            .any(|automaton| words.meets(word, automaton));
+        sheet.tone = match (at_fault, meets) {
+            (true, _) => Tone::Bad,
+            (false, true) => Tone::Good,
+            (false, false) => Tone::Plain,
+        };
     }
     if let (Some(node), Some(reason)) = (judged.faulty(), judged.reason(&wallet.names)) {
         let sheet = &mut sheets[node.number - 1];
         sheet.under = vec![format!("at fault: {reason}")];
-        sheet.marked = true;
+        sheet.tone = Tone::Bad;
     }
     sheets
 }
@@ -104,7 +124,8 @@ fn middle(wallet: &Wallet, nodes: &[Node], node: &Node) -> Option<String> {
     (linked && first).then(|| format!("middle {name}"))
 }
 
-/// What each automaton says of a word, and where it has no state left.
+/// What each automaton says of a word, whether that is enough for it, and where
+/// it has no state left.
 fn judgements(wallet: &Wallet, judged: &Judged, words: &Words, word: &Word) -> Vec<String> {
     let roles = roles(judged, &judged.nodes[word.leaf]);
     let mut lines = Vec::new();
@@ -112,6 +133,7 @@ fn judgements(wallet: &Wallet, judged: &Judged, words: &Words, word: &Word) -> V
         let name = wallet.names.constraint(automaton);
         lines.push(match word.rejected_by(automaton) {
             true => format!("{name} rejects"),
+            false if words.is_lenient(automaton) => format!("{name} accepts: met"),
             false => format!("{name} accepts"),
         });
         let sets = run(&wallet.table, automaton, &roles);

@@ -14,12 +14,13 @@ pub const LARGE: Pixels = 14;
 const SMALL: Pixels = 10;
 
 // The colours: of text, of lines and remarks, behind everything, behind the
-// words, and of what is accepted and what is at fault.
+// words, and of what is accepted or good enough and what is at fault.
 pub const INK: &str = "#1f2328";
 pub const PALE: &str = "#636c76";
 pub const WHITE: &str = "#ffffff";
 pub const LIGHT: &str = "#f3f5f7";
 pub const GOOD: &str = "#116329";
+pub const LIGHT_GOOD: &str = "#e8f5ea";
 pub const BAD: &str = "#b42318";
 pub const LIGHT_BAD: &str = "#fdecea";
 
@@ -75,11 +76,12 @@ impl Marks {
         self.filled(place, WHITE, "");
     }
 
-    /// A rectangle with an edge, which may be marked.
-    pub fn rectangle(&mut self, place: Rectangle, fill: &str, marked: bool) {
-        let edge = match marked {
-            true => format!(" stroke=\"{BAD}\" stroke-width=\"2\""),
-            false => format!(" stroke=\"{PALE}\""),
+    /// A rectangle with an edge; a thick one of some colour, if it is marked with
+    /// that.
+    pub fn rectangle(&mut self, place: Rectangle, fill: &str, mark: Option<&str>) {
+        let edge = match mark {
+            Some(colour) => format!(" stroke=\"{colour}\" stroke-width=\"2\""),
+            None => format!(" stroke=\"{PALE}\""),
         };
         self.filled(place, fill, &edge);
     }

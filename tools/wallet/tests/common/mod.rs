@@ -2,6 +2,7 @@
 
 #![allow(dead_code)]
 
+use bwlchareg::layout;
 use reference::generate::{chains, crossed, listings, policies, queries, valid, wallets, wide};
 use reference::random::Random;
 use reference::records::Records;
@@ -35,7 +36,16 @@ pub fn made_up(random: &mut Random) -> (Vec<u16>, bwlchareg::Query) {
         _ if random.one_in(4) => (wide::made_up(random), wide::query(9)),
         _ => return a_listing(random),
     };
-    (records.numbers(), query(asked))
+    (marked(random, records.numbers()), query(asked))
+}
+
+/// An accepted table with any marks in the place of its own.
+pub fn marked(random: &mut Random, mut numbers: Vec<u16>) -> Vec<u16> {
+    for number in 1..=layout::counts(&numbers)[2] {
+        let mark = layout::automaton(&numbers, number).end - 1;
+        numbers[mark] = random.between(layout::EVERY_WORD, layout::SOME_WORD);
+    }
+    numbers
 }
 
 /// A table that is made up for a listing; refused ones are passed over.
@@ -44,7 +54,7 @@ fn a_listing(random: &mut Random) -> (Vec<u16>, bwlchareg::Query) {
         let listing = listings::made_up(random);
         let asked = query(listing.query);
         if bwlchareg::check_query(&listing.table, asked).is_ok() {
-            return (listing.table, asked);
+            return (marked(random, listing.table), asked);
         }
     }
 }

@@ -1,6 +1,9 @@
 //! Constraints, their sets of states and their edges.
 
 use crate::{assert_told, at, told, EDGE};
+use wallet::parse::parse;
+use wallet::print::print;
+use wallet::table::Mark;
 
 #[test]
 fn constraints_and_their_lines() {
@@ -105,6 +108,66 @@ fn sets_of_states() {
             "line 2, column 7: `16` is out of range for a state; write a number from 0 to 15",
         ),
     ]);
+}
+
+#[test]
+fn what_is_demanded() {
+    let shape = "write a line like `every word` or `some word`";
+    let above = "write `constraint` and its name above";
+    let below = "write it right below `constraint`, above the edges";
+    let again = "leave one of the two lines out";
+    assert_told(&[
+        (
+            "some word",
+            &at(1, "`some word` stands outside of a constraint", above),
+        ),
+        (
+            "constraint c\nA.r <- B\n every word",
+            &format!("line 3, column 2: `every word` stands outside of a constraint; {above}"),
+        ),
+        (
+            "constraint c\nsome word\nstart 0\nsome word",
+            &format!("line 4, column 1: `some word` stands on line 2 already; {again}"),
+        ),
+        (
+            "constraint c\nevery word\nsome word",
+            &format!("line 3, column 1: `every word` stands on line 2 already; {again}"),
+        ),
+        (
+            "constraint c\n0 -- any --> 1\nsome word",
+            &format!("line 3, column 1: `some word` stands below an edge or `edges of`; {below}"),
+        ),
+        (
+            "constraint c\nedges of c\nevery word",
+            &format!("line 3, column 1: `every word` stands below an edge or `edges of`; {below}"),
+        ),
+        (
+            "constraint c\nsome",
+            &format!("line 2, column 5: the line ends where `word` is expected; {shape}"),
+        ),
+        (
+            "constraint c\nevery words",
+            &format!("line 2, column 7: `words` stands where `word` is expected; {shape}"),
+        ),
+        (
+            "constraint c\nsome word 1",
+            &format!("line 2, column 11: `1` is too much in this line; {shape}"),
+        ),
+    ]);
+}
+
+#[test]
+fn the_words_for_what_is_demanded_may_be_names() {
+    let text = "some.word <- every\nevery.word <- some\nconstraint word\nsome word\n\
+        start some every\naccept word\nsome -- any --> word\nevery -- some.word --> every\n\
+        some in some.word within 1\n";
+    let wallet = parse(text.as_bytes()).unwrap_or_else(|mistake| panic!("{mistake}"));
+    assert_eq!(wallet.table.credentials.len(), 2);
+    assert_eq!(wallet.table.edges.len(), 2);
+    assert_eq!(wallet.table.automata[0].mark, Mark::SomeWord);
+    let printed = print(&wallet);
+    let again = parse(printed.as_bytes()).unwrap_or_else(|mistake| panic!("{mistake}\n{printed}"));
+    assert_eq!(again.table, wallet.table);
 }
 
 #[test]

@@ -32,8 +32,8 @@ pub const CELL: &str = "write a line like `cell 1 = B.s then 2` or `cell 2 = C.t
 pub const QUERY: &str = "write a line like `D in A.r within 2`";
 pub const PRINCIPALS: &str = "write a line like `principals A = 1, B = 2`";
 pub const KINDS: &str = "write a credential like `A.r <- D`, a query like `D in A.r within 2`, \
-    an edge like `0 -- any --> 1`, or begin with `principals`, `names`, `constraint`, `start`, \
-    `accept`, `cell` or `edges`";
+    an edge like `0 -- any --> 1`, `every word` or `some word`, or begin with `principals`, `names`, \
+    `constraint`, `start`, `accept`, `cell` or `edges`";
 
 /// The mistake at a place of line 1, with what to write instead.
 pub fn at(column: usize, wrong: &str, instead: &str) -> String {

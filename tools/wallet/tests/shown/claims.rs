@@ -1,6 +1,6 @@
 //! Made-up wallets with records, right ones and wrong ones.
 
-use bwlchareg::Query;
+use bwlchareg::{layout, Query};
 use reference::generate::claims::{Claim, Grown};
 use reference::generate::growth::Policy;
 use reference::generate::policies;
@@ -35,10 +35,29 @@ pub fn query(claim: &Claim) -> Query {
     }
 }
 
+/// A claim with any marks in its table, if that is accepted.
+fn marked(random: &mut Random, claim: &Claim) -> Option<Claim> {
+    bwlchareg::check(&claim.table).ok()?;
+    let mut claim = claim.clone();
+    for number in 1..=layout::counts(&claim.table)[2] {
+        let mark = layout::automaton(&claim.table, number).end - 1;
+        claim.table[mark] = random.between(layout::EVERY_WORD, layout::SOME_WORD);
+    }
+    Some(claim)
+}
+
 /// Hands over records that are grown from so many tables, each as it is, with
-/// a constraint that it keeps, and spoiled in several ways.
+/// a constraint that it keeps, and spoiled in several ways; and each of them with
+/// other marks.
 pub fn made_up(seed: u64, tables: usize, mut judge: impl FnMut(&Claim)) {
     let mut random = Random::new(seed);
+    let mut marks = Random::new(seed + 1);
+    let mut judge = |claim: &Claim| {
+        judge(claim);
+        if let Some(other) = marked(&mut marks, claim) {
+            judge(&other);
+        }
+    };
     let wrongs = Wrong::all();
     for _ in 0..tables {
         let policy = Policy::new(policies::records(&mut random));

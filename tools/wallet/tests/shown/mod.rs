@@ -6,7 +6,7 @@ pub mod xml;
 use bwlchareg::Query;
 use wallet::names::Names;
 use wallet::parse::parse;
-use wallet::table::{Automaton, Body, Cell, Credential, Edge, Label, Role, Table};
+use wallet::table::{Automaton, Body, Cell, Credential, Edge, Label, Mark, Role, Table};
 use wallet::{Lines, Wallet};
 
 /// Query Q of the shop example: Ann in Shop.discount, depth 2.
@@ -79,6 +79,7 @@ pub fn constrained_shop() -> Wallet {
     wallet.table.automata = vec![Automaton {
         start: 1,
         accept: 2,
+        mark: Mark::EveryWord,
     }];
     wallet.table.edges = vec![
         edge(1, 0, Label::Not(role(1, 1)), 1),
@@ -106,6 +107,35 @@ pub fn club(roles: u16) -> Wallet {
     for state in 0..roles {
         text += &format!("{state} -- any --> {}\n", state + 1);
     }
+    parse(text.as_bytes()).expect("a wallet")
+}
+
+/// A race that lets in whoever is entered by a club and passed by a doctor. The
+/// club demands a word that goes through the medical centre, and the centre that
+/// every word is about the race.
+pub fn race() -> Wallet {
+    let text = "Race.starter <- Race.entered & Race.fit
+        Race.entered <- Club.member
+        Club.member <- Dora under through-centre
+        Race.fit <- Race.doctor.passed
+        Race.doctor <- Centre
+        Race.doctor <- Physio
+        Centre.passed <- Dora under for-races
+        Physio.passed <- Dora
+        constraint through-centre
+        some word
+        start out
+        accept in-centre
+        out -- any --> out
+        out -- any of Centre --> in-centre
+        in-centre -- any --> in-centre
+        constraint for-races
+        start new
+        accept race
+        new -- Race.starter --> race
+        race -- any --> race
+        Dora in Race.starter within 3
+        ";
     parse(text.as_bytes()).expect("a wallet")
 }
 
