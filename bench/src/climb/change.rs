@@ -209,8 +209,8 @@ fn change_automata(random: &mut Random, wallet: &mut Wallet) {
         }
         3 => {
             let state = 1 << random.between(0, LAST_STATE);
-            let sets = random.pick_mut(&mut wallet.records.automata);
-            *random.pick_mut(sets) ^= state;
+            let [starting, accepting, _] = random.pick_mut(&mut wallet.records.automata);
+            **random.pick_mut(&mut [starting, accepting]) ^= state;
         }
         4 => add_edge(random, wallet, automata),
         _ => change_edge(random, wallet),

@@ -2,6 +2,7 @@
 //! asks for the role that it defines. Who is asked about wants to pass a door that
 //! is open to the club's friends.
 
+use bwlchareg::layout::EVERY_WORD;
 use reference::generate::shapes::from_records;
 use reference::generate::wallets::Wallet;
 use reference::query::{Query, DEEPEST};
@@ -100,7 +101,7 @@ impl Club {
         let mut wallet = self.wallet.clone();
         if let Some((accepting, edges)) = constraint.automaton(self.people) {
             wallet.records.credentials[0][5] = 1;
-            wallet.records.automata = vec![[1, accepting, 0]];
+            wallet.records.automata = vec![[1, accepting, EVERY_WORD]];
             wallet.records.edges = edges;
         }
         wallet

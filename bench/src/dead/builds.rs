@@ -4,6 +4,7 @@
 
 use std::time::Duration;
 
+use bwlchareg::layout::EVERY_WORD;
 use reference::generate::claims::Claim;
 use reference::generate::wide;
 use reference::random::Random;
@@ -169,7 +170,7 @@ fn time_nodes(form: Form, pairs: &[Pair]) {
 /// they are dead, and are attached to nothing.
 fn with_automata(automata: usize, attached: u16) -> Records {
     let mut records = calls::constrained(wide::records(LEVELS), attached);
-    records.automata.resize(automata, [0; 3]);
+    records.automata.resize(automata, [0, 0, EVERY_WORD]);
     records
 }
 

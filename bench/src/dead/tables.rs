@@ -4,6 +4,7 @@
 //! The constraint is on a credential that every derivation uses, so it cannot be
 //! done without. It says "nothing but my own roles", by label 4.
 
+use bwlchareg::layout::EVERY_WORD;
 use reference::generate::shapes::{self, from_records, GOAL, MEMBER, OWNER};
 use reference::generate::wallets::Wallet;
 use reference::query::DEEPEST;
@@ -87,7 +88,7 @@ fn owner(level: u16, dies: u16) -> u16 {
 /// of the first level as the one that is asked about.
 fn constrained(mut wallet: Wallet, bearer: usize, dies: u16) -> Wallet {
     wallet.records.credentials[bearer][5] = 1;
-    wallet.records.automata.push([1, 1, 0]);
+    wallet.records.automata.push([1, 1, EVERY_WORD]);
     wallet.records.edges.push(OWN);
     wallet.query.owner = owner(1, dies);
     wallet
@@ -210,7 +211,8 @@ fn by_owners(choices: u16) -> Early {
     let mut wallet = from_records(credentials, chain(1, &[LEFT, RIGHT]));
     // After the goal's role, state 1, come the left side, state 2, or the right
     // one, states 3 and 4.
-    wallet.records.automata.push([1, 1 << 2 | 1 << 4, 0]);
+    let accepting = 1 << 2 | 1 << 4;
+    wallet.records.automata.push([1, accepting, EVERY_WORD]);
     wallet.records.edges.extend([
         [1, 0, 1, OWNER, GOAL, 1],
         [1, 1, 1, OWNER, LEFT, 2],

@@ -1,6 +1,7 @@
 //! Automata for any table, with none, some and all edges for which there is room.
 //! Each accepts every word of the query: so what is derived is the same with them.
 
+use bwlchareg::layout::EVERY_WORD;
 use reference::generate::constraints::{defined, Role};
 use reference::generate::wallets::Wallet;
 use reference::random::Random;
@@ -51,10 +52,11 @@ impl Edges {
                 all_matching(stranger(&wallet.records)),
             ),
         };
+        let [starting, accepting] = automaton;
         Random::new(SEED).shuffle(&mut edges);
         let automata = edges.iter().map(|edge| edge[0]).max().unwrap_or(0);
         let records = &mut wallet.records;
-        records.automata = vec![automaton; automata.into()];
+        records.automata = vec![[starting, accepting, EVERY_WORD]; automata.into()];
         records.edges = edges;
         let mut automata = 1..=automata;
         for (index, credential) in records.credentials.iter_mut().enumerate() {

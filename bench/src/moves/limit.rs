@@ -207,6 +207,7 @@ mod tests {
     use crate::listing::Listing;
     use crate::moves::edges::Edges;
     use crate::moves::tables::{short, Recorded};
+    use bwlchareg::layout::EVERY_WORD;
     use reference::shop;
 
     #[test]
@@ -223,7 +224,7 @@ mod tests {
     #[test]
     fn states_share_an_arc_where_they_go_to_the_same() {
         let mut records = families::shop(&shop::T).records;
-        records.automata = vec![[1, 1, 0]];
+        records.automata = vec![[1, 1, EVERY_WORD]];
         records.edges = [(0, 1), (0, 2), (3, 1), (3, 2), (4, 1)]
             .map(|(from, to)| [1, from, 2, 0, 0, to])
             .to_vec();
@@ -236,7 +237,7 @@ mod tests {
         let mut accepting = 0;
         for automaton in 1..=8 {
             let mut wallet = table.wallet.clone();
-            wallet.records.automata.resize(8, [0; 3]);
+            wallet.records.automata.resize(8, [0, 0, EVERY_WORD]);
             for credential in &mut wallet.records.credentials {
                 credential[5] = automaton;
             }

@@ -4,6 +4,7 @@
 
 use std::time::Duration;
 
+use bwlchareg::layout::EVERY_WORD;
 use reference::generate::shapes;
 use reference::records::{CredentialRecord, Records};
 use reference::shop::{Q, T, U};
@@ -60,7 +61,7 @@ fn one_goal_in_two_places() {
             [1, 5, 1, 9, 0, 0],
         ],
         cells: vec![[1, 2, 2], [1, 3, 0]],
-        automata: vec![[1, 8 + 64, 0]],
+        automata: vec![[1, 8 + 64, EVERY_WORD]],
         edges: vec![
             on(0, 1, 1),
             on(1, 2, 2),
@@ -87,7 +88,7 @@ fn all_roles_of_one_owner() {
             [2, 2, 1, 9, 0, 0],
         ],
         cells: vec![],
-        automata: vec![[1, 1, 0]],
+        automata: vec![[1, 1, EVERY_WORD]],
         edges: vec![[1, 0, 4, 1, 0, 0]],
     };
     let query = Query::from_numbers([9, 1, 1, 16]);
@@ -101,7 +102,7 @@ fn three_levels(through: CredentialRecord, name: u16, fourth: CredentialRecord) 
     let records = Records {
         credentials: vec![[1, name, 1, 9, 0, 1], [1, 1, 2, 1, 2, 0], through, fourth],
         cells: vec![[1, name, 2], [1, name, 0]],
-        automata: vec![[1, 8, 0]],
+        automata: vec![[1, 8, EVERY_WORD]],
         edges: (0..3).map(|state| [1, state, 2, 0, 0, state + 1]).collect(),
     };
     records.numbers()

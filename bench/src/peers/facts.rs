@@ -54,7 +54,7 @@ mod tests {
             credential(4,1,1,1,4,0,0).\n\
             cell(1,1,3,2).\n\
             cell(2,2,2,0).\n\
-            automaton(1,1,2).\n\
+            automaton(1,1,2,0).\n\
             edge(1,0,3,1,1,1).\n\
             edge(1,1,2,0,0,1).\n";
         assert_eq!(facts(&records, Q), expected);

@@ -7,6 +7,7 @@ use reference::random::Random;
 use reference::records::Records;
 
 use super::again::can_a_role_come;
+use super::wallets::demand_every_word;
 use crate::listing::Listing;
 
 /// No more credentials and part cells than these, and no greater depth limit where
@@ -17,7 +18,8 @@ const CELLS: usize = 8;
 const DEPTH: u16 = 8;
 
 /// So many made-up listings that both sides accept, the same in every run:
-/// grown wallets, tables with cycles, and queries of which nothing is known.
+/// grown wallets, tables with cycles, and queries of which nothing is known. Their
+/// automata demand every word.
 pub fn listings(count: usize) -> Vec<Listing> {
     let mut random = Random::new(1);
     let mut listings = Vec::new();
@@ -26,9 +28,10 @@ pub fn listings(count: usize) -> Vec<Listing> {
         let (table, query) = (demanding_every_word(made_up.table), made_up.query);
         let is_valid = reference::check_query(&table, query).is_ok();
         let [credentials, cells, ..] = layout::counts(&table);
-        let listing = Listing { table, query };
+        let mut listing = Listing { table, query };
         let is_small = credentials <= CREDENTIALS && cells <= CELLS;
         if is_valid && is_small && (query.depth <= DEPTH || !can_a_role_come(&listing)) {
+            demand_every_word(&mut listing.table);
             listings.push(listing);
         }
     }

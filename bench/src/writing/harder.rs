@@ -2,6 +2,7 @@
 //! a link several middles, of which those with the least numbers fail at some
 //! places of the derivation and are needed at others.
 
+use bwlchareg::layout::EVERY_WORD;
 use reference::generate::shapes::{self, from_records as wallet, GOAL, MEMBER, OWNER};
 use reference::generate::wallets::Wallet;
 use reference::query::Query;
@@ -106,7 +107,10 @@ fn by_words(choices: u16) -> Wallet {
     // Below the right role, state 2, there are choices more roles than below
     // the left one.
     let accepting = 2 * choices + 3;
-    wallet.records.automata.push([1, 1 << accepting, 0]);
+    wallet
+        .records
+        .automata
+        .push([1, 1 << accepting, EVERY_WORD]);
     wallet.records.edges.extend([
         [1, 0, 1, OWNER, GOAL, 1],
         [1, 1, 1, OWNER, LEFT, 2 + choices],

@@ -1,5 +1,6 @@
 //! What the tables of this part of the benchmark are made of.
 
+use bwlchareg::layout::EVERY_WORD;
 use reference::generate::shapes::OWNER;
 use reference::records::{CellRecord, Records};
 use reference::table::LAST_STATE;
@@ -52,7 +53,7 @@ pub fn chain(cell: u16, names: &[u16]) -> Vec<CellRecord> {
 /// its states and accepts every word: so derivations are the same with it, and at
 /// every node every edge is taken.
 pub fn add_busy(records: &mut Records) {
-    records.automata.push([u16::MAX, u16::MAX, 0]);
+    records.automata.push([u16::MAX, u16::MAX, EVERY_WORD]);
     let (automaton, states) = (records.head().automata, LAST_STATE + 1);
     let around = |state: u16| [automaton, state, 2, 0, 0, (state + 1) % states];
     records.edges.extend((0..states).map(around));
