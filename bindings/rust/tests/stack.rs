@@ -4,6 +4,7 @@
 
 use std::thread;
 
+use bwlchareg::layout::{EVERY_WORD, SOME_WORD};
 use bwlchareg::{list, verify, write, Query, Refusal};
 
 /// The stacks that the calls below must do with, in bytes; Rust gives a thread
@@ -40,15 +41,15 @@ fn deepest() -> Vec<u16> {
     table(&credentials, &[])
 }
 
-/// The same with eight automata, on the first eight credentials, each of which
-/// accepts every word.
-fn constrained() -> Vec<u16> {
+/// The same with eight automata of a mark, on the first eight credentials, each
+/// of which accepts every word.
+fn constrained(mark: u16) -> Vec<u16> {
     let mut table = deepest();
     table[2..4].copy_from_slice(&[8, 8]);
     for automaton in 1..=8 {
         table[6 * usize::from(automaton) + 3] = automaton;
     }
-    table.extend([1, 1, 0].repeat(8));
+    table.extend([1, 1, mark].repeat(8));
     table.extend((1..=8).flat_map(|automaton| [automaton, 0, 2, 0, 0, 0]));
     table
 }
@@ -146,11 +147,11 @@ fn needs_little_stack(table: Vec<u16>, sets: usize) {
 #[test]
 fn a_record_of_sixteen_levels_needs_little_stack() {
     let record: Vec<u16> = (1..=16).flat_map(|credential| [credential, 0]).collect();
-    let [free, constrained] = [deepest(), constrained()].map(|table| {
+    for table in [deepest(), constrained(EVERY_WORD), constrained(SOME_WORD)] {
         let record = record.clone();
-        in_a_stack_of(VERIFYING, move || verify(&table, DEEP, &record))
-    });
-    assert_eq!((free, constrained), (Ok(0xffff), Ok(0xffff)));
+        let verdict = in_a_stack_of(VERIFYING, move || verify(&table, DEEP, &record));
+        assert_eq!(verdict, Ok(0xffff));
+    }
 }
 
 #[test]
@@ -163,8 +164,11 @@ fn a_list_of_sixteen_levels_and_twenty_credentials_needs_little_stack() {
 
 #[test]
 fn lists_of_sixteen_levels_need_little_stack() {
-    for table in [deepest(), constrained(), chained(), linked()] {
+    for table in [deepest(), chained(), linked()] {
         needs_little_stack(table, 5);
+    }
+    for mark in [EVERY_WORD, SOME_WORD] {
+        needs_little_stack(constrained(mark), 5);
     }
 }
 
@@ -203,7 +207,9 @@ fn writes_with_little_stack(table: Vec<u16>) -> usize {
 #[test]
 fn records_of_sixteen_levels_are_written_with_little_stack() {
     assert_eq!(writes_with_little_stack(deepest()), 32);
-    assert_eq!(writes_with_little_stack(constrained()), 32);
+    for mark in [EVERY_WORD, SOME_WORD] {
+        assert_eq!(writes_with_little_stack(constrained(mark)), 32);
+    }
     assert_eq!(writes_with_little_stack(linked()), RECORD);
 }
 
