@@ -56,14 +56,9 @@ pub fn short(wallet: &Wallet, judged: &Judged) -> String {
     let words = words(wallet, judged);
     let mut lines = Vec::new();
     tree(wallet, judged, &mut lines);
-    for Meeting {
-        automaton,
-        number,
-        roles,
-    } in meetings(wallet, judged, &words)
-    {
-        let name = wallet.names.constraint(automaton);
-        let roles = roles.join(", ");
+    for meeting in meetings(wallet, judged, &words) {
+        let name = wallet.names.constraint(meeting.automaton);
+        let (number, roles) = (meeting.number, meeting.roles.join(", "));
         lines.push(format!(
             "constraint {name} is met by word {number}: {roles}"
         ));
