@@ -44,19 +44,18 @@ impl Edges {
     /// the credentials of a set, one to each while there are some.
     pub fn put(self, wallet: &mut Wallet, set: u32) {
         let (automaton, mut edges) = match self {
-            Edges::None => ([0, 0, 0], Vec::new()),
-            Edges::Some => ([1, 2, 0], all_going_by_roles(wallet, &[8, 7])),
-            Edges::Many => ([1, 2, 0], all_going_by_roles(wallet, &[15; 8])),
+            Edges::None => ([0, 0, EVERY_WORD], Vec::new()),
+            Edges::Some => ([1, 2, EVERY_WORD], all_going_by_roles(wallet, &[8, 7])),
+            Edges::Many => ([1, 2, EVERY_WORD], all_going_by_roles(wallet, &[15; 8])),
             Edges::Matching => (
-                [u16::MAX, u16::MAX, 0],
+                [u16::MAX, u16::MAX, EVERY_WORD],
                 all_matching(stranger(&wallet.records)),
             ),
         };
-        let [starting, accepting] = automaton;
         Random::new(SEED).shuffle(&mut edges);
         let automata = edges.iter().map(|edge| edge[0]).max().unwrap_or(0);
         let records = &mut wallet.records;
-        records.automata = vec![[starting, accepting, EVERY_WORD]; automata.into()];
+        records.automata = vec![automaton; automata.into()];
         records.edges = edges;
         let mut automata = 1..=automata;
         for (index, credential) in records.credentials.iter_mut().enumerate() {

@@ -7,7 +7,6 @@ use reference::random::Random;
 use reference::records::Records;
 
 use super::again::can_a_role_come;
-use super::wallets::demand_every_word;
 use crate::listing::Listing;
 
 /// No more credentials and part cells than these, and no greater depth limit where
@@ -28,10 +27,9 @@ pub fn listings(count: usize) -> Vec<Listing> {
         let (table, query) = (demanding_every_word(made_up.table), made_up.query);
         let is_valid = reference::check_query(&table, query).is_ok();
         let [credentials, cells, ..] = layout::counts(&table);
-        let mut listing = Listing { table, query };
+        let listing = Listing { table, query };
         let is_small = credentials <= CREDENTIALS && cells <= CELLS;
         if is_valid && is_small && (query.depth <= DEPTH || !can_a_role_come(&listing)) {
-            demand_every_word(&mut listing.table);
             listings.push(listing);
         }
     }
