@@ -1,6 +1,6 @@
 -- docs/DEFINITION.md, "The first record": which credential and which middle a node of the first record has. `all` says which
--- goals can be proved together below the node, and `word` whether a word may end at it. What is below the node has to meet a set of
--- the owed automata that is wanted: `wants` says which are.
+-- goals can be proved together below the node, and `word` whether a word may end at it. What is below the node has to meet a set
+-- of the owed automata that is wanted: `wants` says which are.
 use Prim.Native.Nat.{ℕ, suc, _<_, _≤_}
 use mathlib.Core.Path.{_≡_}
 use mathlib.Core.List.{List, []}
@@ -10,7 +10,9 @@ use lib.ListN.{getD, length}
 use lib.Dec.{leb, ltb}
 use Rattle.sets.specs.Logic.{_and_, _or_, anyBelow}
 use Rattle.sets.specs.Sets.{inSet, part, setOf}
-use Rattle.table.specs.Limits.{mostParts, mostPrincipals}
+use Rattle.families.specs.Families.{Inside, allSets, inFamily}
+use Rattle.families.specs.declared.Family.{Family}
+use Rattle.table.specs.Limits.{mostPrincipals}
 use Rattle.table.specs.Layout.{credential, credentials}
 use Rattle.table.specs.declared.Goal.{Goal}
 use Rattle.automata.specs.declared.StateSets.{StateSets}
@@ -21,7 +23,8 @@ use Rattle.members.specs.Trying.{provedPremises}
 use Rattle.members.specs.Members.{askedCell, linkCell, rowCell}
 use Rattle.members.specs.declared.above.Above.{Above}
 pub use Rattle.search.specs.Search.{provesWith}
-use Rattle.search.specs.Asking.{Fits, askedPairs}
+use Rattle.search.specs.declared.Terms.{Terms}
+use Rattle.search.specs.Asking.{Fits, Pair, askedPairs}
 use Rattle.search.specs.declared.asking.Asked.{Asked}
 use Rattle.search.specs.Search.{AllStand, ends, goalAt, proves, provesAt, shares, usable}
 use Rattle.choice.specs.declared.Node.{Node}
@@ -34,9 +37,23 @@ suits one O wants goals = anyBelow (λ X. wants X and shares one O goals X) (suc
 unfoldable pub endsWell : List ℕ → ℕ → ℕ → (ℕ → Bool) → StateSets → Bool
 endsWell t A O wants s = anyBelow (λ X. wants X and ends t A s X) (suc O)
 
--- what is wanted still is where more is met: so many automata there are at most
+-- what is wanted still is where more of O is met
 abbrev pub Upward : ℕ → (ℕ → Bool) → Type 0
 Upward O wants = (X Y : ℕ) → part X Y ≡ true → part Y O ≡ true → wants X ≡ true → wants Y ≡ true
+
+-- a family says what is wanted: parts of O, and with each of them the parts of O that have more
+pub record Wanted (O : ℕ) (wanted : Family) : Type 0 where
+  pub few : O < allSets
+  pub inside : Inside wanted O
+  pub upward : Upward O (inFamily wanted)
+
+-- on the terms of a search, with such a family: which goals can be proved below a node, and whether a word may end at it
+abbrev pub suitsAll : List ℕ → Terms → Family → ℕ → Above → StateSets → List Goal → Bool
+suitsAll t terms wanted levels above s =
+    suits (proves t (terms .allowed) (terms .constraints) (terms .owed) levels above s) (terms .owed) (inFamily wanted)
+
+abbrev pub suitsWord : List ℕ → Terms → Family → StateSets → Bool
+suitsWord t terms wanted s = endsWell t (terms .constraints) (terms .owed) (inFamily wanted) s
 
 -- the least credential of the set that proves the goal
 unfoldable pub leastCredential : List ℕ → ℕ → (List Goal → Bool) → Bool → Goal → ℕ
@@ -52,7 +69,8 @@ asked none = []
 asked (some goals) = goals
 
 -- the goals by the places of principal and role, each of which can be proved
-pub record Children (t : List ℕ) (S A O levels : ℕ) (above : Above) (s : StateSets) (goals : List Goal) (node : Asked) : Type 0 where
+pub record Children (t : List ℕ) (S A O levels : ℕ) (above : Above) (s : StateSets) (goals : List Goal)
+    (node : Asked) : Type 0 where
   pub fits : Fits node
   pub count : node .len ≡ length goals
   pub stands : AllStand t (askedPairs node)
@@ -63,7 +81,8 @@ pub record Children (t : List ℕ) (S A O levels : ℕ) (above : Above) (s : Sta
 
 -- the node's numbers are the least, and its children are what they ask; so many levels are left below the node. Where it asks
 -- nothing a word ends well, and otherwise the goals that it asks suit what is wanted
-pub record Chosen (t : List ℕ) (S A O levels : ℕ) (above : Above) (s : StateSets) (wants : ℕ → Bool) (g : Goal) (node : Node) : Type 0 where
+pub record Chosen (t : List ℕ) (S A O levels : ℕ) (above : Above) (s : StateSets) (wants : ℕ → Bool) (g : Goal)
+    (node : Node) : Type 0 where
   pub credential-is : node .credential
       ≡ leastCredential t S (suits (proves t S A O levels above s) O wants) (endsWell t A O wants s) g
   pub middle-is : node .middle
@@ -72,38 +91,21 @@ pub record Chosen (t : List ℕ) (S A O levels : ℕ) (above : Above) (s : State
   pub suited : (node .asked .len ≡ 0 → ⊥)
       → suits (proves t S A O levels above s) O wants (asked (premises t g (node .credential) (node .middle))) ≡ true
 
--- the node of credential i + 1, which is not of kind 3, and asks the first `len` roles of its cells
-pub record Unlinked (index : List ℕ) (person i len : ℕ) (node : Node) : Type 0 where
-  pub credential-is : node .credential ≡ suc i
-  pub middle-is : node .middle ≡ 0
-  pub len-is : node .len ≡ len
-  pub people : length (node .persons) ≡ mostParts
-  pub roles : length (node .places) ≡ mostParts
-  pub person-is : (k : ℕ) → k < mostParts → getD (node .persons) k 0 ≡ person
-  pub place-is : (k : ℕ) → k < mostParts → getD (node .places) k 0 ≡ getD index (askedCell i k) 0
-
--- the node of credential i + 1, of kind 3, with the principal at j as its middle
-pub record Linked (index : List ℕ) (person i j middle : ℕ) (node : Node) : Type 0 where
-  pub credential-is : node .credential ≡ suc i
+-- the node has these two numbers, and asks these goals, by places
+pub record Made (credential middle : ℕ) (pairs : List Pair) (node : Node) : Type 0 where
+  pub credential-is : node .credential ≡ credential
   pub middle-is : node .middle ≡ middle
-  pub len-is : node .len ≡ 2
-  pub people : length (node .persons) ≡ mostParts
-  pub roles : length (node .places) ≡ mostParts
-  pub first-person : getD (node .persons) 0 0 ≡ j
-  pub second-person : getD (node .persons) 1 0 ≡ person
-  pub first-place : getD (node .places) 0 0 ≡ getD index (askedCell i 0) 0
-  pub second-place : getD (node .places) 1 0 ≡ getD index (linkCell i j) 0
+  pub fits : Fits (node .asked)
+  pub asks : askedPairs (node .asked) ≡ pairs
 
 -- r is the last of the first n credentials that the index lets be used for the role at `place`
 pub record LastUsable (index : List ℕ) (S place n r : ℕ) : Type 0 where
   pub few : r < n
   pub none : (i : ℕ) → r < i → i < n → usable index S place i ≡ true → ⊥
 
--- the principal at j is a middle with which credential i + 1, of kind 3, proves the goal
-abbrev pub leads : List ℕ → List ℕ → ℕ → ℕ → ℕ → Above → StateSets → ℕ → ℕ → ℕ → Bool
-leads t index S A levels above s person i = λ j.
-    isPerson t j and provesAt t S A levels above s j (getD index (askedCell i 0) 0)
-    and provesAt t S A levels above s person (getD index (linkCell i j) 0)
+-- the principal at j is a middle with which credential c, of kind 3, proves the goal
+abbrev pub leads : List ℕ → (List Goal → Bool) → Bool → Goal → ℕ → ℕ → Bool
+leads t all word g c = λ j. isPerson t j and provedPremises all word (premises t g c (credential t (suc j) .first))
 
 -- the principals whom the row has as middles of credential i + 1, among those that stand below n
 unfoldable pub listedMiddles : List ℕ → List ℕ → List ℕ → ℕ → ℕ → ℕ → ℕ → ℕ
