@@ -1,25 +1,24 @@
--- The node that is chosen: the least credential proves the goal, so with the least middle it applies, and each goal that it
--- then asks is proved.
+-- The node that is chosen: the least credential proves the goal such that what is wanted can be met, so with the least middle it
+-- applies, and the goals that it then asks can be proved so.
 use mathlib.Core.Path.{_≡_, refl, sym, ap, _∙_}
 use mathlib.Core.List.{List, [], _∷_, map}
 use mathlib.Core.Bool.{Bool, true}
-use mathlib.Core.Option.{none, some}
+use mathlib.Core.Option.{Option, none, some}
 use mathlib.Core.Logic.{_⊎_, inl, inr, ⊎-elim}
 use Prim.Native.Nat.{ℕ, zero, suc, _+_, _<_, _≤_}
 use native.Mathlib.Omega.{arith}
 use native.Mathlib.Decide.{decLt}
 use lib.ListN.{getD, length, length-map}
-use borrow.Author.Tests.{ltb-true, ne-eqb}
+use borrow.Author.Tests.{ne-eqb}
 use Rattle.sets.specs.Logic.{_and_, pick}
-use Rattle.sets.specs.Sets.{part}
-use Rattle.sets.proofs.Tests.{and-first, and-is, and-second, false-true}
+use Rattle.sets.proofs.Tests.{and-both, and-first, and-second, any-shows, false-true}
+use Rattle.sets.proofs.Members.{part-zero}
 use Rattle.table.specs.Limits.{mostParts, mostPrincipals}
 use Rattle.table.specs.Layout.{credential, credentials, principal, role}
 use Rattle.table.specs.declared.Role.{Role}
 use Rattle.table.specs.declared.Credential.{Credential}
 use Rattle.table.specs.declared.Goal.{Goal}
 use Rattle.table.proofs.Fields.{principal-range}
-use Rattle.automata.specs.Together.{acceptingSet}
 use Rattle.automata.specs.declared.StateSets.{StateSets}
 use Rattle.derivation.specs.Rules.{goal, premises}
 use Rattle.derivation.specs.Held.{noGoal}
@@ -27,23 +26,28 @@ use Rattle.derivation.proofs.Asking.{asks-3, own-role, when-on}
 use Rattle.derivation.proofs.Applying.{same-role}
 use Rattle.derivation.proofs.Ruling.{Rule, by-kind, rule-applied}
 use Rattle.derivation.proofs.Ruling.Rule.{membership, containment, linking, intersection}
-use Rattle.members.specs.Places.{isPerson, least, personAt, roleAt}
-use Rattle.members.specs.Members.{askedCell, linkCell, rolesAsked}
-use Rattle.members.specs.Trying.{everyGoal, mayUse, provedPremises, provesBy}
-use Rattle.members.proofs.Places.{is-person, least-passes, least-reached, person-is, person-stands, role-stands}
+use Rattle.members.specs.Places.{isPerson, least, personAt}
+use Rattle.members.specs.Members.{askedCell, rolesAsked}
+use Rattle.members.specs.Trying.{mayUse, provedPremises, provesBy}
+use Rattle.members.proofs.Places.{is-person, least-passes, least-reached, person-is, person-stands}
 use Rattle.members.proofs.Reading.{as-read, numbered}
 use Rattle.members.proofs.Indexing.{padded-inside}
-use Rattle.members.proofs.ByKind.{by-none, each-part, middleAt, middleRole, names-principal, parts-few, roles-2}
-use Rattle.members.proofs.ByKind.{roles-4, with-middle}
+use Rattle.members.proofs.ByKind.{by-none, middleAt, middleGoals, middleRole, names-principal, parts-few, roleGoals, roles-2}
+use Rattle.members.proofs.ByKind.{roles-4}
 use Rattle.members.specs.declared.above.Above.{Above}
-use Rattle.search.specs.Search.{Searched, Stands, Tried, goalAt, proves, provesAt, provesWith}
-use Rattle.search.proofs.Placing.{cell-middle, first-cell, linkedRole, linking-role, own, part-cell, partRole, proved-some}
-use Rattle.search.proofs.Placing.{proves-at, second-cell, stands-at, unnamed-unproved}
+use Rattle.search.specs.Asking.{Pair, pair, rolePairs}
+use Rattle.search.specs.Search.{Searched, Stands, Tried, goalAt, proves, provesAt, provesWith, shares}
+use Rattle.search.proofs.Pairs.{asks-none}
+use Rattle.search.proofs.Owing.{proves-less}
+use Rattle.search.proofs.Sharing.{shares-member, shares-shows}
+use Rattle.search.proofs.Placing.{first-cell, linkPairs, linkedRole, linking-role, own, part-cell, partRole, proved-some}
+use Rattle.search.proofs.Placing.{second-cell, unnamed-unproved}
 use Rattle.choice.specs.declared.Node.{Node}
-use Rattle.choice.specs.Choice.{Chosen, LeastMiddle, Linked, Unlinked, asked, leads, leastCredential, leastMiddle}
+use Rattle.choice.specs.Choice.{Children, Chosen, LeastMiddle, Made, asked, endsWell, leads, leastCredential, leastMiddle}
+use Rattle.choice.specs.Choice.{suits}
 use Rattle.choice.proofs.Candidates.{tried-at}
-use Rattle.choice.proofs.Nodes.{asks-none}
-use Rattle.choice.proofs.Linking.{first-stands, second-stands}
+use Rattle.choice.proofs.Nodes.{AllPlaced, Placed, asked-at, asked-count, placed-goal, placed-proved, placed-stands}
+use Rattle.choice.proofs.Nodes.{roles-at, roles-count}
 
 length-none : {A : Type 0} (xs : List A) → length xs ≡ 0 → xs ≡ []
 length-none [] e = refl
@@ -55,9 +59,12 @@ map-inside f [] k d d′ l = absurd (omega arith)
 map-inside f (x ∷ xs) zero d d′ l = refl
 map-inside f (x ∷ xs) (suc k) d d′ l = map-inside f xs k d d′ (omega arith)
 
-first-of : (one : Goal → Bool) (word : Bool) (x y : Goal) → provedPremises one word (some (x ∷ y ∷ [])) ≡ true → one x ≡ true
-unfolding provedPremises pick everyGoal
-first-of one word x y h = and-first (one x) _ h
+-- what is asked is proved; where anything is, all goals together
+asked-proved : (all : List Goal → Bool) (word : Bool) (x : Option (List Goal)) → provedPremises all word x ≡ true
+    → (length (asked x) ≡ 0 → ⊥) → all (asked x) ≡ true
+unfolding provedPremises pick asked
+asked-proved all word none h more = absurd (false-true h)
+asked-proved all word (some goals) h more = rw (ne-eqb (length goals) 0 more) at h
 
 -- the least number that passes is the one that passes and that is no greater than any other
 least-at : (p : ℕ → Bool) (n m : ℕ) → m < n → p m ≡ true → ((k : ℕ) → p k ≡ true → m ≤ k) → m ≡ least p n
@@ -66,13 +73,13 @@ least-at p n m l passes below =
     omega (arith, reached, below (least p n) (least-passes p n (omega arith)))
 
 -- the least credential is one that may be used, so it has the goal for its own, and it proves it
-module _ (t : List ℕ) (person place S : ℕ) (one : Goal → Bool) (word : Bool) (i : ℕ)
-    (is : suc i ≡ leastCredential t S one word (goalAt t person place)) (there : i < credentials t) where
-  passes : provesWith t S one word (goalAt t person place) i ≡ true
+module _ (t : List ℕ) (person place S : ℕ) (all : List Goal → Bool) (word : Bool) (i : ℕ)
+    (is : suc i ≡ leastCredential t S all word (goalAt t person place)) (there : i < credentials t) where
+  passes : provesWith t S all word (goalAt t person place) i ≡ true
   unfolding leastCredential
   passes =
-      let same : i ≡ least (provesWith t S one word (goalAt t person place)) (credentials t) = omega (arith, is) in
-      rw (← same) at (least-passes (provesWith t S one word (goalAt t person place)) (credentials t) (rw (← same) there))
+      let same : i ≡ least (provesWith t S all word (goalAt t person place)) (credentials t) = omega (arith, is) in
+      rw (← same) at (least-passes (provesWith t S all word (goalAt t person place)) (credentials t) (rw (← same) there))
 
   pub own-goal : goalAt t person i ≡ goalAt t person place
   unfolding mayUse
@@ -80,26 +87,60 @@ module _ (t : List ℕ) (person place S : ℕ) (one : Goal → Bool) (word : Boo
       ap (goal (principal (credential t (suc person) .first)))
       (same-role _ _ (and-second _ _ (and-first _ _ passes)))
 
-  pub own-proved : provesBy t one word (goalAt t person i) (suc i) ≡ true
+  pub own-proved : provesBy t all word (goalAt t person i) (suc i) ≡ true
   own-proved = rw own-goal (and-second _ _ passes)
 
--- a goal that is proved by places is the goal itself
-module _ (t : List ℕ) (S A levels : ℕ) (above : Above) (s : StateSets) where
-  pub at-role : (person : ℕ) (r : Role) → provesAt t S A levels above s person (roleAt t r) ≡ true
-      → goalAt t person (roleAt t r) ≡ goal (principal (credential t (suc person) .first)) r
-  unfolding provesAt
-  at-role person r proved =
-      ap (goal (principal (credential t (suc person) .first)))
-      (role-stands t r (ltb-true (roleAt t r) (credentials t) (and-first _ _ proved)))
+-- goals that suit what is wanted can each be proved with nothing to meet
+pub suits-each : (t : List ℕ) (S A O levels : ℕ) (above : Above) (s : StateSets) (wants : ℕ → Bool) (goals : List Goal)
+    → suits (proves t S A O levels above s) O wants goals ≡ true → (k : ℕ) → k < length goals
+    → proves t S A O levels above s (getD goals k noGoal) 0 ≡ true
+unfolding suits
+suits-each t S A O levels above s wants goals h =
+    let (X, l, both) = any-shows (λ X. wants X and shares (proves t S A O levels above s) O goals X) (suc O) h in
+    shares-member (proves t S A O levels above s) O noGoal (λ g Y. proves-less t S A O levels above s g Y 0 (part-zero Y)) goals X
+    (and-second _ _ both)
+
+-- goals that stand at places are a node's children, where each can be proved
+children-are : (t : List ℕ) (S A O levels : ℕ) (above : Above) (s : StateSets) (goals : List Goal) (pairs : List Pair)
+    → AllPlaced t pairs goals
+    → ((k : ℕ) → k < length goals → proves t S A O levels above s (getD goals k noGoal) 0 ≡ true)
+    → (credential middle : ℕ) (node : Node) → Made credential middle pairs node
+    → Children t S A O levels above s goals (node .asked)
+children-are t S A O levels above s goals pairs placed each credential middle node made =
+    record {
+      fits = made .fits;
+      count = count ∙ placed .count;
+      stands = rw (made .asks) (λ k l. placed-stands (placed .each k l));
+      proved = λ k l. rw (at k l) at (found k (inside k l));
+      goals-are = λ k l. rw (at k l) at
+          (placed-goal (placed .each k (inside k l)) S A O levels above s 0 (found k (inside k l)));
+    }
+  where
+    count : node .asked .len ≡ length pairs
+    count = sym (asked-count (node .asked)) ∙ ap length (made .asks)
+
+    inside : (k : ℕ) → k < node .asked .len → k < length pairs
+    inside k l = omega (arith, count)
+
+    at : (k : ℕ) → k < node .asked .len
+        → getD pairs k (pair 0 0) ≡ pair (getD (node .asked .persons) k 0) (getD (node .asked .places) k 0)
+    at k l = sym (ap (λ ps. getD ps k (pair 0 0)) (made .asks)) ∙ asked-at (node .asked) k l
+
+    found : (k : ℕ) → k < length pairs
+        → provesAt t S A O levels above s (getD pairs k (pair 0 0) .person) (getD pairs k (pair 0 0) .place) 0 ≡ true
+    found k l = placed-proved (placed .each k l) S A O levels above s 0 (each k (omega (arith, placed .count)))
 
 -- credential i + 1 proves its goal
 module _ {t index arcs rows : List ℕ} {S levels last : ℕ} (searched : Searched t index arcs rows S levels last) {person i : ℕ}
-    (tried : Tried t person i) (A : ℕ) (above : Above) (s : StateSets) where
-  abbrev one : Goal → Bool
-  one = proves t S A levels above s
+    (tried : Tried t person i) (A O : ℕ) (above : Above) (s : StateSets) (wants : ℕ → Bool) where
+  abbrev one : Goal → ℕ → Bool
+  one = proves t S A O levels above s
+
+  abbrev all : List Goal → Bool
+  all = suits one O wants
 
   abbrev word : Bool
-  word = part A (acceptingSet t s)
+  word = endsWell t A O wants s
 
   abbrev g : Goal
   g = goalAt t person i
@@ -107,15 +148,50 @@ module _ {t index arcs rows : List ℕ} {S levels last : ℕ} (searched : Search
   abbrev asksOf : List Role
   asksOf = rolesAsked t (credential t (suc i))
 
+  -- whoever is to be proved first has a place
+  first-named : (h : Goal) (goals : List Goal) → all (h ∷ goals) ≡ true → personAt t (h .principal .0) < credentials t
+  unfolding suits
+  first-named h goals proved =
+      let (X, l, both) = any-shows (λ X. wants X and shares one O (h ∷ goals) X) (suc O) proved in
+      let by = shares-shows one O h goals X (and-second _ _ both) in
+      go (by .first) (by .proves-first) (decLt (personAt t (h .principal .0)) (credentials t))
+    where
+      go : (Y : ℕ) → one h Y ≡ true → Dec (personAt t (h .principal .0) < credentials t)
+          → personAt t (h .principal .0) < credentials t
+      go Y is (yes l) = l
+      go Y is (no beyond) =
+          absurd (false-true (sym (unnamed-unproved t S A O (searched .members) above s h Y (omega arith)) ∙ is))
+
+  -- with the least middle, where the goals that it then asks stand at the pairs
+  chosen-as : suc i ≡ leastCredential t S all word g → (m : ℕ) → m ≡ leastMiddle t all word g (suc i)
+      → provedPremises all word (premises t g (suc i) m) ≡ true → (pairs : List Pair)
+      → AllPlaced t pairs (asked (premises t g (suc i) m)) → (node : Node) → Made (suc i) m pairs node
+      → Chosen t S A O levels above s wants g node
+  chosen-as is m middle proved pairs placed node made =
+      record {
+        credential-is = made .credential-is ∙ is;
+        middle-is = rw (made .middle-is, made .credential-is) middle;
+        children = rw (made .middle-is, made .credential-is) children;
+        suited = rw (made .middle-is, made .credential-is) (λ some. suited (λ none. some (children .count ∙ none)));
+      }
+    where
+      suited : (length (asked (premises t g (suc i) m)) ≡ 0 → ⊥) → all (asked (premises t g (suc i) m)) ≡ true
+      suited = asked-proved all word (premises t g (suc i) m) proved
+
+      children : Children t S A O levels above s (asked (premises t g (suc i) m)) (node .asked)
+      children =
+          children-are t S A O levels above s _ pairs placed
+          (λ k l. suits-each t S A O levels above s wants _ (suited (λ none. omega arith)) k l) (suc i) m node made
+
   -- where it is not of kind 3, it asks the principal to be in each of its roles
-  module _ (other : credential t (suc i) .kind ≡ 3 → ⊥) (proved : provesBy t one word g (suc i) ≡ true) where
-    unlinked-passes : provedPremises one word (premises t g (suc i) 0) ≡ true
+  module _ (other : credential t (suc i) .kind ≡ 3 → ⊥) (proved : provesBy t all word g (suc i) ≡ true) where
+    unlinked-passes : provedPremises all word (premises t g (suc i) 0) ≡ true
     unfolding provesBy pick
     unlinked-passes = rw (ne-eqb (credential t (suc i) .kind) 3 other) at proved
 
     abbrev Asks : Type 0
     Asks =
-        (asked (premises t g (suc i) 0) ≡ map (λ (r : Role). goal (g .principal) r) asksOf) × (length asksOf ≤ mostParts)
+        (asked (premises t g (suc i) 0) ≡ roleGoals t g (suc i)) × (length asksOf ≤ mostParts)
         × ((credential t (suc i) .kind ≡ 1 → ⊥) ⊎ (length asksOf ≡ 0))
 
     by-rule : (goals : List Goal) → asked (premises t g (suc i) 0) ≡ asked (some goals) → Rule t g (credential t (suc i)) 0 goals
@@ -135,234 +211,160 @@ module _ {t index arcs rows : List ℕ} {S levels last : ℕ} (searched : Search
 
     unlinked-asks : Asks
     unlinked-asks =
-        let (goals, applies) = proved-some one word (premises t g (suc i) 0) unlinked-passes in
+        let (goals, applies) = proved-some all word (premises t g (suc i) 0) unlinked-passes in
         by-rule goals (ap asked applies) (rule-applied t g (suc i) 0 goals applies)
 
-    -- role k of those that it asks: the principal is proved to be in it
+    -- role k of those that it asks
     module _ (k : ℕ) (l : k < length asksOf) where
       more : credential t (suc i) .kind ≡ 1 → ⊥
       more = ⊎-elim (λ n1. n1) (λ nothing. absurd (omega arith)) (unlinked-asks .2)
 
-      within-four : k < mostParts
-      within-four = omega (arith, unlinked-asks .1)
-
       two-or-four : (credential t (suc i) .kind ≡ 2) ⊎ (credential t (suc i) .kind ≡ 4)
       two-or-four =
           by-kind (credential t (suc i) .kind) (λ k1. absurd (more k1)) inl (λ k3. absurd (other k3)) inr
-          (λ n1 n2 n3 n4. absurd (false-true (sym (by-none t (searched .wellFormed) one word g (suc i) (numbered (tried .there))
+          (λ n1 n2 n3 n4. absurd (false-true (sym (by-none t (searched .wellFormed) all word g (suc i) (numbered (tried .there))
           (own searched tried) n1 n2 n3 n4) ∙ proved)))
 
-      place-at : getD index (askedCell i k) 0 ≡ roleAt t (partRole t i k)
-      place-at = part-cell searched tried two-or-four k within-four
+      part-placed : Placed t (pair person (getD index (askedCell i k) 0)) (getD (asked (premises t g (suc i) 0)) k noGoal)
+      part-placed =
+          record {
+            there = tried .who;
+            named = tried .named;
+            role = partRole t i k;
+            place-is = part-cell searched tried two-or-four k (omega (arith, unlinked-asks .1));
+            goal-is =
+                ap (λ gs. getD gs k noGoal) (unlinked-asks .0)
+                ∙ map-inside (λ (r : Role). goal (g .principal) r) asksOf k (role 0 0) noGoal l
+                ∙ ap (goal (g .principal)) (padded-inside asksOf k (role 0 0) l);
+          }
 
-      pub part-stands : Stands t person (getD index (askedCell i k) 0)
-      part-stands = rw place-at (stands-at t person (partRole t i k) (tried .who) (tried .named))
+    parts-placed : AllPlaced t (rolePairs index person i (length asksOf) 0) (asked (premises t g (suc i) 0))
+    parts-placed =
+        record {
+          count =
+              roles-count index person i (length asksOf)
+              ∙ sym (ap length (unlinked-asks .0) ∙ length-map asksOf (λ (r : Role). goal (g .principal) r));
+          each = λ k l.
+              let inside : k < length asksOf = omega (arith, roles-count index person i (length asksOf)) in
+              rw (roles-at index person i (length asksOf) k inside) (part-placed k inside);
+        }
 
-      pub part-proved : provesAt t S A levels above s person (getD index (askedCell i k) 0) ≡ true
-      part-proved =
-          ap (provesAt t S A levels above s person) place-at ∙ proves-at t S A levels above s person (partRole t i k)
-          ∙ each-part t (searched .wellFormed) one word g (suc i) (numbered (tried .there)) (own searched tried) proved two-or-four
-          k within-four
-
-      pub part-goal : goalAt t person (getD index (askedCell i k) 0) ≡ getD (asked (premises t g (suc i) 0)) k noGoal
-      part-goal =
-          ap (goalAt t person) place-at
-          ∙ at-role t S A levels above s person (partRole t i k) (sym (ap (provesAt t S A levels above s person) place-at) ∙ part-proved)
-          ∙ ap (goal (g .principal)) (sym (padded-inside asksOf k (role 0 0) l))
-          ∙ sym (map-inside (goal (g .principal)) asksOf k (role 0 0) noGoal l)
-          ∙ sym (ap (λ gs. getD gs k noGoal) (unlinked-asks .0))
-
-    pub unlinked-middle : 0 ≡ leastMiddle t one word g (suc i)
+    unlinked-middle : 0 ≡ leastMiddle t all word g (suc i)
     unfolding leastMiddle
     unlinked-middle = least-at _ (suc mostPrincipals) 0 (omega arith) unlinked-passes (λ k passes. omega arith)
 
-    pub unlinked-count : length asksOf ≡ length (asked (premises t g (suc i) 0))
-    unlinked-count = sym (ap length (unlinked-asks .0) ∙ length-map asksOf (λ (r : Role). goal (g .principal) r))
-
-    pub unlinked-few : length asksOf ≤ mostParts
-    unlinked-few = unlinked-asks .1
-
-  -- the node of such a credential
-  pub chosen-unlinked : (credential t (suc i) .kind ≡ 3 → ⊥) → provesBy t one word g (suc i) ≡ true
-      → suc i ≡ leastCredential t S one word g → (len : ℕ) → len ≡ length asksOf → (node : Node) → Unlinked index person i len node
-      → Chosen t S A levels above s g node
-  chosen-unlinked other proved is len count node u =
-      record {
-        credential-is = u .credential-is ∙ is;
-        middle-is = rw (u .middle-is, u .credential-is) (unlinked-middle other proved);
-        children =
-            rw (u .middle-is, u .credential-is, u .len-is)
-            (record {
-              few = omega (arith, count, unlinked-few other proved);
-              people = u .people;
-              roles = u .roles;
-              count = count ∙ unlinked-count other proved;
-              stands = λ k l. rw (who k l, where-at k l) (part-stands other proved k (omega arith));
-              proved = λ k l. rw (who k l, where-at k l) (part-proved other proved k (omega arith));
-              goals-are = λ k l. rw (who k l, where-at k l) (part-goal other proved k (omega arith));
-            });
-      }
-    where
-      four : (k : ℕ) → k < len → k < mostParts
-      four k l = omega (arith, count, unlinked-few other proved)
-
-      who : (k : ℕ) → k < len → getD (node .persons) k 0 ≡ person
-      who k l = u .person-is k (four k l)
-
-      where-at : (k : ℕ) → k < len → getD (node .places) k 0 ≡ getD index (askedCell i k) 0
-      where-at k l = u .place-is k (four k l)
+    -- the node of such a credential
+    pub chosen-unlinked : suc i ≡ leastCredential t S all word g → (node : Node)
+        → Made (suc i) 0 (rolePairs index person i (length asksOf) 0) node → Chosen t S A O levels above s wants g node
+    chosen-unlinked is = chosen-as is 0 unlinked-middle unlinked-passes _ parts-placed
 
   -- of kind 3: the principal at j is the middle that is chosen
-  module _ (kind : credential t (suc i) .kind ≡ 3) (j : ℕ) (least : LeastMiddle t (leads t index S A levels above s person i) j) where
+  module _ (kind : credential t (suc i) .kind ≡ 3) (j : ℕ) (least : LeastMiddle t (leads t all word g (suc i)) j) where
     abbrev m : ℕ
-    m = credential t (suc j) .first
-
-    abbrev second : Role
-    second = role m (credential t (suc i) .second)
+    m = middleAt t j
 
     named : isPerson t j ≡ true
     named = and-first _ _ (least .leads-on)
 
-    linked-applies : premises t g (suc i) m ≡ some (goal (principal m) (middleRole t (suc i)) ∷ goal (g .principal) second ∷ [])
-    linked-applies =
+    linked-passes : provedPremises all word (premises t g (suc i) m) ≡ true
+    linked-passes = and-second (isPerson t j) _ (least .leads-on)
+
+    linked-asks : asked (premises t g (suc i) m) ≡ middleGoals t g (suc i) j
+    unfolding asked
+    linked-asks =
         let in-range = names-principal t (searched .wellFormed) (suc j) (numbered (least .there)) (is-person t j named .0) in
-        sym (own-role t g (suc i) m (numbered (tried .there)) (credential t (suc i)) refl (own searched tried))
-        ∙ sym (asks-3 t g (credential t (suc i)) m kind) ∙ sym (when-on _ in-range)
-
-    -- a middle with which the credential proves its goal leads on, and the other way round
-    leads-proves : (j : ℕ) → j < credentials t → isPerson t j ≡ true
-        → leads t index S A levels above s person i j ≡ provedPremises one word (premises t g (suc i) (middleAt t j))
-    leads-proves j l person-at =
-        sym (cell-middle searched tried A above s kind j l)
-        ∙ and-is person-at
-        (sym (with-middle t (searched .wellFormed) one word g (suc i) (numbered (tried .there)) (own searched tried) kind j l
-        person-at))
-
-    linked-passes : provedPremises one word (premises t g (suc i) m) ≡ true
-    linked-passes = sym (leads-proves j (least .there) named) ∙ least .leads-on
+        sym (ap asked (when-on (middleGoals t g (suc i) j) in-range ∙ asks-3 t g (credential t (suc i)) m kind
+        ∙ own-role t g (suc i) m (numbered (tried .there)) (credential t (suc i)) refl (own searched tried)))
 
     -- another middle that passes is a principal with a place, so it leads on
-    passes-named : (x : ℕ) → provedPremises one word (premises t g (suc i) x) ≡ true → personAt t x < credentials t
+    passes-named : (x : ℕ) → provedPremises all word (premises t g (suc i) x) ≡ true → personAt t x < credentials t
+    unfolding asked
     passes-named x h =
-        let (goals, applies) = proved-some one word (premises t g (suc i) x) h in
+        let (goals, applies) = proved-some all word (premises t g (suc i) x) h in
         by-linking goals (rw applies at h) (rule-applied t g (suc i) x goals applies)
       where
-        go : Dec (personAt t x < credentials t) → one (goal (principal x) (middleRole t (suc i))) ≡ true
-            → personAt t x < credentials t
-        go (yes l) proved = l
-        go (no beyond) proved =
-            absurd (false-true (sym (unnamed-unproved t S A (searched .members) above s (goal (principal x) (middleRole t (suc i)))
-            (omega arith)) ∙ proved))
-
-        by-linking : (goals : List Goal) → provedPremises one word (some goals) ≡ true → Rule t g (credential t (suc i)) x goals
+        by-linking : (goals : List Goal) → provedPremises all word (some goals) ≡ true → Rule t g (credential t (suc i)) x goals
             → personAt t x < credentials t
         by-linking goals p (membership k1 who z e) = absurd (omega arith)
         by-linking goals p (containment k2 z e) = absurd (omega arith)
         by-linking goals p (linking k3 range e) =
-            go (decLt (personAt t x) (credentials t)) (first-of one word _ _ (rw (← e) at p))
+            first-named (goal (principal x) (middleRole t (suc i))) _
+            (asked-proved all word (some (_ ∷ _ ∷ [])) (rw (← e) at p) (λ none. omega arith))
         by-linking goals p (intersection k4 z e) = absurd (omega arith)
 
-    linked-least : (x : ℕ) → provedPremises one word (premises t g (suc i) x) ≡ true → m ≤ x
+    linked-least : (x : ℕ) → provedPremises all word (premises t g (suc i) x) ≡ true → m ≤ x
     linked-least x h =
         let l = passes-named x h in
         let stands = person-stands t x l .1 in
-        let passes-on = ap (λ y. provedPremises one word (premises t g (suc i) y)) stands ∙ h in
-        let on = leads-proves (personAt t x) l (person-is t x l) ∙ passes-on in
-        omega (arith, stands, least .least (personAt t x) l on)
+        let passes-on = ap (λ y. provedPremises all word (premises t g (suc i) y)) stands ∙ h in
+        omega (arith, stands, least .least (personAt t x) l (and-both (person-is t x l) passes-on))
 
-    pub linked-middle : m ≡ leastMiddle t one word g (suc i)
+    linked-middle : m ≡ leastMiddle t all word g (suc i)
     unfolding leastMiddle
     linked-middle =
-        let range = principal-range m (names-principal t (searched .wellFormed) (suc j) (numbered (least .there)) (is-person t j named .0)) in
-        least-at _ (suc mostPrincipals) m (omega (arith, range .last)) linked-passes linked-least
-
-    pub linked-asks : asked (premises t g (suc i) m) ≡ goal (principal m) (middleRole t (suc i)) ∷ goal (g .principal) second ∷ []
-    unfolding asked
-    linked-asks = rw linked-applies
+        let person = names-principal t (searched .wellFormed) (suc j) (numbered (least .there)) (is-person t j named .0) in
+        least-at _ (suc mostPrincipals) m (omega (arith, principal-range m person .last)) linked-passes linked-least
 
     -- both goals by their places
-    first-proved : provesAt t S A levels above s j (getD index (askedCell i 0) 0) ≡ true
-    first-proved = and-first _ _ (and-second (isPerson t j) _ (least .leads-on))
-
-    second-proved : provesAt t S A levels above s person (getD index (linkCell i j) 0) ≡ true
-    second-proved = and-second _ _ (and-second (isPerson t j) _ (least .leads-on))
-
-    first-goal : goalAt t j (getD index (askedCell i 0) 0) ≡ goal (principal m) (middleRole t (suc i))
-    first-goal =
-        let at = first-cell searched tried kind in
-        ap (goalAt t j) at ∙ at-role t S A levels above s j (partRole t i 0) (rw at at first-proved)
-        ∙ ap (goal (principal m)) (linking-role t (suc i) kind)
-
-    second-goal : goalAt t person (getD index (linkCell i j) 0) ≡ goal (g .principal) second
-    second-goal =
-        let at = second-cell searched tried kind j (least .there) named in
-        ap (goalAt t person) at ∙ at-role t S A levels above s person (linkedRole t i j) (rw at at second-proved)
-
-    pub chosen-linked : suc i ≡ leastCredential t S one word g → (middle : ℕ) → middle ≡ m → (node : Node)
-        → Linked index person i j middle node → Chosen t S A levels above s g node
-    chosen-linked is middle read node u =
-        record {
-          credential-is = u .credential-is ∙ is;
-          middle-is = rw (u .middle-is, u .credential-is, read) linked-middle;
-          children =
-              rw (u .middle-is, u .credential-is, u .len-is, read, linked-asks)
-              (record {
-                few = omega arith;
-                people = u .people;
-                roles = u .roles;
-                count = refl;
-                stands = stands;
-                proved = proved;
-                goals-are = goals-are;
-              });
-        }
+    link-placed : AllPlaced t (linkPairs index person i j) (middleGoals t g (suc i) j)
+    link-placed = record { count = refl; each = each }
       where
-        stands : (k : ℕ) → k < 2 → Stands t (getD (node .persons) k 0) (getD (node .places) k 0)
-        stands zero l = rw (u .first-person) (first-stands searched tried kind (least .there) named (u .first-place))
-        stands (suc zero) l = rw (u .second-person) (second-stands searched tried kind (least .there) named (u .second-place))
-        stands (suc (suc k)) l = absurd (omega arith)
+        each : (k : ℕ) → k < 2
+            → Placed t (getD (linkPairs index person i j) k (pair 0 0)) (getD (middleGoals t g (suc i) j) k noGoal)
+        each zero l =
+            record {
+              there = least .there;
+              named = named;
+              role = partRole t i 0;
+              place-is = first-cell searched tried kind;
+              goal-is = ap (goal (principal m)) (sym (linking-role t (suc i) kind));
+            }
+        each (suc zero) l =
+            record {
+              there = tried .who;
+              named = tried .named;
+              role = linkedRole t i j;
+              place-is = second-cell searched tried kind j (least .there) named;
+              goal-is = refl;
+            }
+        each (suc (suc k)) l = absurd (omega arith)
 
-        proved : (k : ℕ) → k < 2 → provesAt t S A levels above s (getD (node .persons) k 0) (getD (node .places) k 0) ≡ true
-        proved zero l = rw (u .first-person, u .first-place) first-proved
-        proved (suc zero) l = rw (u .second-person, u .second-place) second-proved
-        proved (suc (suc k)) l = absurd (omega arith)
+    pub chosen-linked : suc i ≡ leastCredential t S all word g → (node : Node) → Made (suc i) m (linkPairs index person i j) node
+        → Chosen t S A O levels above s wants g node
+    chosen-linked is = chosen-as is m linked-middle linked-passes _ (rw linked-asks link-placed)
 
-        goals-are : (k : ℕ) → k < 2
-            → goalAt t (getD (node .persons) k 0) (getD (node .places) k 0)
-            ≡ getD (goal (principal m) (middleRole t (suc i)) ∷ goal (g .principal) second ∷ []) k noGoal
-        goals-are zero l = rw (u .first-person, u .first-place) first-goal
-        goals-are (suc zero) l = rw (u .second-person, u .second-place) second-goal
-        goals-are (suc (suc k)) l = absurd (omega arith)
+-- credential i + 1 has been read as x, which is not of kind 3
+pub not-linking : (t : List ℕ) (i : ℕ) (x : Credential) → x ≡ credential t (i + 1) → (x .kind ≡ 3 → ⊥)
+    → credential t (suc i) .kind ≡ 3 → ⊥
+not-linking t i x read other three = other (ap (λ (y : Credential). y .kind) (as-read t i x read) ∙ three)
 
--- the least credential, number i + 1, for the goal at `person` and `place`; the code has read it as x
+-- the least credential, number i + 1, for the goal at `person` and `place`
 module _ {t index arcs rows : List ℕ} {S levels last : ℕ} (searched : Searched t index arcs rows S levels last)
-    {person place i : ℕ} (stands : Stands t person place) (A : ℕ) (above : Above) (s : StateSets) (there : i < credentials t)
-    (is : suc i ≡ leastCredential t S (proves t S A levels above s) (part A (acceptingSet t s)) (goalAt t person place))
-    (x : Credential) (read : x ≡ credential t (i + 1)) where
+    {person place i : ℕ} (stands : Stands t person place) (A O : ℕ) (above : Above) (s : StateSets) (wants : ℕ → Bool)
+    (there : i < credentials t)
+    (is : suc i ≡ leastCredential t S (suits (proves t S A O levels above s) O wants) (endsWell t A O wants s)
+    (goalAt t person place)) where
+  abbrev suited : List Goal → Bool
+  suited = suits (proves t S A O levels above s) O wants
+
   same : goalAt t person i ≡ goalAt t person place
-  same = own-goal t person place S _ _ i is there
+  same = own-goal t person place S suited _ i is there
 
-  own-least : suc i ≡ leastCredential t S (proves t S A levels above s) (part A (acceptingSet t s)) (goalAt t person i)
-  own-least = is ∙ ap (leastCredential t S (proves t S A levels above s) (part A (acceptingSet t s))) (sym same)
+  own-least : suc i ≡ leastCredential t S suited (endsWell t A O wants s) (goalAt t person i)
+  own-least = is ∙ ap (leastCredential t S suited (endsWell t A O wants s)) (sym same)
 
-  pub least-proved : provesBy t (proves t S A levels above s) (part A (acceptingSet t s)) (goalAt t person i) (suc i) ≡ true
-  least-proved = own-proved t person place S _ _ i is there
+  pub least-proved : provesBy t suited (endsWell t A O wants s) (goalAt t person i) (suc i) ≡ true
+  least-proved = own-proved t person place S suited _ i is there
 
-  as-own : (node : Node) → Chosen t S A levels above s (goalAt t person i) node
-      → Chosen t S A levels above s (goalAt t person place) node
-  as-own node chosen = rw same at chosen
+  pub chosen-plain : (credential t (suc i) .kind ≡ 3 → ⊥) → (node : Node)
+      → Made (suc i) 0 (rolePairs index person i (length (rolesAsked t (credential t (suc i)))) 0) node
+      → Chosen t S A O levels above s wants (goalAt t person place) node
+  chosen-plain other node made =
+      rw same at (chosen-unlinked searched (tried-at stands i there) A O above s wants other least-proved own-least node made)
 
-  pub chosen-plain : (x .kind ≡ 3 → ⊥) → (len : ℕ) → len ≡ length (rolesAsked t x) → (node : Node) → Unlinked index person i len node
-      → Chosen t S A levels above s (goalAt t person place) node
-  chosen-plain other len count node u =
-      let own-read = as-read t i x read in
-      as-own node (chosen-unlinked searched (tried-at stands i there) A above s (rw own-read at other) least-proved own-least len
-      (rw own-read at count) node u)
-
-  pub chosen-with : x .kind ≡ 3 → (j : ℕ) → LeastMiddle t (leads t index S A levels above s person i) j
-      → (y : Credential) → y ≡ credential t (j + 1) → (node : Node) → Linked index person i j (y .first) node
-      → Chosen t S A levels above s (goalAt t person place) node
-  chosen-with three j least y read′ node u =
-      let own-read = as-read t i x read in
-      as-own node (chosen-linked searched (tried-at stands i there) A above s (rw own-read at three) j least own-least (y .first)
-      (ap (λ (c : Credential). c .first) (as-read t j y read′)) node u)
+  pub chosen-with : credential t (suc i) .kind ≡ 3 → (j : ℕ)
+      → LeastMiddle t (leads t suited (endsWell t A O wants s) (goalAt t person i) (suc i)) j
+      → (node : Node) → Made (suc i) (middleAt t j) (linkPairs index person i j) node
+      → Chosen t S A O levels above s wants (goalAt t person place) node
+  chosen-with three j least node made =
+      rw same at (chosen-linked searched (tried-at stands i there) A O above s wants three j least own-least node made)

@@ -1,6 +1,6 @@
 -- The middles of a credential of kind 3: those whom the table of members has, and of them the one of the least number.
 use mathlib.Core.Path.{_≡_, refl, sym, ap, _∙_}
-use mathlib.Core.List.{List}
+use mathlib.Core.List.{List, [], _∷_}
 use mathlib.Core.Bool.{Bool, true, false, not}
 use Prim.Native.Nat.{ℕ, suc, _+_, _-_, _^_, _<_, _≤_}
 use native.Mathlib.Omega.{arith}
@@ -9,24 +9,35 @@ use native.Mathlib.Numerals.{add-one}
 use lib.ListN.{getD}
 use lib.Bits.{bitAnd, bitOr, bitXor}
 use lib.Dec.{leb, ltb}
-use borrow.Author.Tests.{le-leb, leb-false, leb-true, lt-leb, lt-ltb, ltb-false, ltb-true}
-use Rattle.sets.specs.Logic.{_and_, _or_, anyBelow}
+use borrow.Author.Tests.{eq-eqb, le-leb, leb-false, leb-true, lt-leb, lt-ltb, ltb-false, ltb-true}
+use Rattle.sets.specs.Logic.{_and_, _or_, anyBelow, pick}
 use Rattle.sets.specs.Sets.{inSet}
-use Rattle.sets.proofs.Tests.{and-both, and-first, and-is, and-is-off, and-second, any-shows, failed, false-true, or-first}
-use Rattle.sets.proofs.Tests.{passed, refuted}
+use Rattle.sets.proofs.Tests.{and-both, and-first, and-is, and-is-off, and-none, and-second, any-none, any-same, any-shows}
+use Rattle.sets.proofs.Tests.{false-true, or-first, refuted}
+use Rattle.sets.proofs.Members.{below-members, inSet-zero, members-below, one-only, part-le, part-member, part-zero, set-more}
+use Rattle.sets.proofs.Members.{set-not, setOf-members}
+use Rattle.sets.proofs.Without.{one-is, part-fails, without-other, without-own, without-part}
+use Rattle.families.specs.Families.{FamilyOf, allSets, inFamily, joins}
+use Rattle.families.specs.declared.Family.{Family}
 use Rattle.table.specs.Layout.{credential, credentials}
 use Rattle.table.specs.declared.Credential.{Credential}
+use Rattle.table.specs.declared.Goal.{Goal}
 use Rattle.automata.specs.declared.StateSets.{StateSets}
 use Rattle.members.specs.Places.{isPerson}
 use Rattle.members.specs.Members.{askedCell, lesser, linkCell, rowCell}
 use Rattle.members.specs.Trying.{provesBy}
 use Rattle.members.specs.declared.above.Above.{Above}
+use Rattle.members.proofs.Reading.{numbered}
+use Rattle.members.proofs.ByKind.{with-goals}
+use Rattle.search.specs.Asking.{Pair, pair}
+use Rattle.search.specs.Failing.{Told, goalTest}
 use Rattle.search.specs.Search.{Searched, Stands, Tried, goalAt, proves, provesAt}
-use Rattle.search.proofs.Placing.{cell-middles, first-cell, linkedRole, middle-unlisted, partRole, second-cell, stands-at}
-use Rattle.sets.proofs.Members.{below-members, inSet-zero, members-below, one-only, part-le, part-member, set-more, set-not}
-use Rattle.sets.proofs.Members.{setOf-members}
-use Rattle.sets.proofs.Without.{one-is, part-fails, without-other, without-own, without-part}
-use Rattle.choice.specs.Choice.{LeastMiddle, LeastNamed, comesBefore, leads, listedMiddles}
+use Rattle.search.proofs.Sharing.{first-unshared}
+use Rattle.search.proofs.Judging.{no-sets, none-covered}
+use Rattle.search.proofs.Placing.{cell-middle, first-cell, linkPairs, linkedRole, middle-unlisted, own, partRole, second-cell}
+use Rattle.search.proofs.Placing.{stands-at}
+use Rattle.choice.specs.Choice.{LeastMiddle, LeastNamed, Wanted, comesBefore, endsWell, leads, listedMiddles, suits}
+use Rattle.choice.proofs.Wanting.{meets-wanted, pair-less, told-alone, told-here, told-joined}
 
 le-refl : (x : ℕ) → x ≤ x
 le-refl x = omega arith
@@ -102,7 +113,8 @@ module _ (t : List ℕ) (places : ℕ) where
 module _ (t index rows : List ℕ) (row person i j found first second : ℕ)
     (so-far : found ≡ listedMiddles t index rows row person i j) (read : first ≡ getD index (askedCell i 0) 0)
     (read′ : second ≡ getD index (linkCell i j) 0) {told : Bool}
-    (e : told ≡ (inSet (getD rows (rowCell row first) 0) j and inSet (getD rows (rowCell row second) 0) person and isPerson t j)) where
+    (e : told
+    ≡ (inSet (getD rows (rowCell row first) 0) j and inSet (getD rows (rowCell row second) 0) person and isPerson t j)) where
   pub listed-more : told ≡ true → bitOr found (2 ^ j) ≡ listedMiddles t index rows row person i (j + 1)
   unfolding listedMiddles
   listed-more on = set-more _ found j so-far (rw (read, read′) at (sym e ∙ on))
@@ -123,15 +135,85 @@ module _ {t index arcs rows : List ℕ} {S levels last : ℕ} (searched : Search
       rw (e, second-cell searched tried kind j there named)
       (stands-at t person (linkedRole t i j) (tried .who) (tried .named))
 
-  -- what is told of both goals
-  module _ (A : ℕ) (above : Above) (s : StateSets) {first : ℕ} (read : first ≡ getD index (askedCell i 0) 0) {one : Bool}
-      (e : one ≡ provesAt t S A levels above s j first) where
-    pub leads-not : not one ≡ true → false ≡ leads t index S A levels above s person i j
-    leads-not off = sym (and-is named (and-is-off _ (rw read at (failed e off))))
+-- a middle leads on exactly where both goals, by places, can be proved such that a set that is wanted is met
+module _ {t index arcs rows : List ℕ} {S levels last : ℕ} (searched : Searched t index arcs rows S levels last) {person i : ℕ}
+    (tried : Tried t person i) (kind : credential t (suc i) .kind ≡ 3) (A O : ℕ) (above : Above) (s : StateSets)
+    (wants : ℕ → Bool) where
+  abbrev one : Goal → ℕ → Bool
+  one = proves t S A O levels above s
 
-    pub leads-told : not one ≡ false → {second : ℕ} → second ≡ getD index (linkCell i j) 0 → {two : Bool}
-        → two ≡ provesAt t S A levels above s person second → two ≡ leads t index S A levels above s person i j
-    leads-told on read′ e′ = sym (and-is named (and-is (rw read at (passed e on)) (sym (rw read′ at e′))))
+  abbrev at : Pair → ℕ → Bool
+  at = λ (p : Pair) Y. provesAt t S A O levels above s (p .person) (p .place) Y
+
+  abbrev leadsOn : ℕ → Bool
+  leadsOn = leads t (suits one O wants) (endsWell t A O wants s) (goalAt t person i) (suc i)
+
+  pub leads-at : (j : ℕ) → j < credentials t → leadsOn j ≡ (isPerson t j and suits at O wants (linkPairs index person i j))
+  unfolding suits
+  leads-at j l = go (isPerson t j) refl
+    where
+      go : (b : Bool) → isPerson t j ≡ b → leadsOn j ≡ (isPerson t j and suits at O wants (linkPairs index person i j))
+      go true e =
+          ap (λ b. isPerson t j and b)
+          (with-goals t (searched .wellFormed) (suits one O wants) (endsWell t A O wants s) (goalAt t person i) (suc i)
+          (numbered (tried .there)) (own searched tried) kind j l e
+          ∙ any-same _ _ (suc O) (λ X m. ap (λ b. wants X and b)
+          (sym (and-is e refl) ∙ cell-middle searched tried A O above s X kind j l ∙ and-is e refl)))
+      go false e = and-is-off _ e ∙ sym (and-is-off _ e)
+
+  -- who is not in both masks of the row does not
+  pub leads-listed : (row j : ℕ) → row ≡ lesser levels last → j < credentials t → leadsOn j ≡ true
+      → (inSet (getD rows (rowCell row (getD index (askedCell i 0) 0)) 0) j
+      and inSet (getD rows (rowCell row (getD index (linkCell i j) 0)) 0) person and isPerson t j) ≡ true
+  unfolding suits
+  leads-listed row j the-row l on =
+      let here = sym (leads-at j l) ∙ on in
+      let (X, m, both) = any-shows _ (suc O) (and-second (isPerson t j) _ here) in
+      let led = and-both (and-first (isPerson t j) _ here) (and-second _ _ both) in
+      not-missed _ (λ off.
+      false-true (sym (middle-unlisted searched tried A O above s X kind j l (rw the-row at off)) ∙ led))
+    where
+      not-missed : (b : Bool) → (b ≡ false → ⊥) → b ≡ true
+      not-missed true never = refl
+      not-missed false never = absurd (never refl)
+
+-- what is told of both goals
+module _ {t index arcs rows : List ℕ} {S levels last : ℕ} (searched : Searched t index arcs rows S levels last) {person i : ℕ}
+    (tried : Tried t person i) (kind : credential t (suc i) .kind ≡ 3) {j : ℕ} (there : j < credentials t)
+    (named : isPerson t j ≡ true) (A : ℕ) (above : Above) (s : StateSets) {O : ℕ} {wanted : Family} (want : Wanted O wanted)
+    {first : ℕ} (read : first ≡ getD index (askedCell i 0) 0) {f : Family}
+    (told : Told O (goalTest t S A O levels s j first) above f) where
+  abbrev proved : Pair → ℕ → Bool
+  proved = λ (p : Pair) Y. provesAt t S A O levels above s (p .person) (p .place) Y
+
+  abbrev leadsTo : Bool
+  leadsTo =
+      leads t (suits (proves t S A O levels above s) O (inFamily wanted)) (endsWell t A O (inFamily wanted) s) (goalAt t person i)
+      (suc i) j
+
+  -- the first cannot be proved at all
+  pub leads-none : {none : Bool} → none ≡ not (anyBelow (inFamily f) allSets) → none ≡ true → false ≡ leadsTo
+  unfolding suits
+  leads-none {none} e on =
+      sym (leads-at searched tried kind A O above s (inFamily wanted) j there
+      ∙ and-none (isPerson t j) (any-none _ (suc O) (λ X l.
+      and-none (inFamily wanted X) (first-unshared proved O _ _ X (λ Y. rw (← read) (never Y))))))
+    where
+      never : (Y : ℕ) → proved (pair j first) Y ≡ false
+      never Y =
+          refuted _ (λ h.
+          false-true (sym (none-covered f (no-sets f none e on) 0)
+          ∙ told .all 0 (part-zero O) (pair-less t S A O levels above s Y 0 (pair j first) (part-zero Y) h)))
+
+  pub leads-told : {second : ℕ} → second ≡ getD index (linkCell i j) 0 → {h : Family} (both : Family)
+      → Told O (goalTest t S A O levels s person second) above h → FamilyOf (joins f h) both
+      → {r : Bool} → r ≡ anyBelow (λ X. inFamily both X and inFamily wanted X) allSets → r ≡ leadsTo
+  unfolding suits
+  leads-told {second} read′ both told′ all e =
+      let less = pair-less t S A O levels above s in
+      let alone = told-alone proved O less (pair person second) (told-here told′) in
+      meets-wanted want (told-joined proved O less (pair j first) (pair person second ∷ []) all (told-here told) alone) e
+      ∙ rw (read, read′) (sym (leads-at searched tried kind A O above s (inFamily wanted) j there ∙ and-is named refl))
 
 -- all places have been looked at, and one of them is in the set
 pub named-all : (t : List ℕ) (places j best : ℕ) → j ≡ credentials t → NamedTo t places j best → places < 2 ^ credentials t
@@ -152,38 +234,33 @@ pub record MiddlesLeft (t : List ℕ) (passes : ℕ → Bool) (left : ℕ) : Typ
   pub people : (k : ℕ) → inSet left k ≡ true → isPerson t k ≡ true
 
 -- at first those whom the row has
-module _ {t index arcs rows : List ℕ} {S levels last : ℕ} (searched : Searched t index arcs rows S levels last) {person i : ℕ}
-    (tried : Tried t person i) (kind : credential t (suc i) .kind ≡ 3) (A : ℕ) (above : Above) (s : StateSets) where
-  abbrev passes : ℕ → Bool
-  passes = leads t index S A levels above s person i
+pub left-first : {t index arcs rows : List ℕ} {S levels last : ℕ} → Searched t index arcs rows S levels last → {person i : ℕ}
+    → Tried t person i → credential t (suc i) .kind ≡ 3 → (A O : ℕ) (above : Above) (s : StateSets) (wants : ℕ → Bool)
+    → (row left : ℕ) → row ≡ lesser levels last → left ≡ listedMiddles t index rows row person i (credentials t)
+    → MiddlesLeft t (leads t (suits (proves t S A O levels above s) O wants) (endsWell t A O wants s) (goalAt t person i) (suc i))
+    left
+unfolding listedMiddles
+left-first {t} {index} {rows = rows} searched {person} {i} tried kind A O above s wants row left the-row is =
+    record {
+      few = members-below left (credentials t) (λ k h. ltb-true k (credentials t) (and-first _ _ (sym (member k) ∙ h)));
+      every = λ k l on.
+          member k ∙ and-both (lt-ltb k _ l) (leads-listed searched tried kind A O above s wants row k the-row l on);
+      people = λ k h. and-second _ _ (and-second _ _ (and-second _ _ (sym (member k) ∙ h)));
+    }
+  where
+    test : ℕ → Bool
+    test j =
+        inSet (getD rows (rowCell row (getD index (askedCell i 0) 0)) 0) j
+        and inSet (getD rows (rowCell row (getD index (linkCell i j) 0)) 0) person and isPerson t j
 
-  pub left-first : (row left : ℕ) → row ≡ lesser levels last → left ≡ listedMiddles t index rows row person i (credentials t)
-      → MiddlesLeft t passes left
-  unfolding listedMiddles
-  left-first row left the-row is =
-      record {
-        few = members-below left (credentials t) (λ k h. ltb-true k (credentials t) (and-first _ _ (sym (member k) ∙ h)));
-        every = λ k l on. member k ∙ and-both (lt-ltb k _ l) (go k l on (test k) refl);
-        people = λ k h. and-second _ _ (and-second _ _ (and-second _ _ (sym (member k) ∙ h)));
-      }
-    where
-      test : ℕ → Bool
-      test j =
-          inSet (getD rows (rowCell row (getD index (askedCell i 0) 0)) 0) j
-          and inSet (getD rows (rowCell row (getD index (linkCell i j) 0)) 0) person and isPerson t j
+    member : (k : ℕ) → inSet left k ≡ (ltb k (credentials t) and test k)
+    member k = rw is (setOf-members test (credentials t) k)
 
-      member : (k : ℕ) → inSet left k ≡ (ltb k (credentials t) and test k)
-      member k = rw is (setOf-members test (credentials t) k)
-
-      go : (k : ℕ) → k < credentials t → passes k ≡ true → (b : Bool) → test k ≡ b → test k ≡ true
-      go k l on true e = e
-      go k l on false e =
-          absurd (false-true (sym (middle-unlisted searched tried A above s kind k l (rw the-row at e)) ∙ on))
-
-  -- the credential proves its goal, so some middle leads on
-  pub some-leads : (word : Bool) → provesBy t (proves t S A levels above s) word (goalAt t person i) (suc i) ≡ true
-      → anyBelow passes (credentials t) ≡ true
-  some-leads word proved = sym (cell-middles searched tried A above s word kind) ∙ proved
+-- the credential proves its goal, so some middle leads on
+pub some-leads : (t : List ℕ) (all : List Goal → Bool) (word : Bool) (g : Goal) (c : ℕ) → credential t c .kind ≡ 3
+    → provesBy t all word g c ≡ true → anyBelow (leads t all word g c) (credentials t) ≡ true
+unfolding provesBy pick
+some-leads t all word g c kind proved = rw (eq-eqb (credential t c .kind) 3 kind) at proved
 
 module _ (t : List ℕ) (passes : ℕ → Bool) (left : ℕ) (is : MiddlesLeft t passes left) where
   pub left-some : anyBelow passes (credentials t) ≡ true → left ≡ 0 → ⊥

@@ -1,76 +1,116 @@
--- A node as it is made: how many goals its credential asks, and the cells of the index that say which.
+-- The goals that a node asks: the list of them by places, goal by goal, and what it means that a goal stands at its places.
 use mathlib.Core.Path.{_≡_, refl, sym, ap, _∙_}
 use mathlib.Core.List.{List, [], _∷_}
-use Prim.Native.Nat.{ℕ, suc, zero, _+_, _<_, _≤_}
+use mathlib.Core.Bool.{true}
+use Prim.Native.Nat.{ℕ, zero, suc, _+_, _<_}
+use native.Mathlib.Nat.{add-zero, zero-add}
 use native.Mathlib.Omega.{arith}
-use lib.ListN.{getD, length, length-set, set}
-use lib.Seq.{getD-set-other, getD-set-same}
-use borrow.Author.Tests.{ne-eqb}
-use Rattle.sets.specs.Logic.{pick}
-use Rattle.table.specs.Limits.{mostParts}
-use Rattle.table.specs.Layout.{parts}
-use Rattle.table.specs.Holding.{Holds}
-use Rattle.table.specs.declared.Chain.{Chain}
+use lib.ListN.{getD, length}
+use borrow.Author.Tests.{ltb-true}
+use Rattle.sets.proofs.Tests.{and-first}
+use Rattle.table.specs.Layout.{credential, credentials, principal}
+use Rattle.table.specs.declared.Role.{Role}
 use Rattle.table.specs.declared.Credential.{Credential}
-use Rattle.members.specs.Members.{askedCell, rolesAsked}
-use Rattle.members.proofs.Reading.{below-next}
-use Rattle.members.proofs.Indexing.{held-length}
-use Rattle.members.proofs.ByKind.{roles-2, roles-4}
-use Rattle.choice.specs.Choice.{Unlinked}
+use Rattle.table.specs.declared.Goal.{Goal}
+use Rattle.automata.specs.declared.StateSets.{StateSets}
+use Rattle.derivation.specs.Rules.{goal}
+use Rattle.derivation.specs.Held.{noGoal}
+use Rattle.members.specs.Places.{isPerson, roleAt}
+use Rattle.members.specs.Members.{askedCell, linkCell}
+use Rattle.members.specs.declared.above.Above.{Above}
+use Rattle.members.proofs.Places.{role-stands}
+use Rattle.members.proofs.Reading.{as-read}
+use Rattle.search.specs.Asking.{Pair, askedPairs, pair, pairsFrom, rolePairs}
+use Rattle.search.specs.Search.{Stands, goalAt, proves, provesAt}
+use Rattle.search.specs.declared.asking.Asked.{Asked}
+use Rattle.search.proofs.Placing.{linkPairs, proves-at, stands-at}
+use Rattle.choice.specs.declared.Node.{Node}
+use Rattle.choice.specs.Choice.{Made}
 
--- how many roles a credential asks, by its kind
-module _ (t : List ℕ) (c : Credential) where
-  pub asks-parts : c .kind ≡ 4 → (held : Chain) → Holds t (c .first) held → held .len ≡ length (rolesAsked t c)
-  asks-parts four held holds = sym (ap length (roles-4 t c four) ∙ held-length t (c .first) held holds)
+-- a list made goal by goal, from goal k on, has goal k + j at place j
+module _ (each : ℕ → ℕ → List Pair) (one : ℕ → Pair) (none : (k : ℕ) → each 0 k ≡ [])
+    (more : (n k : ℕ) → each (suc n) k ≡ one k ∷ each n (suc k)) where
+  made-count : (n k : ℕ) → length (each n k) ≡ n
+  made-count zero k = rw (none k)
+  made-count (suc n) k = rw (more n k) (ap suc (made-count n (suc k)))
 
-  pub asks-one : c .kind ≡ 2 → 1 ≡ length (rolesAsked t c)
-  asks-one two = sym (ap length (roles-2 t c two))
+  made-at : (n k j : ℕ) → j < n → getD (each n k) j (pair 0 0) ≡ one (k + j)
+  made-at zero k j l = absurd (omega arith)
+  made-at (suc n) k zero l = rw (more n k, add-zero k)
+  made-at (suc n) k (suc j) l =
+      let next : suc k + j ≡ k + suc j = omega arith in
+      rw (more n k) (made-at n (suc k) j (omega arith) ∙ ap one next)
 
-  pub asks-none : (c .kind ≡ 2 → ⊥) → (c .kind ≡ 3 → ⊥) → (c .kind ≡ 4 → ⊥) → 0 ≡ length (rolesAsked t c)
-  unfolding rolesAsked pick
-  asks-none n2 n3 n4 = rw (ne-eqb (c .kind) 2 n2, ne-eqb (c .kind) 3 n3, ne-eqb (c .kind) 4 n4)
+module _ (a : Asked) where
+  pub asked-count : length (askedPairs a) ≡ a .len
+  unfolding askedPairs pairsFrom
+  asked-count =
+      made-count (pairsFrom (a .persons) (a .places)) (λ k. pair (getD (a .persons) k 0) (getD (a .places) k 0)) (λ k. refl)
+      (λ n k. refl) (a .len) 0
 
--- the first k of four places are those of the credential's cells
-pub record CellsTo (index : List ℕ) (i k : ℕ) (places : List ℕ) : Type 0 where
-  pub room : length places ≡ mostParts
-  pub each : (j : ℕ) → j < k → getD places j 0 ≡ getD index (askedCell i j) 0
+  pub asked-at : (k : ℕ) → k < a .len → getD (askedPairs a) k (pair 0 0) ≡ pair (getD (a .persons) k 0) (getD (a .places) k 0)
+  unfolding askedPairs pairsFrom
+  asked-at k l =
+      rw (zero-add k) at
+      (made-at (pairsFrom (a .persons) (a .places)) (λ k. pair (getD (a .persons) k 0) (getD (a .places) k 0)) (λ k. refl)
+      (λ n k. refl) (a .len) 0 k l)
 
-module _ (index : List ℕ) (i : ℕ) where
-  pub cells-none : CellsTo index i 0 (0 ∷ 0 ∷ 0 ∷ 0 ∷ [])
-  cells-none = record { room = refl; each = λ j l. absurd (omega arith) }
+module _ (index : List ℕ) (person i n : ℕ) where
+  pub roles-count : length (rolePairs index person i n 0) ≡ n
+  unfolding rolePairs
+  roles-count =
+      made-count (rolePairs index person i) (λ k. pair person (getD index (askedCell i k) 0)) (λ k. refl) (λ n k. refl) n 0
 
-  pub cells-next : (k : ℕ) (places : List ℕ) → CellsTo index i k places → k < mostParts
-      → (place : ℕ) → place ≡ getD index (askedCell i k) 0 → CellsTo index i (k + 1) (set places k place)
-  cells-next k places so-far l place read =
-      record {
-        room = length-set places k place ∙ so-far .room;
-        each = below-next _ k (λ j h. kept j h ∙ so-far .each j h) (here ∙ read);
-      }
-    where
-      here : getD (set places k place) k 0 ≡ place
-      here = getD-set-same places k place 0 (omega (arith, so-far .room))
+  pub roles-at : (k : ℕ) → k < n → getD (rolePairs index person i n 0) k (pair 0 0) ≡ pair person (getD index (askedCell i k) 0)
+  unfolding rolePairs
+  roles-at k l =
+      rw (zero-add k) at
+      (made-at (rolePairs index person i) (λ k. pair person (getD index (askedCell i k) 0)) (λ k. refl) (λ n k. refl) n 0 k l)
 
-      kept : (j : ℕ) → j < k → getD (set places k place) j 0 ≡ getD places j 0
-      kept j h = getD-set-other places k j place 0 (λ e. omega arith)
+-- a goal that stands at these places: its principal has one, and its role one where some credential defines it
+pub record Placed (t : List ℕ) (p : Pair) (g : Goal) : Type 0 where
+  pub there : p .person < credentials t
+  pub named : isPerson t (p .person) ≡ true
+  pub role : Role
+  pub place-is : p .place ≡ roleAt t role
+  pub goal-is : g ≡ goal (principal (credential t (suc (p .person)) .first)) role
 
--- one person, four times
-repeated : (person k : ℕ) → k < mostParts → getD (person ∷ person ∷ person ∷ person ∷ []) k 0 ≡ person
-repeated person zero l = refl
-repeated person (suc zero) l = refl
-repeated person (suc (suc zero)) l = refl
-repeated person (suc (suc (suc zero))) l = refl
-repeated person (suc (suc (suc (suc k)))) l = absurd (omega arith)
+pub record AllPlaced (t : List ℕ) (pairs : List Pair) (goals : List Goal) : Type 0 where
+  pub count : length pairs ≡ length goals
+  pub each : (k : ℕ) → k < length pairs → Placed t (getD pairs k (pair 0 0)) (getD goals k noGoal)
 
-pub unlinked-node : (index : List ℕ) (person i len : ℕ) (places : List ℕ) → CellsTo index i mostParts places
-    → (c : ℕ) → c ≡ suc i → Unlinked index person i len
-    (record { credential = c; middle = 0; len = len; persons = person ∷ person ∷ person ∷ person ∷ []; places = places })
-unlinked-node index person i len places cells c number =
+module _ {t : List ℕ} {p : Pair} {g : Goal} (is : Placed t p g) where
+  pub placed-stands : Stands t (p .person) (p .place)
+  placed-stands = rw (is .place-is) (stands-at t (p .person) (is .role) (is .there) (is .named))
+
+  module _ (S A O levels : ℕ) (above : Above) (s : StateSets) (X : ℕ) where
+    pub placed-proved : proves t S A O levels above s g X ≡ true → provesAt t S A O levels above s (p .person) (p .place) X ≡ true
+    placed-proved h =
+        rw (is .place-is)
+        (proves-at t S A O levels above s (p .person) (is .role) X
+        ∙ ap (λ x. proves t S A O levels above s x X) (sym (is .goal-is)) ∙ h)
+
+    pub placed-goal : provesAt t S A O levels above s (p .person) (p .place) X ≡ true → goalAt t (p .person) (p .place) ≡ g
+    unfolding provesAt
+    placed-goal h =
+        let inside = ltb-true (p .place) (credentials t) (and-first _ _ h) in
+        let same = ap (λ k. credential t (suc k) .role) (is .place-is) ∙ role-stands t (is .role) (rw (← is .place-is) inside) in
+        ap (goal (principal (credential t (suc (p .person)) .first))) same ∙ sym (is .goal-is)
+
+-- the node of credential i + 1, of kind 3, as its middle's number, both cells of the index and what it asks have been read
+pub made-linked : (t index : List ℕ) (person i j : ℕ) (x : Credential) → x ≡ credential t (j + 1) → {first second : ℕ}
+    → first ≡ getD index (askedCell i 0) 0 → second ≡ getD index (linkCell i j) 0 → (a : Asked)
+    → askedPairs a ≡ pair j first ∷ pair person second ∷ [] → (node : Node) → Made (suc i) (x .first) (askedPairs a) node
+    → Made (suc i) (credential t (suc j) .first) (linkPairs index person i j) node
+made-linked t index person i j x read one two a asks node made =
     record {
-      credential-is = number;
-      middle-is = refl;
-      len-is = refl;
-      people = refl;
-      roles = cells .room;
-      person-is = repeated person;
-      place-is = cells .each;
+      credential-is = made .credential-is;
+      middle-is = made .middle-is ∙ ap (λ (c : Credential). c .first) (as-read t j x read);
+      fits = made .fits;
+      asks = made .asks ∙ asks ∙ rw (one, two);
     }
+
+-- and of one that is not, whose roles have been read
+pub made-unlinked : {c m : ℕ} {pairs : List Pair} (a : Asked) → askedPairs a ≡ pairs → (node : Node)
+    → Made c m (askedPairs a) node → Made c m pairs node
+made-unlinked a asks node made = rw asks at made

@@ -1,51 +1,50 @@
-// The choice at a node of the first record (docs/DEFINITION.md, "The first record"): the least credential of the set that
-// proves the goal, and with it the least middle. That the goal is proved is known beforehand, so that the last candidate needs
-// no search. specs/Choice.antt says what is chosen.
+// The choice at a node of the first record (docs/DEFINITION.md, "The first record"): the least credential of the set that proves
+// the goal such that what is wanted of the owed automata can be met, and with it the least middle. That some credential does is
+// known beforehand, so that the last candidate needs no search. specs/Choice.antt says what is chosen.
 mod middles; // middles.rt: the least middle of a credential of kind 3
 
 use automata::StateSets;
+use families::Family;
 use members::Above;
+use search::Asked;
 use search::Terms;
 use sets::CredentialSet;
 use sets::StateSet;
-use table::Credential;
-use table::INTERSECTION_CONTAINMENT;
 use table::LINKING_CONTAINMENT;
 use table::Number;
-use table::SIMPLE_CONTAINMENT;
 use table::layout;
 ghost use mathlib.Core.Path.{_≡_};
 ghost use mathlib.Core.Bool.{true};
+ghost use mathlib.Core.List.{[], _∷_};
 ghost use Prim.Native.Nat.{suc, _<_, _≤_};
-ghost use lib.ListN.{length};
+ghost use lib.ListN.{getD};
 ghost use Rattle.sets.specs.Logic.{anyBelow};
-ghost use Rattle.sets.specs.Sets.{part};
+ghost use Rattle.families.specs.Families.{inFamily};
 ghost use Rattle.table.specs.Limits.{mostCredentials};
-ghost use Rattle.table.specs.Layout.{credentials};
+ghost use Rattle.table.specs.Layout.{credential, credentials};
 ghost use Rattle.table.specs.Holding.{WellFormed};
-ghost use Rattle.automata.specs.Together.{acceptingSet};
-ghost use Rattle.members.specs.Members.{Placed, rolesAsked};
-ghost use Rattle.members.specs.Indexing.{Whole};
-ghost use Rattle.search.specs.Search.{Searched, Stands, goalAt, proves};
-ghost use Rattle.choice.specs.Choice.{Chosen, LastUsable, Linked, Unlinked, leastCredential, provesWith};
+ghost use Rattle.members.specs.Members.{Placed, askedCell, linkCell};
+ghost use Rattle.search.specs.Asking.{Fits, askedPairs, pair};
+ghost use Rattle.search.specs.Search.{Searched, Stands, goalAt};
+ghost use Rattle.choice.specs.Choice.{Chosen, LastUsable, Made, Wanted, leastCredential, provesWith, suitsAll};
+ghost use Rattle.choice.specs.Choice.{suitsWord};
 
-// A node: its two numbers, and the goals that it asks, the first `len`, by the places of principal and role.
+// A node: its two numbers, and the goals that it asks.
 pub struct Node {
     pub credential: Number,
     pub middle: Number,
-    pub len: usize,
-    pub persons: [usize; layout::MOST_PARTS],
-    pub places: [usize; layout::MOST_PARTS],
+    pub asked: Asked,
 }
 
-// The node for the principal at `person` in the role at `place`, whom some allowed credential proves to be in it. So many
-// levels are left below the node, and branch and state sets are those below it.
+// The node for the principal at `person` in the role at `place`, whom some allowed credential proves to be in it such that a set
+// of the family `wanted` is met. So many levels are left below the node, and branch and state sets are those below it.
 pub fn choose(
     table: &[Number],
     index: &[u8],
     arcs: &[StateSet],
     rows: &[CredentialSet],
     terms: Terms,
+    wanted: Family,
     person: usize,
     place: usize,
     levels: usize,
@@ -54,12 +53,12 @@ pub fn choose(
 ) -> Node
     requires { ⌜ Searched (now table) (now index) (now arcs) (now rows) (terms .allowed) levels (terms .last) ⌝ }
     requires { ⌜ Stands (now table) person place × (place < credentials (now table)) ⌝ }
+    requires { ⌜ Wanted (terms .owed) wanted ⌝ }
     requires { ⌜ anyBelow (provesWith (now table) (terms .allowed)
-        (proves (now table) (terms .allowed) (terms .constraints) levels above states)
-        (part (terms .constraints) (acceptingSet (now table) states)) (goalAt (now table) person place))
-        (credentials (now table)) ≡ true ⌝ }
-    ensures { λ r. ⌜ Chosen (now (table .entry)) (terms .allowed) (terms .constraints) levels above states
-        (goalAt (now (table .entry)) person place) r ⌝ }
+        (suitsAll (now table) terms wanted levels above states) (suitsWord (now table) terms wanted states)
+        (goalAt (now table) person place)) (credentials (now table)) ≡ true ⌝ }
+    ensures { λ r. ⌜ Chosen (now (table .entry)) (terms .allowed) (terms .constraints) (terms .owed) levels above states
+        (inFamily wanted) (goalAt (now (table .entry)) person place) r ⌝ }
 {
     let i = least_credential(
         table,
@@ -67,6 +66,7 @@ pub fn choose(
         arcs,
         rows,
         terms,
+        wanted,
         person,
         place,
         levels,
@@ -75,7 +75,7 @@ pub fn choose(
     );
     let credential = layout::credential(table, i + 1);
     if credential.kind != LINKING_CONTAINMENT {
-        return unlinked(index, person, i, parts_asked(table, credential));
+        return made(i, 0, search::roles_asked(table, index, person, i));
     }
     let j = middles::least_middle(
         table,
@@ -83,14 +83,14 @@ pub fn choose(
         arcs,
         rows,
         terms,
+        wanted,
         person,
         i,
         levels,
         states,
         above,
     );
-    let middle = layout::credential(table, j + 1);
-    linked(index, person, i, j, middle.first)
+    linked(table, index, person, i, j)
 }
 
 // The least allowed credential that proves the goal, as i where its number is i + 1. All but the last that may be used are
@@ -101,6 +101,7 @@ fn least_credential(
     arcs: &[StateSet],
     rows: &[CredentialSet],
     terms: Terms,
+    wanted: Family,
     person: usize,
     place: usize,
     levels: usize,
@@ -109,20 +110,20 @@ fn least_credential(
 ) -> usize
     requires { ⌜ Searched (now table) (now index) (now arcs) (now rows) (terms .allowed) levels (terms .last) ⌝ }
     requires { ⌜ Stands (now table) person place × (place < credentials (now table)) ⌝ }
+    requires { ⌜ Wanted (terms .owed) wanted ⌝ }
     requires { ⌜ anyBelow (provesWith (now table) (terms .allowed)
-        (proves (now table) (terms .allowed) (terms .constraints) levels above states)
-        (part (terms .constraints) (acceptingSet (now table) states)) (goalAt (now table) person place))
-        (credentials (now table)) ≡ true ⌝ }
+        (suitsAll (now table) terms wanted levels above states) (suitsWord (now table) terms wanted states)
+        (goalAt (now table) person place)) (credentials (now table)) ≡ true ⌝ }
     ensures { λ r. ⌜ (r < credentials (now (table .entry)))
         × (suc r ≡ leastCredential (now (table .entry)) (terms .allowed)
-        (proves (now (table .entry)) (terms .allowed) (terms .constraints) levels above states)
-        (part (terms .constraints) (acceptingSet (now (table .entry)) states)) (goalAt (now (table .entry)) person place)) ⌝ }
+        (suitsAll (now (table .entry)) terms wanted levels above states) (suitsWord (now (table .entry)) terms wanted states)
+        (goalAt (now (table .entry)) person place)) ⌝ }
 {
     let last = last_usable(index, terms.allowed, place, layout::credentials(table));
     let mut i = 0;
     while i < last {
         if search::may_use(index, terms.allowed, place, i) {
-            if search::credential_search(
+            let found = search::credential_search(
                 table,
                 index,
                 arcs,
@@ -133,7 +134,8 @@ fn least_credential(
                 levels,
                 states,
                 above,
-            ) {
+            );
+            if found.meets(wanted) {
                 return i;
             }
         }
@@ -159,61 +161,34 @@ fn last_usable(index: &[u8], allowed: CredentialSet, place: usize, n: usize) -> 
     last
 }
 
-// How many goals a credential asks that is not of kind 3.
-fn parts_asked(table: &[Number], c: Credential) -> usize
-    requires { ⌜ WellFormed (now table) ⌝ }
-    requires { ⌜ Whole (now table) c × (c .kind ≡ 3 → ⊥) ⌝ }
-    ensures { λ r. ⌜ r ≡ length (rolesAsked (now (table .entry)) c) ⌝ }
-{
-    let kind = c.kind;
-    if kind == INTERSECTION_CONTAINMENT {
-        let chain = layout::chain(table, c.first);
-        return chain.len;
-    }
-    if kind == SIMPLE_CONTAINMENT {
-        return 1;
-    }
-    0
-}
-
-// The node of credential i + 1, which is not of kind 3: the same principal in each of the roles that it asks.
-fn unlinked(index: &[u8], person: usize, i: usize, len: usize) -> Node
-    requires { ⌜ Placed (now index) ⌝ }
-    requires { ⌜ i < mostCredentials ⌝ }
-    ensures { λ r. ⌜ Unlinked (now (index .entry)) person i len r ⌝ }
-{
-    let mut places = [0; layout::MOST_PARTS];
-    let mut k = 0;
-    while k < layout::MOST_PARTS {
-        places[k] = members::asked_cell(index, i, k);
-        k += 1;
-    }
-    Node {
-        credential: (i + 1) as Number,
-        middle: 0,
-        len: len,
-        persons: [person; layout::MOST_PARTS],
-        places: places,
-    }
-}
-
 // The node of credential i + 1, of kind 3, with the principal at j as its middle: the middle in the first role, then the
 // principal in the middle's second.
-fn linked(index: &[u8], person: usize, i: usize, j: usize, middle: Number) -> Node
+fn linked(table: &[Number], index: &[u8], person: usize, i: usize, j: usize) -> Node
+    requires { ⌜ WellFormed (now table) ⌝ }
     requires { ⌜ Placed (now index) ⌝ }
-    requires { ⌜ (i < mostCredentials) × (j < mostCredentials) ⌝ }
-    ensures { λ r. ⌜ Linked (now (index .entry)) person i j middle r ⌝ }
+    requires { ⌜ (i < credentials (now table)) × (j < credentials (now table)) ⌝ }
+    ensures { λ r. ⌜ Made (suc i) (credential (now (table .entry)) (suc j) .first)
+        (pair j (getD (now (index .entry)) (askedCell i 0) 0)
+        ∷ pair person (getD (now (index .entry)) (linkCell i j) 0) ∷ []) r ⌝ }
 {
-    let mut persons = [person; layout::MOST_PARTS];
-    persons[0] = j;
-    let mut places = [0; layout::MOST_PARTS];
-    places[0] = members::asked_cell(index, i, 0);
-    places[1] = members::link_cell(index, i, j);
+    let middle = layout::credential(table, j + 1);
+    let first = members::asked_cell(index, i, 0);
+    let second = members::link_cell(index, i, j);
+    made(
+        i,
+        middle.first,
+        search::link_asked(j, first, person, second),
+    )
+}
+
+// The node of credential i + 1 with its middle, and what it asks.
+fn made(i: usize, middle: Number, asked: Asked) -> Node
+    requires { ⌜ (i < mostCredentials) × Fits asked ⌝ }
+    ensures { λ r. ⌜ Made (suc i) middle (askedPairs asked) r ⌝ }
+{
     Node {
         credential: (i + 1) as Number,
         middle: middle,
-        len: 2,
-        persons: persons,
-        places: places,
+        asked: asked,
     }
 }

@@ -1,6 +1,7 @@
-// The least middle with which a credential of kind 3 proves its goal. Principals stand in the order of their first simple
-// memberships (crate members), and are compared here by their numbers.
+// The least middle with which a credential of kind 3 proves its goal such that what is wanted can be met. Principals stand in the
+// order of their first simple memberships (crate members), and are compared here by their numbers.
 use automata::StateSets;
+use families::Family;
 use members::Above;
 use search::Terms;
 use sets::CredentialSet;
@@ -10,18 +11,16 @@ use table::layout;
 ghost use mathlib.Core.Path.{_≡_};
 ghost use mathlib.Core.Bool.{true};
 ghost use Prim.Native.Nat.{suc, _<_, _≤_, _^_};
-ghost use lib.ListN.{getD, length};
-ghost use Rattle.sets.specs.Logic.{_and_};
-ghost use Rattle.sets.specs.Sets.{part};
+ghost use lib.ListN.{length};
 ghost use Rattle.table.specs.Limits.{mostDepth};
 ghost use Rattle.table.specs.Layout.{credential, credentials};
 ghost use Rattle.table.specs.Holding.{WellFormed};
-ghost use Rattle.automata.specs.Together.{acceptingSet};
-ghost use Rattle.members.specs.Members.{Indexed, askedCell, linkCell, tableCells};
+ghost use Rattle.members.specs.Members.{Indexed, tableCells};
 ghost use Rattle.members.specs.Places.{isPerson};
 ghost use Rattle.members.specs.Trying.{provesBy};
-ghost use Rattle.search.specs.Search.{Searched, Tried, goalAt, proves, provesAt};
-ghost use Rattle.choice.specs.Choice.{LeastMiddle, LeastNamed, comesBefore, leads, listedMiddles};
+ghost use Rattle.search.specs.Search.{Searched, Tried, goalAt};
+ghost use Rattle.choice.specs.Choice.{LeastMiddle, LeastNamed, Wanted, comesBefore, leads};
+ghost use Rattle.choice.specs.Choice.{listedMiddles, suitsAll, suitsWord};
 
 // Where the middle of the least number stands with which credential i + 1 proves its goal. Those whom the table of members has
 // are tried in the order of their numbers; the last that is left needs no search.
@@ -31,6 +30,7 @@ pub fn least_middle(
     arcs: &[StateSet],
     rows: &[CredentialSet],
     terms: Terms,
+    wanted: Family,
     person: usize,
     i: usize,
     levels: usize,
@@ -39,10 +39,13 @@ pub fn least_middle(
 ) -> usize
     requires { ⌜ Searched (now table) (now index) (now arcs) (now rows) (terms .allowed) levels (terms .last) ⌝ }
     requires { ⌜ Tried (now table) person i × (credential (now table) (suc i) .kind ≡ 3) ⌝ }
-    requires { ⌜ provesBy (now table) (proves (now table) (terms .allowed) (terms .constraints) levels above states)
-        (part (terms .constraints) (acceptingSet (now table) states)) (goalAt (now table) person i) (suc i) ≡ true ⌝ }
-    ensures { λ r. ⌜ LeastMiddle (now (table .entry)) (leads (now (table .entry)) (now (index .entry))
-        (terms .allowed) (terms .constraints) levels above states person i) r ⌝ }
+    requires { ⌜ Wanted (terms .owed) wanted ⌝ }
+    requires { ⌜ provesBy (now table)
+        (suitsAll (now table) terms wanted levels above states) (suitsWord (now table) terms wanted states)
+        (goalAt (now table) person i) (suc i) ≡ true ⌝ }
+    ensures { λ r. ⌜ LeastMiddle (now (table .entry)) (leads (now (table .entry))
+        (suitsAll (now (table .entry)) terms wanted levels above states) (suitsWord (now (table .entry)) terms wanted states)
+        (goalAt (now (table .entry)) person i) (suc i)) r ⌝ }
 {
     let row = search::row_of(levels, terms.last);
     let mut left = listed_middles(table, index, rows, row, person, i);
@@ -54,6 +57,7 @@ pub fn least_middle(
             arcs,
             rows,
             terms,
+            wanted,
             person,
             i,
             j,
@@ -132,13 +136,14 @@ fn comes_before(table: &[Number], j: usize, best: usize) -> bool
     one.first < other.first
 }
 
-// With the principal at j as the middle credential i + 1 proves its goal.
+// With the principal at j as the middle credential i + 1 proves its goal: what both goals can meet together is wanted.
 fn leads_on(
     table: &[Number],
     index: &[u8],
     arcs: &[StateSet],
     rows: &[CredentialSet],
     terms: Terms,
+    wanted: Family,
     person: usize,
     i: usize,
     j: usize,
@@ -149,10 +154,12 @@ fn leads_on(
     requires { ⌜ Searched (now table) (now index) (now arcs) (now rows) (terms .allowed) levels (terms .last) ⌝ }
     requires { ⌜ Tried (now table) person i × (credential (now table) (suc i) .kind ≡ 3) ⌝ }
     requires { ⌜ (j < credentials (now table)) × (isPerson (now table) j ≡ true) ⌝ }
-    ensures { λ r. ⌜ r ≡ leads (now (table .entry)) (now (index .entry)) (terms .allowed) (terms .constraints) levels above states
-        person i j ⌝ }
+    requires { ⌜ Wanted (terms .owed) wanted ⌝ }
+    ensures { λ r. ⌜ r ≡ leads (now (table .entry))
+        (suitsAll (now (table .entry)) terms wanted levels above states) (suitsWord (now (table .entry)) terms wanted states)
+        (goalAt (now (table .entry)) person i) (suc i) j ⌝ }
 {
-    if !search::goal_search(
+    let one = search::goal_search(
         table,
         index,
         arcs,
@@ -163,10 +170,11 @@ fn leads_on(
         levels,
         states,
         above,
-    ) {
+    );
+    if one.is_none() {
         return false;
     }
-    search::goal_search(
+    let two = search::goal_search(
         table,
         index,
         arcs,
@@ -177,5 +185,7 @@ fn leads_on(
         levels,
         states,
         above,
-    )
+    );
+    let both = one.joined(two);
+    both.meets(wanted)
 }

@@ -6,24 +6,22 @@ use Prim.Native.Nat.{ℕ, _-_, _<_, _≤_}
 use native.Mathlib.Omega.{arith}
 use denote.Ref.{now}
 use Rattle.sets.specs.Logic.{anyBelow}
-use Rattle.sets.specs.Sets.{part}
 use Rattle.table.specs.Layout.{credentials}
-use Rattle.automata.specs.Together.{acceptingSet}
-use Rattle.search.specs.Search.{goalAt, proves, provesWith}
-use Rattle.search.proofs.Trying.{next-unproved, next-unused, passes-here}
-use Rattle.choice.proofs.Candidates.{chosen-here, chosen-last, tried-at}
+use Rattle.search.specs.Search.{goalAt, provesWith}
+use Rattle.choice.specs.Choice.{suitsAll, suitsWord}
+use Rattle.choice.proofs.Candidates.{chosen-here, chosen-last, next-failed, next-skipped, passes-here, tried-at}
+use Rattle.choice.proofs.Wanting.{own-wanted}
 use borrow.Author.Needs.{needs}
 use Rattle.choice.proofs.least_credential.Statement.{statement}
 use Rattle.choice.proofs.least_credential.Tie as tie
 
 abbrev Inv-loop : tie.InvT-loop
-Inv-loop table index arcs rows terms person place levels states above last i₀ i =
-    (i ≤ last) × (anyBelow (provesWith table (terms .allowed)
-    (proves table (terms .allowed) (terms .constraints) levels above states)
-    (part (terms .constraints) (acceptingSet table states)) (goalAt table person place)) i ≡ false)
+Inv-loop table index arcs rows terms wanted person place levels states above last i₀ i =
+    (i ≤ last) × (anyBelow (provesWith table (terms .allowed) (suitsAll table terms wanted levels above states)
+    (suitsWord table terms wanted states) (goalAt table person place)) i ≡ false)
 
 abbrev μ-loop : tie.MeasureT-loop
-μ-loop table index arcs rows terms person place levels states above last i₀ i = last - i
+μ-loop table index arcs rows terms wanted person place levels states above last i₀ i = last - i
 
 credentials-requires : tie.Need-credentials-requires Inv-loop μ-loop
 credentials-requires c κs = search needs
@@ -55,17 +53,22 @@ credential-search-requires : tie.Need-credential-search-requires Inv-loop μ-loo
 credential-search-requires c κs =
     let at = c .before .before .before .before in
     let pre = asked at .pre in
-    (pre .0, tried-at (pre .1 .0 .0) _ (inside at _ (c .before .before .loop-test .taken)))
+    (pre .0, (tried-at (pre .1 .0 .0) _ (inside at _ (c .before .before .loop-test .taken)), pre .1 .1 .0 .few))
+
+meets-requires : tie.Need-meets-requires Inv-loop μ-loop
+meets-requires c κs = search needs
 
 returns : tie.Need-returns Inv-loop μ-loop
 returns c =
-    let loop = c .before .before .before .before .before in
+    let asking = c .before .before in
+    let told = asking .before .before in
+    let loop = told .before .before in
     let pre = asked (loop .before) .pre in
-    let there = inside (loop .before) _ (c .before .before .before .before .loop-test .taken) in
-    let may-use = c .before .before .before .may-use .ensures in
+    let there = inside (loop .before) _ (told .before .loop-test .taken) in
+    let proved = own-wanted _ _ _ _ _ _ _ _ (pre .1 .1 .0) (asking .credential-search .ensures) (c .before .meets .ensures) in
     chosen-here (pre .0 .indexed) (pre .1 .0 .0) (pre .1 .0 .1) _ _ _ _ there (loop .loop .inv .1)
-    (passes-here (pre .0 .indexed) (pre .1 .0 .0) (pre .1 .0 .1) _ _ there _ _ may-use (c .before .before .if1 .taken)
-    (c .before .credential-search .ensures) (c .if2 .taken))
+    (passes-here (pre .0 .indexed) (pre .1 .0 .0) (pre .1 .0 .1) _ _ _ _ there (told .may-use .ensures)
+    (asking .before .if1 .taken) proved (c .if2 .taken))
 
 add-i : tie.Need-add-i Inv-loop μ-loop
 add-i c = search needs
@@ -82,9 +85,9 @@ loop-again c =
     let there = inside (loop .before) _ next in
     let may-use = c .before .may-use .ensures in (
       omega (arith, next),
-      ⊎-elim (λ way. next-unproved (pre .0 .indexed) (pre .1 .0 .0) (pre .1 .0 .1) _ _ there _ _ may-use (way .0 .taken)
-          (way .1 .ensures) so-far (way .2 .left))
-          (λ way. next-unused (pre .0 .indexed) (pre .1 .0 .0) (pre .1 .0 .1) _ _ there _ _ may-use so-far (way .left))
+      ⊎-elim (λ way. next-failed (pre .0 .indexed) (pre .1 .0 .0) (pre .1 .0 .1) _ _ _ _ there may-use (way .0 .taken)
+          (own-wanted _ _ _ _ _ _ _ _ (pre .1 .1 .0) (way .1 .ensures) (way .2 .ensures)) so-far (way .3 .left))
+          (λ way. next-skipped (pre .0 .indexed) (pre .1 .0 .0) (pre .1 .0 .1) _ _ _ _ there may-use so-far (way .left))
           (c .if1 .came),
     )
 
@@ -94,7 +97,7 @@ returns-2 c =
     let pre = asked at .pre in
     let loop = c .before .loop in
     chosen-last (pre .0 .indexed) (pre .1 .0 .0) (pre .1 .0 .1) _ _ _ _ _ _ (at .before .credentials .ensures .same)
-    (at .last-usable .ensures) (omega (arith, c .loop-test .left, loop .inv .0)) (loop .inv .1) (pre .1 .1)
+    (at .last-usable .ensures) (omega (arith, c .loop-test .left, loop .inv .0)) (loop .inv .1) (pre .1 .1 .1)
 
 pub least-credential-spec : {M : Type 1} → statement M
 least-credential-spec =
@@ -107,6 +110,7 @@ least-credential-spec =
     loop-holds
     may-use-requires
     credential-search-requires
+    meets-requires
     returns
     add-i
     loop-less

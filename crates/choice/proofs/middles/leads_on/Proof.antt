@@ -1,5 +1,6 @@
--- `choice::middles::leads_on` meets its contract: both goals are asked, one after the other. Assumes nothing.
-use Rattle.choice.proofs.Linking.{first-stands, leads-not, leads-told, second-stands}
+-- `choice::middles::leads_on` meets its contract: both goals are asked, one after the other, and what they meet together is held
+-- to what is wanted. Assumes nothing.
+use Rattle.choice.proofs.Linking.{first-stands, leads-none, leads-told, second-stands}
 use borrow.Author.Needs.{needs}
 use Rattle.choice.proofs.middles.leads_on.Statement.{statement}
 use Rattle.choice.proofs.middles.leads_on.Tie as tie
@@ -10,28 +11,53 @@ asked-cell-requires c κs = search needs
 goal-search-requires : tie.Need-goal-search-requires
 goal-search-requires c κs =
     let pre = c .before .before .before .before .before .pre in
-    (pre .0, first-stands (pre .0) (pre .1 .0 .0) (pre .1 .0 .1) (pre .1 .1 .0) (pre .1 .1 .1) (c .asked-cell .ensures .0))
+    let middle = pre .1 .1 .0 in
+    let stands = first-stands (pre .0) (pre .1 .0 .0) (pre .1 .0 .1) (middle .0) (middle .1) (c .asked-cell .ensures .0) in
+    (pre .0, (stands, pre .1 .1 .1 .few))
+
+is-none-requires : tie.Need-is-none-requires
+is-none-requires c κs = search needs
+
+-- the place where the first goal has been asked, and the one where the function was
+abbrev Found : Type 0
+Found = tie.After-goal-search
+
+abbrev asked : Found → tie.Start
+asked at = at .before .before .before .before .before .before
 
 returns : tie.Need-returns
 returns c =
-    let pre = c .before .before .before .before .before .before .before .pre in
-    leads-not (pre .0) (pre .1 .0 .0) (pre .1 .0 .1) (pre .1 .1 .0) (pre .1 .1 .1) _ _ _ (c .before .before .asked-cell .ensures .0)
-    (c .before .goal-search .ensures) (c .if1 .taken)
+    let at = c .before .before in
+    let pre = asked at .pre in
+    let middle = pre .1 .1 .0 in
+    leads-none (pre .0) (pre .1 .0 .0) (pre .1 .0 .1) (middle .0) (middle .1) _ _ _ (pre .1 .1 .1)
+    (at .before .asked-cell .ensures .0) (at .goal-search .ensures) (c .before .is-none .ensures) (c .if1 .taken)
 
 link-cell-requires : tie.Need-link-cell-requires
 link-cell-requires c κs = search needs
 
 goal-search-requires-2 : tie.Need-goal-search-requires-2
 goal-search-requires-2 c κs =
-    let pre = c .before .before .before .before .before .before .before .before .pre in
-    (pre .0, second-stands (pre .0) (pre .1 .0 .0) (pre .1 .0 .1) (pre .1 .1 .0) (pre .1 .1 .1) (c .link-cell .ensures .0))
+    let pre = asked (c .before .before .before) .pre in
+    let middle = pre .1 .1 .0 in
+    let stands = second-stands (pre .0) (pre .1 .0 .0) (pre .1 .0 .1) (middle .0) (middle .1) (c .link-cell .ensures .0) in
+    (pre .0, (stands, pre .1 .1 .1 .few))
+
+joined-requires : tie.Need-joined-requires
+joined-requires c κs = search needs
+
+meets-requires : tie.Need-meets-requires
+meets-requires c κs = search needs
 
 returns-2 : tie.Need-returns-2
 returns-2 c =
-    let pre = c .before .before .before .before .before .before .before .before .before .pre in
-    leads-told (pre .0) (pre .1 .0 .0) (pre .1 .0 .1) (pre .1 .1 .0) (pre .1 .1 .1) _ _ _
-    (c .before .before .before .before .asked-cell .ensures .0) (c .before .before .before .goal-search .ensures)
-    (c .before .before .if1 .left) (c .before .link-cell .ensures .0) (c .goal-search2 .ensures)
+    let second = c .before .before in
+    let at = second .before .before .before .before in
+    let pre = asked at .pre in
+    let middle = pre .1 .1 .0 in
+    leads-told (pre .0) (pre .1 .0 .0) (pre .1 .0 .1) (middle .0) (middle .1) _ _ _ (pre .1 .1 .1)
+    (at .before .asked-cell .ensures .0) (at .goal-search .ensures) (second .before .link-cell .ensures .0) _
+    (second .goal-search2 .ensures) (c .before .joined .ensures) (c .meets .ensures)
 
 pub leads-on-spec : {M : Type 1} → statement M
 leads-on-spec =
@@ -39,7 +65,10 @@ leads-on-spec =
     (tie.spec
     asked-cell-requires
     goal-search-requires
+    is-none-requires
     returns
     link-cell-requires
     goal-search-requires-2
+    joined-requires
+    meets-requires
     returns-2)
