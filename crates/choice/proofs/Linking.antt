@@ -9,7 +9,7 @@ use native.Mathlib.Numerals.{add-one}
 use lib.ListN.{getD}
 use lib.Bits.{bitAnd, bitOr, bitXor}
 use lib.Dec.{leb, ltb}
-use borrow.Author.Tests.{eq-eqb, le-leb, leb-false, leb-true, lt-leb, lt-ltb, ltb-false, ltb-true}
+use borrow.Author.Tests.{eq-eqb, le-leb, leb-false, leb-true, lt-leb, lt-ltb, ltb-false, ltb-true, not-false, not-true}
 use Rattle.sets.specs.Logic.{_and_, _or_, anyBelow, pick}
 use Rattle.sets.specs.Sets.{inSet}
 use Rattle.sets.proofs.Tests.{and-both, and-first, and-is, and-is-off, and-none, and-second, any-none, any-same, any-shows}
@@ -162,20 +162,20 @@ module _ {t index arcs rows : List ℕ} {S levels last : ℕ} (searched : Search
       go false e = and-is-off _ e ∙ sym (and-is-off _ e)
 
   -- who is not in both masks of the row does not
-  pub leads-listed : (row j : ℕ) → row ≡ lesser levels last → j < credentials t → leadsOn j ≡ true
-      → (inSet (getD rows (rowCell row (getD index (askedCell i 0) 0)) 0) j
-      and inSet (getD rows (rowCell row (getD index (linkCell i j) 0)) 0) person and isPerson t j) ≡ true
+  abbrev inRow : ℕ → ℕ → Bool
+  inRow row j =
+      inSet (getD rows (rowCell row (getD index (askedCell i 0) 0)) 0) j
+      and inSet (getD rows (rowCell row (getD index (linkCell i j) 0)) 0) person and isPerson t j
+
+  pub leads-listed : (row j : ℕ) → row ≡ lesser levels last → j < credentials t → leadsOn j ≡ true → inRow row j ≡ true
   unfolding suits
   leads-listed row j the-row l on =
       let here = sym (leads-at j l) ∙ on in
       let (X, m, both) = any-shows _ (suc O) (and-second (isPerson t j) _ here) in
       let led = and-both (and-first (isPerson t j) _ here) (and-second _ _ both) in
-      not-missed _ (λ off.
-      false-true (sym (middle-unlisted searched tried A O above s X kind j l (rw the-row at off)) ∙ led))
-    where
-      not-missed : (b : Bool) → (b ≡ false → ⊥) → b ≡ true
-      not-missed true never = refl
-      not-missed false never = absurd (never refl)
+      not-false (inRow row j) (refuted _ (λ off.
+      let missing = rw the-row at (not-true (inRow row j) off) in
+      false-true (sym (middle-unlisted searched tried A O above s X kind j l missing) ∙ led)))
 
 -- what is told of both goals
 module _ {t index arcs rows : List ℕ} {S levels last : ℕ} (searched : Searched t index arcs rows S levels last) {person i : ℕ}
