@@ -74,7 +74,6 @@ abbrev wordMeets : ℕ → ℕ → ℕ → ℕ → ℕ → ℕ → Bool
 wordMeets named person A O acc X = eqb named person and part A acc and eqb (bitAnd O acc) X
 
 module _ (named person : ℕ) {cell : ℕ} (e : cell ≡ named) (A O acc : ℕ) (found : Family) where
-
   pub other-named : (cell ≡ person → ⊥) → FamilyOf (λ X. false) found → FamilyOf (wordMeets named person A O acc) found
   other-named other none X few = none X few ∙ sym (and-is-off _ (ne-eqb named person (λ same. other (e ∙ same))))
 

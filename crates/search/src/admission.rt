@@ -32,7 +32,16 @@ pub fn admits(
     requires { ⌜ Prepared (now table) query (now index) (now arcs) ⌝ }
     ensures { λ r. ⌜ r ≡ Admits.admits (now (table .entry)) query set ⌝ }
 {
-    admits_under(table, query, index, arcs, set, 0, 0, layout::automata(table))
+    admits_under(
+        table,
+        query,
+        index,
+        arcs,
+        set,
+        0,
+        0,
+        layout::automata(table),
+    )
 }
 
 // Whether the set proves the membership under the constraints and with what is owed, and each automaton from k down to 1 that it
@@ -100,7 +109,16 @@ fn admits_by(
         return admits_by(table, query, index, arcs, rows, terms, borne, k - 1);
     }
     let fewer = without(table, terms.allowed, k);
-    if admits_under(table, query, index, arcs, fewer, terms.constraints, terms.owed, k - 1) {
+    if admits_under(
+        table,
+        query,
+        index,
+        arcs,
+        fewer,
+        terms.constraints,
+        terms.owed,
+        k - 1,
+    ) {
         return true;
     }
     let more = with_automaton(table, terms, k);

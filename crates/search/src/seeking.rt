@@ -511,7 +511,19 @@ fn seek_shared(
     while 0 < k {
         k -= 1;
         let answer = seek_asked(
-            table, index, arcs, rows, terms, asked, k, each, met, levels, states, above, memory,
+            table,
+            index,
+            arcs,
+            rows,
+            terms,
+            asked,
+            k,
+            each,
+            met,
+            levels,
+            states,
+            above,
+            memory,
         );
         let one = answer.found;
         if one.is_none() {
@@ -556,7 +568,17 @@ fn seek_asked(
     let persons = asked.persons;
     let places = asked.places;
     seek_goal(
-        table, index, arcs, rows, terms, persons[k], places[k], levels, states, above, memory,
+        table,
+        index,
+        arcs,
+        rows,
+        terms,
+        persons[k],
+        places[k],
+        levels,
+        states,
+        above,
+        memory,
     )
 }
 

@@ -21,7 +21,7 @@ with-16-requires : tie.Need-with-16-requires
 with-16-requires c κs = search needs
 
 returns : tie.Need-returns
-returns c = 
+returns c =
     let (wf, (there, few)) = c .before .before .before .before .before .pre in
     demands-some _ _ _ there few (wf .sized .counted .fewAutomata) _ (c .before .before .before .automaton .ensures) (c .before .if1 .taken) _ refl refl (c .with-16 .ensures)
     refl
@@ -33,7 +33,7 @@ with-16-requires-2 : tie.Need-with-16-requires-2
 with-16-requires-2 c κs = search needs
 
 returns-2 : tie.Need-returns-2
-returns-2 c = 
+returns-2 c =
     let (wf, (there, few)) = c .before .before .before .before .before .pre in
     demands-every _ _ _ there few (wf .sized .counted .fewAutomata) _ (c .before .before .before .automaton .ensures) (c .before .if1 .left) _ refl (c .with-162 .ensures)
     refl refl
