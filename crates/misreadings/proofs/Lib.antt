@@ -1,2 +1,3 @@
 pub mod Misreadings
 pub mod Upgrading
+pub mod Unmarked
