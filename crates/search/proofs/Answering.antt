@@ -329,3 +329,7 @@ pub asked-all : (t : List ℕ) (S A O levels : ℕ) (s : StateSets) (asked : Ask
 unfolding askedPairs
 asked-all t S A O levels s asked k first judged =
     let whole : asked .len - 0 ≡ asked .len = omega arith in rw (first, whole) at judged
+
+-- no more than nothing is owed
+pub none-owed : {O : ℕ} → O ≤ 0 → O ≡ 0
+none-owed few = omega arith

@@ -318,7 +318,7 @@ fn seek_parts(
     if !goals::are_listed(index, rows, terms.last, person, i, levels) {
         return failed(Above::nothing());
     }
-    if terms.owed != 0 {
+    if 0 < terms.owed {
         let asked = asking::roles_asked(table, index, person, i);
         return seek_shared(
             table,

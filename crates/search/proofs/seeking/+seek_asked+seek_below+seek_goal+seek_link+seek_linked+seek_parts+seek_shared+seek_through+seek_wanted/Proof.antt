@@ -33,7 +33,7 @@ use Rattle.search.proofs.Below.{linkedTest, opened, sought-enough}
 use Rattle.search.proofs.Below.{sought-judged, sought-moved, tried-all, tried-finds, tried-next, tried-none, tried-unused, triedTest}
 use Rattle.search.proofs.Answering.{asked-all, asked-failed, asked-stands, both-stand, imposed-demanded, later-next}
 use Rattle.search.proofs.Answering.{linked-all, linked-enough, links-none, shared-end, shared-next}
-use Rattle.search.proofs.Answering.{none-below, none-fails}
+use Rattle.search.proofs.Answering.{none-below, none-fails, none-owed}
 use Rattle.search.proofs.Answering.{only-bounds, roles-stand, same-judged, second-decides, shared-failed, two-or-four}
 use Rattle.search.proofs.Answering.{word-judged, zero-failed, zero-passes, zero-proved}
 use Rattle.search.proofs.seeking.seek_asked.Reads as seek-asked
@@ -945,7 +945,7 @@ seek-parts-same-length-2 t c =
 seek-parts-returns-3 : seek-parts-needs seek-parts-lts.Need-returns-3
 seek-parts-returns-3 t c =
     let (searched, (tried, (kind, remembered))) = c .before .before .before .before .before .before .before .before .before .before .before .before .before .before .before .before .before .before .before .before .before .pre .1 in
-    let unowed = c .before .before .before .before .before .before .before .before .before .before .before .before .if2 .left in
+    let unowed = none-owed (c .before .before .before .before .before .before .before .before .before .before .before .before .if2 .left) in
     let (judged, now-remembered) = c .before .before .before .before .before .seek-goal .ensures in
     let fails = none-fails judged (c .before .before .is-none .ensures) (c .before .if4 .taken) in (
       rw (c .failed2 .ensures .1) (zero-failed unowed (c .failed2 .ensures .0) (judged .covered) (λ b wide covers.
@@ -964,7 +964,7 @@ seek-parts-loop-again t c =
     let at-loop = c .before .before .before in
     let start = c .before .before .before .before .before .before .before .before .before .before .before .before .before in
     let (searched, (tried, (kind, remembered))) = start .pre .1 in
-    let unowed = at-loop .before .if2 .left in
+    let unowed = none-owed (at-loop .before .if2 .left) in
     let (so-far, before) = at-loop .loop .inv .1 in (
       omega (arith, c .before .before .loop-test .taken),
       ⊎-elim
@@ -989,7 +989,7 @@ seek-parts-same-length-3 t c = search needs
 seek-parts-returns-4 : seek-parts-needs seek-parts-lts.Need-returns-4
 seek-parts-returns-4 t c =
     let (searched, (tried, (kind, remembered))) = c .before .before .before .before .before .before .before .before .before .before .before .before .pre .1 in
-    let unowed = c .before .before .before .if2 .left in
+    let unowed = none-owed (c .before .before .before .if2 .left) in
     let (none-missed, now-remembered) = c .before .before .loop .inv .1 in (
       zero-proved unowed (c .proved .ensures .0) (c .proved .ensures .1)
           (all-proved searched tried kind _ _ unowed _ _ _ (omega (arith, c .before .loop-test .left, c .before .before .loop .inv .0)) none-missed),
