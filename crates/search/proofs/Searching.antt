@@ -60,7 +60,7 @@ rejects-all t k word beyond =
     rw (le-leb 1 (suc k) (omega arith), lt-leb (suc k) (automata t) (omega arith), run-empty t (suc k) word)
 
 -- the automata that accept where a word has led them are those that accept the word
-accepting-exact : (t : List ℕ) → WellFormed t → (word : List Role) (k : ℕ)
+pub accepting-exact : (t : List ℕ) → WellFormed t → (word : List Role) (k : ℕ)
     → inSet (acceptingSet t (setsAfter t word)) k ≡ accepts t (suc k) word
 unfolding acceptingSet _and_
 accepting-exact t wf word k = go (decLt k (automata t))

@@ -19,19 +19,19 @@ use Rattle.derivation.proofs.Ruling.{Rule, rule-applied}
 use Rattle.derivation.proofs.Ruling.Rule.{membership, containment, linking, intersection}
 use Rattle.derivation.proofs.Using.{placed}
 use Rattle.members.specs.Places.{isPerson}
-use Rattle.members.specs.Trying.{everyGoal, mayUse, provedPremises, provesBy}
+use Rattle.members.specs.Trying.{mayUse, provedPremises, provesBy}
 use Rattle.members.proofs.Places.{least-passes, least-reached}
 use Rattle.choice.specs.Choice.{asked, leastCredential, leastMiddle, provesWith}
 
 -- what is asked, where that is proved
-module _ (one : Goal → Bool) (word : Bool) where
-  pub asked-some : (found : Option (List Goal)) → provedPremises one word found ≡ true → found ≡ some (asked found)
+module _ (all : List Goal → Bool) (word : Bool) where
+  pub asked-some : (found : Option (List Goal)) → provedPremises all word found ≡ true → found ≡ some (asked found)
   unfolding provedPremises asked
   asked-some none h = absurd (false-true h)
   asked-some (some goals) h = refl
 
-  pub asked-proved : (found : Option (List Goal)) → provedPremises one word found ≡ true
-      → pick (eqb (length (asked found)) 0) word (everyGoal one (asked found)) ≡ true
+  pub asked-proved : (found : Option (List Goal)) → provedPremises all word found ≡ true
+      → pick (eqb (length (asked found)) 0) word (all (asked found)) ≡ true
   unfolding provedPremises asked
   asked-proved none h = absurd (false-true h)
   asked-proved (some goals) h = h
@@ -47,11 +47,11 @@ middle-few t g c m goals applies = by-rule (rule-applied t g c m goals applies)
     by-rule (intersection four z e) = omega arith
 
 -- the middles with which credential c proves the goal
-module _ (t : List ℕ) (one : Goal → Bool) (word : Bool) (g : Goal) (c : ℕ) where
+module _ (t : List ℕ) (all : List Goal → Bool) (word : Bool) (g : Goal) (c : ℕ) where
   abbrev pub provesBeside : ℕ → Bool
-  provesBeside m = provedPremises one word (premises t g c m)
+  provesBeside m = provedPremises all word (premises t g c m)
 
-  some-middle : provesBy t one word g c ≡ true → (m : ℕ) × (provesBeside m ≡ true)
+  some-middle : provesBy t all word g c ≡ true → (m : ℕ) × (provesBeside m ≡ true)
   unfolding provesBy pick
   some-middle h = go (eqb (credential t c .kind) 3) h
     where
@@ -66,41 +66,41 @@ module _ (t : List ℕ) (one : Goal → Bool) (word : Bool) (g : Goal) (c : ℕ)
       go false found = (0, found)
 
   below-bound : (m : ℕ) → provesBeside m ≡ true → m < suc mostPrincipals
-  below-bound m h = omega (arith, middle-few t g c m _ (asked-some one word (premises t g c m) h))
+  below-bound m h = omega (arith, middle-few t g c m _ (asked-some all word (premises t g c m) h))
 
-  pub least-middle-least : (m : ℕ) → provesBeside m ≡ true → leastMiddle t one word g c ≤ m
+  pub least-middle-least : (m : ℕ) → provesBeside m ≡ true → leastMiddle t all word g c ≤ m
   unfolding leastMiddle
   least-middle-least m h = least-reached provesBeside (suc mostPrincipals) m (below-bound m h) h
 
-  pub least-middle-proves : provesBy t one word g c ≡ true → provesBeside (leastMiddle t one word g c) ≡ true
+  pub least-middle-proves : provesBy t all word g c ≡ true → provesBeside (leastMiddle t all word g c) ≡ true
   unfolding leastMiddle
   least-middle-proves h =
       let (m, passes) = some-middle h in
       least-passes provesBeside (suc mostPrincipals)
       (omega (arith, least-reached provesBeside (suc mostPrincipals) m (below-bound m passes) passes, below-bound m passes))
 
-module _ (t : List ℕ) (S : ℕ) (one : Goal → Bool) (word : Bool) (g : Goal) where
-  pub least-credential-least : (c : ℕ) → Numbered (credentials t) c → mayUse t S g c ≡ true → provesBy t one word g c ≡ true
-      → leastCredential t S one word g ≤ c
+module _ (t : List ℕ) (S : ℕ) (all : List Goal → Bool) (word : Bool) (g : Goal) where
+  pub least-credential-least : (c : ℕ) → Numbered (credentials t) c → mayUse t S g c ≡ true → provesBy t all word g c ≡ true
+      → leastCredential t S all word g ≤ c
   unfolding leastCredential
   least-credential-least c there may proves =
       let at = placed there in
-      omega (arith, least-reached (provesWith t S one word g) (credentials t) (c - 1) (at .0) (rw (at .1) (and-both may proves)))
+      omega (arith, least-reached (provesWith t S all word g) (credentials t) (c - 1) (at .0) (rw (at .1) (and-both may proves)))
 
-  module _ (found : anyBelow (provesWith t S one word g) (credentials t) ≡ true) where
-    least-credential-passes : (mayUse t S g (leastCredential t S one word g)
-        and provesBy t one word g (leastCredential t S one word g)) ≡ true
+  module _ (found : anyBelow (provesWith t S all word g) (credentials t) ≡ true) where
+    least-credential-passes : (mayUse t S g (leastCredential t S all word g)
+        and provesBy t all word g (leastCredential t S all word g)) ≡ true
     unfolding leastCredential
     least-credential-passes =
-        let (c, l, passes) = any-shows (provesWith t S one word g) (credentials t) found in
-        let before = least-reached (provesWith t S one word g) (credentials t) c l passes in
-        least-passes (provesWith t S one word g) (credentials t) (omega arith)
+        let (c, l, passes) = any-shows (provesWith t S all word g) (credentials t) found in
+        let before = least-reached (provesWith t S all word g) (credentials t) c l passes in
+        least-passes (provesWith t S all word g) (credentials t) (omega arith)
 
     -- it is in the set, and proves the goal with its least middle
-    pub least-credential-own : inSet S (leastCredential t S one word g - 1) ≡ true
+    pub least-credential-own : inSet S (leastCredential t S all word g - 1) ≡ true
     unfolding mayUse
     least-credential-own = and-first _ _ (and-first _ _ least-credential-passes)
 
-    pub least-credential-proves : (let c = leastCredential t S one word g in
-        provedPremises one word (premises t g c (leastMiddle t one word g c)) ≡ true)
-    least-credential-proves = least-middle-proves t one word g _ (and-second _ _ least-credential-passes)
+    pub least-credential-proves : (let c = leastCredential t S all word g in
+        provedPremises all word (premises t g c (leastMiddle t all word g c)) ≡ true)
+    least-credential-proves = least-middle-proves t all word g _ (and-second _ _ least-credential-passes)

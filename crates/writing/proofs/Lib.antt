@@ -1,4 +1,6 @@
 -- Laws that belong to no one function; crates above cite those marked `pub mod`.
+pub mod Wanting
+pub mod Meeting
 pub mod LeastNode
 pub mod FirstNode
 pub mod FirstShown

@@ -1,5 +1,5 @@
--- Records compared number by number. No two come before each other, and lists that are in order stay so where others in order
--- follow them. Of the records of two derivations of the same goals none begins the other: the reader takes the one off the other,
+-- Records compared number by number. No two come before each other, and lists that are in order stay so where others follow them
+-- that are in order if the first are the same. Of the records of two derivations of the same goals none begins the other: the reader takes the one off the other,
 -- and leaves nothing.
 use mathlib.Core.Path.{_≡_, refl}
 use mathlib.Core.List.{List, [], _∷_, _++_, append-nil}
@@ -35,15 +35,19 @@ after-same : (xs : List ℕ) {ys ys′ : List ℕ} → Before ys ys′ → Befor
 after-same [] b = b
 after-same (x ∷ xs) b = further (after-same xs b)
 
-pub order-append : {xs xs′ ys ys′ : List ℕ} → Order xs xs′ → Order ys ys′ → Order (xs ++ ys) (xs′ ++ ys′)
-order-append same same = same
-order-append {xs} same (before b) = before (after-same xs b)
-order-append (before b) later = before (before-append _ _ b)
+after-order : (xs : List ℕ) {ys ys′ : List ℕ} → Order ys ys′ → Order (xs ++ ys) (xs ++ ys′)
+after-order xs same = same
+after-order xs (before b) = before (after-same xs b)
+
+-- what follows decides only where the first are the same
+pub order-then : {xs xs′ ys ys′ : List ℕ} → Order xs xs′ → (xs ≡ xs′ → Order ys ys′) → Order (xs ++ ys) (xs′ ++ ys′)
+order-then {xs} same rest = after-order xs (rest refl)
+order-then (before b) rest = before (before-append _ _ b)
 
 -- a number is less, or it is the same and the rest decides
 pub order-next : (x y : ℕ) {xs ys : List ℕ} → x ≤ y → (x ≡ y → Order xs ys) → Order (x ∷ xs) (y ∷ ys)
 order-next x y l rest =
-    ⊎-elim (λ e. rw (← e) (order-append (same {xs = x ∷ []}) (rest e))) (λ less. before (smaller less)) (eq-or-lt-of-le l)
+    ⊎-elim (λ e. rw (← e) (after-order (x ∷ []) (rest e))) (λ less. before (smaller less)) (eq-or-lt-of-le l)
 
 pub none-begins : NoneBegins
 none-begins t levels branch goals f f′ more d d′ longer =
