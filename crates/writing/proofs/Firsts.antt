@@ -1,14 +1,17 @@
--- A minimal set has one first record. Every accepted record within the set uses all of it, so that each automaton of the set
--- accepts its words; and of the derivations within the set of which that holds, the first is `firstForest`.
-use mathlib.Core.Path.{_≡_, refl, sym}
+-- A minimal set has one first record. Every accepted record within the set uses all of it, so that its words are what each automaton
+-- of the set demands by its mark; and of the derivations within the set of which that holds, the first is `firstForest`.
+use mathlib.Core.Path.{_≡_, refl, sym, ap, _∙_}
 use mathlib.Core.List.{List, [], _∷_, List-discrete}
 use mathlib.Core.Bool.{true}
-use Prim.Native.Nat.{ℕ, suc}
+use Prim.Native.Nat.{ℕ}
 use native.Mathlib.Omega.{arith}
 use native.Mathlib.Decide.{ℕ-discrete}
+use lib.Bits.{bitOr}
+use lib.Dec.{eqb}
+use borrow.Author.Tests.{eq-eqb, eqb-true}
 use Rattle.sets.specs.Sets.{part}
+use Rattle.sets.proofs.Members.{part-antisym, part-refl, part-shown}
 use Rattle.sets.proofs.Tests.{and-both}
-use Rattle.sets.proofs.Members.{part-refl}
 use Rattle.table.specs.Outcome.Outcome.{accepted}
 use Rattle.table.specs.Holding.{WellFormed}
 use Rattle.table.specs.Checks.{Valid}
@@ -18,64 +21,78 @@ use Rattle.derivation.specs.Rules.{goalOf}
 use Rattle.derivation.specs.Forest.{Forest, usedSet}
 use Rattle.derivation.specs.Words.{words}
 use Rattle.derivation.specs.Accepted.{Accepted}
-use Rattle.derivation.specs.Attached.{automataOf}
+use Rattle.derivation.specs.Attached.{everyOf, owedOf}
 use Rattle.derivation.specs.Bounds.{Holdable}
 use Rattle.derivation.proofs.Running.{sets-after-none}
-use Rattle.derivation.proofs.Using.{automaton-shows}
 use Rattle.verifier.specs.Verdict.{verdict}
 use Rattle.verifier.proofs.DemandTwo.{demand-two}
-use Rattle.members.specs.Trying.{everyGoal}
-use Rattle.search.specs.Search.{UsesOnly, provable}
 use Rattle.members.specs.Above.{nothingAbove}
 use Rattle.members.proofs.Branching.{on-none}
-use Rattle.search.proofs.Searching.{AllAccept, Led, provable-by}
-use Rattle.search.proofs.Admitting.{accepts-complies, part-used, used-part, used-shows}
+use Rattle.search.specs.Search.{AllAccept, SomeAccept, UsesOnly, proves, shares}
+use Rattle.search.proofs.Searching.{Led}
+use Rattle.search.proofs.Admitting.{accepts-complies, part-used, used-part}
 use Rattle.listing.specs.Minimal.{isMinimal}
 use Rattle.listing.specs.Demands.{Minimal}
 use Rattle.listing.proofs.Minimals.{is-minimal-set}
 use Rattle.listing.proofs.Demanding.{accepted-holdable}
-use Rattle.writing.specs.First.{firstForest, firstRecord}
+use Rattle.choice.specs.Choice.{suits}
+use Rattle.writing.specs.First.{firstForest, firstRecord, metFrom}
 use Rattle.writing.specs.Writes.{First}
+use Rattle.writing.proofs.Wanting.{suits-reached, wanted-all}
+use Rattle.writing.proofs.Meeting.{met-accepts, met-exact, met-few, met-shared}
+use Rattle.writing.proofs.Settling.{meets-every, meets-owed, owed-few, settled}
 use Rattle.writing.proofs.FirstShown.{Shows, first-shows}
 use Rattle.writing.proofs.FirstBefore.{first-order}
 use Rattle.writing.proofs.Ordering.{Order, apart-before, before-once}
 
-starts : (t : List ℕ) (A : ℕ) → Led t A (startingSets t) []
-starts t A asked = sym (sets-after-none t)
+starts : (t : List ℕ) (W : ℕ) → Led t W (startingSets t) []
+starts t W asked = sym (sets-after-none t)
 
--- a record that is accepted with the used set S
-module _ (t : List ℕ) (q : Query) (rec : List ℕ) (S : ℕ) (a : Accepted t q rec S) where
-  uses-only : UsesOnly (a .forest) S
-  uses-only = part-used t (a .derives) S (rw (a .uses) (part-refl S))
+uses-only : (t : List ℕ) (q : Query) (rec : List ℕ) (S : ℕ) (a : Accepted t q rec S) → UsesOnly (a .forest) S
+uses-only t q rec S a = part-used t (a .derives) S (rw (a .uses) (part-refl S))
 
-  -- each automaton of the set is that of a credential that the record names
-  meets-all : AllAccept t (automataOf t S) (words t [] (a .forest))
-  meets-all k borne =
-      let (i, l, member, own) = automaton-shows t S k borne in
-      let named = used-shows t (a .derives) i (rw (a .uses) member) in
-      rw own at (a .complies (suc i) named (λ z. omega (arith, own)))
+-- some word meets each automaton that is owed exactly where all of them are what the forest meets
+module _ (t : List ℕ) (wf : WellFormed t) (A O : ℕ) (f : Forest) where
+  met-all : SomeAccept t O (words t [] f) → eqb O (metFrom t A O (startingSets t) f) ≡ true
+  met-all some =
+      eq-eqb O _ (part-antisym O _
+      (part-shown O _ (λ k h. met-exact t wf A O f (startingSets t) [] (starts t (bitOr A O)) k ∙ and-both h (some k h)))
+      (met-few t A O f (startingSets t)))
+
+  all-met : eqb O (metFrom t A O (startingSets t) f) ≡ true → SomeAccept t O (words t [] f)
+  all-met e k h =
+      met-accepts t wf A O f (startingSets t) [] (starts t (bitOr A O)) k (rw (eqb-true O _ e) at h)
 
 module _ (t : List ℕ) (wf : WellFormed t) (q : Query) (valid : Valid q) (S : ℕ) where
+  abbrev every : ℕ
+  every = everyOf t S
+
+  abbrev owed : ℕ
+  owed = owedOf t S
+
   module _ (m : Minimal t q S) where
     -- every record that is accepted within the set uses all of it
     uses-all : (rec : List ℕ) (T : ℕ) → verdict t q rec ≡ accepted T → part T S ≡ true → Accepted t q rec S
     uses-all rec T e within =
         rw (m .least T (rec, e) within) at (demand-two t q rec T (wf .accepted) valid .0 e)
 
-    proved : provable t q S (automataOf t S) ≡ true
+    proved : suits (proves t S every owed (q .depth) nothingAbove (startingSets t)) owed (eqb owed) (goalOf q ∷ []) ≡ true
     proved =
         let (rec, e) = m .used in
         let a = demand-two t q rec S (wf .accepted) valid .0 e in
-        provable-by t wf q S (automataOf t S) (a .derives) (uses-only t q rec S a) (meets-all t q rec S a)
+        let met = met-all t wf every owed (a .forest) (meets-owed t q rec S a) in
+        suits-reached (wanted-all owed (owed-few t wf S)) _ (goalOf q ∷ []) owed (omega arith) (eq-eqb owed owed refl)
+        (rw (← eqb-true owed _ met) at
+        (met-shared t wf every owed S (a .derives) (uses-only t q rec S a) nothingAbove (on-none t) [] (startingSets t)
+        (starts t (bitOr every owed)) (meets-every t q rec S a)))
 
     abbrev theForest : Forest
-    theForest = firstForest t S (automataOf t S) (q .depth) nothingAbove (startingSets t) (goalOf q ∷ [])
+    theForest = firstForest t S every owed (q .depth) nothingAbove (startingSets t) (eqb owed) (goalOf q ∷ [])
 
-    first-shown : Shows t S (automataOf t S) (q .depth) [] [] (goalOf q ∷ []) theForest
-    unfolding provable everyGoal
+    first-shown : Shows t S every owed (q .depth) [] [] (startingSets t) (eqb owed) (goalOf q ∷ []) theForest
     first-shown =
-        first-shows t wf S (automataOf t S) (q .depth) [] nothingAbove (on-none t) [] (startingSets t) (starts t (automataOf t S))
-        (goalOf q ∷ []) (and-both proved refl)
+        first-shows t wf S every owed (q .depth) [] nothingAbove (on-none t) [] (startingSets t) (starts t (bitOr every owed))
+        (eqb owed) (wanted-all owed (owed-few t wf S)) (goalOf q ∷ []) proved
 
     first-accepted : Accepted t q (firstRecord t q S) (usedSet theForest)
     unfolding firstRecord
@@ -85,7 +102,9 @@ module _ (t : List ℕ) (wf : WellFormed t) (q : Query) (valid : Valid q) (S : �
           forest = theForest;
           derives = shown .derives;
           whole = refl;
-          complies = accepts-complies t (shown .derives) S (shown .usesOnly) (shown .accepted);
+          complies =
+              accepts-complies t (shown .derives) S every owed (shown .usesOnly) (settled t wf S) (shown .accepted)
+              (all-met t wf every owed theForest (shown .met));
           uses = refl;
         }
 
@@ -99,8 +118,9 @@ module _ (t : List ℕ) (wf : WellFormed t) (q : Query) (valid : Valid q) (S : �
     unfolding firstRecord
     first-before rec a =
         rw (a .whole) at
-        (first-order t wf S (automataOf t S) (a .derives) (uses-only t q rec S a) nothingAbove (on-none t) [] (startingSets t)
-        (starts t (automataOf t S)) (meets-all t q rec S a))
+        (first-order t wf S every owed (a .derives) (uses-only t q rec S a) nothingAbove (on-none t) [] (startingSets t)
+        (starts t (bitOr every owed)) (meets-every t q rec S a) (eqb owed) (wanted-all owed (owed-few t wf S))
+        (λ asks. met-all t wf every owed (a .forest) (meets-owed t q rec S a)))
 
     pub first-is : First t q S (firstRecord t q S)
     first-is =
@@ -109,9 +129,10 @@ module _ (t : List ℕ) (wf : WellFormed t) (q : Query) (valid : Valid q) (S : �
           first = λ rec T e within other. apart-before (first-before rec (uses-all rec T e within)) other;
         }
 
-  -- the code's search finds the goal with all automata of the set imposed
-  pub minimal-provable : isMinimal t q S ≡ true → provable t q S (automataOf t S) ≡ true
-  minimal-provable h = proved (is-minimal-set t wf q valid S h)
+  -- the code's search finds that the goal can meet all that is owed
+  pub minimal-suits : isMinimal t q S ≡ true
+      → suits (proves t S every owed (q .depth) nothingAbove (startingSets t)) owed (eqb owed) (goalOf q ∷ []) ≡ true
+  minimal-suits h = proved (is-minimal-set t wf q valid S h)
 
   pub first-holdable : (rec : List ℕ) → First t q S rec → Holdable rec
   first-holdable rec first = accepted-holdable t wf q valid rec S (first .uses)

@@ -6,6 +6,7 @@ pub mod FirstNode
 pub mod FirstShown
 pub mod Ordering
 pub mod FirstBefore
+pub mod Settling
 pub mod Firsts
 pub mod Fitting
 pub mod Walking
