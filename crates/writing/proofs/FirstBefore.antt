@@ -40,7 +40,7 @@ use Rattle.writing.proofs.Meeting.{met-alone, met-few, met-node, met-sh
 use Rattle.writing.proofs.LeastNode.{least-credential-least, least-middle-least}
 use Rattle.writing.proofs.FirstNode.{first-end, first-node, firstAsked, firstBelow, firstCredential, firstMiddle}
 use Rattle.writing.proofs.FirstNode.{metHere, pairsBelow, provedBelow, setsBelow, suitsBelow, wantsBehind, wantsHere, wordEnds}
-use Rattle.writing.proofs.FirstShown.{NodeShows, first-shown, first-shows}
+use Rattle.writing.proofs.FirstShown.{NodeShows, first-shows, node-shown}
 use Rattle.writing.proofs.Ordering.{Order, order-next, order-then}
 use Rattle.writing.proofs.Ordering.Order.{same}
 
@@ -86,7 +86,7 @@ module _ (t : List ℕ) (wf : WellFormed t) (S A O levels : ℕ) (above : Above)
 
   -- where it is the first and the records of what both ask are the same, both have met the same
   same-met : {branch : List Goal} {w : List Role} {ch : Forest}
-      → NodeShows t S A O levels branch w s here g c₁ m₁ (firstAsked t S A O levels above s here g)
+      → NodeShows t S A levels branch w g c₁ m₁ (firstAsked t S A O levels above s here g)
       (children (firstAsked t S A O levels above s here g))
       → Derives t levels (g ∷ branch) goals ch → c₁ ≡ c → m₁ ≡ m → written (children goals) ≡ written ch
       → metFrom t A O s (node c₁ m₁ (children (firstAsked t S A O levels above s here g)) end)
@@ -150,7 +150,7 @@ module _ (t : List ℕ) (wf : WellFormed t) (S A O : ℕ) where
       (part-le _ O (met-few t A O si s)) (met-shared t wf A O S later (only-later S c m ch si only) above on w s led after) meets in
       let suited = suits-reached wanted one (g ∷ rest) (metFrom t A O s (node c m ch si)) (part-le _ O (met-few t A O (node c m ch si) s))
       (met (λ e. omega arith)) (met-shared t wf A O S (step applies new d later) only above on w s led all) in
-      let first = first-shown t wf S A O levels (first-shows t wf S A O levels) above on w s led wants wanted g rest suited in
+      let first = node-shown t wf S A O levels (first-shows t wf S A O levels) above on w s led wants wanted g rest suited in
       rw (first-node t S A O levels above s wants g rest)
       (node-order t wf S A O levels above s here g c m goals applies (only-here S c m ch si only) d
       (node-proved above on w s here wanted₁ g c m applies d kept led own-words may)

@@ -28,8 +28,8 @@ use Rattle.verifier.specs.Verdict.{verdict}
 use Rattle.verifier.proofs.DemandTwo.{demand-two}
 use Rattle.members.specs.Above.{nothingAbove}
 use Rattle.members.proofs.Branching.{on-none}
-use Rattle.search.specs.Search.{AllAccept, SomeAccept, UsesOnly, proves, shares}
-use Rattle.search.proofs.Searching.{Led}
+use Rattle.search.specs.Search.{SomeAccept, UsesOnly, provable, proves}
+use Rattle.search.proofs.Searching.{Led, provable-by}
 use Rattle.search.proofs.Admitting.{accepts-complies, part-used, used-part}
 use Rattle.listing.specs.Minimal.{isMinimal}
 use Rattle.listing.specs.Demands.{Minimal}
@@ -38,9 +38,10 @@ use Rattle.listing.proofs.Demanding.{accepted-holdable}
 use Rattle.choice.specs.Choice.{suits}
 use Rattle.writing.specs.First.{firstForest, firstRecord, metFrom}
 use Rattle.writing.specs.Writes.{First}
-use Rattle.writing.proofs.Wanting.{suits-reached, wanted-all}
-use Rattle.writing.proofs.Meeting.{met-accepts, met-exact, met-few, met-shared}
+use Rattle.writing.proofs.Wanting.{suits-alone, wanted-all}
+use Rattle.writing.proofs.Meeting.{met-accepts, met-exact, met-few}
 use Rattle.writing.proofs.Settling.{meets-every, meets-owed, owed-few, settled}
+use Rattle.writing.proofs.FirstMet.{first-met}
 use Rattle.writing.proofs.FirstShown.{Shows, first-shows}
 use Rattle.writing.proofs.FirstBefore.{first-order}
 use Rattle.writing.proofs.Ordering.{Order, apart-before, before-once}
@@ -76,23 +77,24 @@ module _ (t : List ℕ) (wf : WellFormed t) (q : Query) (valid : Valid q) (S : �
     uses-all rec T e within =
         rw (m .least T (rec, e) within) at (demand-two t q rec T (wf .accepted) valid .0 e)
 
-    proved : suits (proves t S every owed (q .depth) nothingAbove (startingSets t)) owed (eqb owed) (goalOf q ∷ []) ≡ true
+    proved : provable t q S every owed ≡ true
     proved =
         let (rec, e) = m .used in
         let a = demand-two t q rec S (wf .accepted) valid .0 e in
-        let met = met-all t wf every owed (a .forest) (meets-owed t q rec S a) in
-        suits-reached (wanted-all owed (owed-few t wf S)) _ (goalOf q ∷ []) owed (omega arith) (eq-eqb owed owed refl)
-        (rw (← eqb-true owed _ met) at
-        (met-shared t wf every owed S (a .derives) (uses-only t q rec S a) nothingAbove (on-none t) [] (startingSets t)
-        (starts t (bitOr every owed)) (meets-every t q rec S a)))
+        provable-by t wf q S every owed (a .derives) (uses-only t q rec S a) (meets-every t q rec S a) (meets-owed t q rec S a)
+
+    suited : suits (proves t S every owed (q .depth) nothingAbove (startingSets t)) owed (eqb owed) (goalOf q ∷ []) ≡ true
+    unfolding provable
+    suited =
+        suits-alone (wanted-all owed (owed-few t wf S)) _ (goalOf q) owed (omega arith) (eq-eqb owed owed refl) proved
 
     abbrev theForest : Forest
     theForest = firstForest t S every owed (q .depth) nothingAbove (startingSets t) (eqb owed) (goalOf q ∷ [])
 
-    first-shown : Shows t S every owed (q .depth) [] [] (startingSets t) (eqb owed) (goalOf q ∷ []) theForest
+    first-shown : Shows t S every (q .depth) [] [] (goalOf q ∷ []) theForest
     first-shown =
         first-shows t wf S every owed (q .depth) [] nothingAbove (on-none t) [] (startingSets t) (starts t (bitOr every owed))
-        (eqb owed) (wanted-all owed (owed-few t wf S)) (goalOf q ∷ []) proved
+        (eqb owed) (wanted-all owed (owed-few t wf S)) (goalOf q ∷ []) suited
 
     first-accepted : Accepted t q (firstRecord t q S) (usedSet theForest)
     unfolding firstRecord
@@ -104,7 +106,9 @@ module _ (t : List ℕ) (wf : WellFormed t) (q : Query) (valid : Valid q) (S : �
           whole = refl;
           complies =
               accepts-complies t (shown .derives) S every owed (shown .usesOnly) (settled t wf S) (shown .accepted)
-              (all-met t wf every owed theForest (shown .met));
+              (all-met t wf every owed theForest
+              (first-met t wf S every owed (q .depth) nothingAbove (startingSets t) (eqb owed) (wanted-all owed (owed-few t wf S))
+              (goalOf q ∷ []) suited));
           uses = refl;
         }
 
@@ -130,9 +134,8 @@ module _ (t : List ℕ) (wf : WellFormed t) (q : Query) (valid : Valid q) (S : �
         }
 
   -- the code's search finds that the goal can meet all that is owed
-  pub minimal-suits : isMinimal t q S ≡ true
-      → suits (proves t S every owed (q .depth) nothingAbove (startingSets t)) owed (eqb owed) (goalOf q ∷ []) ≡ true
-  minimal-suits h = proved (is-minimal-set t wf q valid S h)
+  pub minimal-provable : isMinimal t q S ≡ true → provable t q S every owed ≡ true
+  minimal-provable h = proved (is-minimal-set t wf q valid S h)
 
   pub first-holdable : (rec : List ℕ) → First t q S rec → Holdable rec
   first-holdable rec first = accepted-holdable t wf q valid rec S (first .uses)

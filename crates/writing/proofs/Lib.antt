@@ -3,6 +3,7 @@ pub mod Wanting
 pub mod Meeting
 pub mod LeastNode
 pub mod FirstNode
+pub mod FirstMet
 pub mod FirstShown
 pub mod Ordering
 pub mod FirstBefore

@@ -58,6 +58,14 @@ module _ (t : List ℕ) (A O : ℕ) where
         ne-eqb (suc (length goals)) 0 (λ e. omega arith),
       )
 
+  pub met-split : (s : StateSets) (c m : ℕ) (children siblings : Forest)
+      → metFrom t A O s (node c m children siblings) ≡ bitOr (metFrom t A O s (node c m children end)) (metFrom t A O s siblings)
+  unfolding metFrom
+  met-split s c m children siblings =
+      let below = stepped t (bitOr A O) (credential t c .role) s in
+      let own = pick (eqb (credential t c .kind) 1) (bitAnd O (acceptingSet t below)) (metFrom t A O below children) in
+      ap (λ x. bitOr x (metFrom t A O s siblings)) (sym (or-zero-r own))
+
   -- a node alone
   pub met-alone : WellFormed t → (g : Goal) (c m : ℕ) (goals : List Goal) → premises t g c m ≡ some goals
       → (s : StateSets) (children : Forest)

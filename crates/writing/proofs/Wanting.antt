@@ -1,7 +1,7 @@
 -- What is wanted of the automata that are owed, from goal to goal: a goal may meet what leaves to those behind it what they can
 -- meet, and those behind it have to meet what it has not. Only parts of what is owed are wanted, and with each every greater one.
-use mathlib.Core.Path.{_≡_, sym, ap, _∙_}
-use mathlib.Core.List.{List, _∷_}
+use mathlib.Core.Path.{_≡_, refl, sym, _∙_}
+use mathlib.Core.List.{List, [], _∷_}
 use mathlib.Core.Bool.{Bool, true}
 use Prim.Native.Nat.{ℕ, suc, _<_, _≤_}
 use native.Mathlib.Omega.{arith}
@@ -19,7 +19,7 @@ use Rattle.table.specs.declared.Goal.{Goal}
 use Rattle.automata.specs.Together.{acceptingSet}
 use Rattle.automata.specs.declared.StateSets.{StateSets}
 use Rattle.search.specs.Search.{ends, shares}
-use Rattle.search.proofs.Sharing.{shares-less, shares-shows}
+use Rattle.search.proofs.Sharing.{shares-less, shares-reached, shares-shows}
 use Rattle.choice.specs.Choice.{Upward, endsWell, suits}
 use Rattle.writing.specs.First.{leaves}
 
@@ -123,6 +123,13 @@ module _ {O : ℕ} {wants : ℕ → Bool} (wanted : Wanted O wants) where
         → suits one O wants goals ≡ true
     unfolding suits
     suits-reached goals X l is shared = any-reached _ (suc O) X (omega arith) (and-both is shared)
+
+    -- one goal that can meet such a set
+    pub suits-alone : (g : G) (X : ℕ) → X ≤ O → wants X ≡ true → one g X ≡ true → suits one O wants (g ∷ []) ≡ true
+    unfolding shares
+    suits-alone g X l is proved =
+        suits-reached (g ∷ []) X l is
+        (shares-reached one O g [] X X 0 l (omega arith) proved (eq-eqb 0 0 refl) (part-or-left X 0))
 
   pub ends-shows : (t : List ℕ) (A : ℕ) (s : StateSets) → endsWell t A O wants s ≡ true
       → (X : ℕ) × (part X O ≡ true) × (wants X ≡ true) × (ends t A s X ≡ true)
