@@ -3,6 +3,7 @@ pub mod Wanting
 pub mod Meeting
 pub mod LeastNode
 pub mod FirstNode
+pub mod Alike
 pub mod FirstMet
 pub mod FirstShown
 pub mod Ordering
@@ -11,7 +12,7 @@ pub mod Settling
 pub mod Firsts
 pub mod Fitting
 pub mod Walking
-pub mod Nodes
+pub mod Children
 pub mod Listed
 pub mod Beginning
 pub mod Passes

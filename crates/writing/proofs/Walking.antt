@@ -1,33 +1,14 @@
--- A walk over the nodes of a record goes on where it ended: the trees of several goals stand one after the other, and so do the
--- numbers in the cells. What a whole walk has put into the cells is the record laid in them.
-use mathlib.Core.Path.{_≡_, sym, _∙_}
-use mathlib.Core.List.{List, [], _∷_, _++_, append-assoc}
+-- A walk over the nodes of a record goes on where it ended: numbers stand one after the other in the cells. What a whole walk has put into the cells is the record laid in them.
+use mathlib.Core.Path.{_≡_, refl, sym, _∙_}
+use mathlib.Core.List.{List, [], _∷_, _++_}
 use Prim.Native.Nat.{ℕ, zero, suc, _+_, _-_, _<_, _≤_}
 use native.Mathlib.Omega.{arith}
 use native.Mathlib.Nat.{zero-add}
-use lib.ListN.{getD, length, length-append, List·getD-append}
-use lib.Seq.{ext-getD, getD-append-add}
+use lib.ListN.{getD, length, length-append, length-set, List·getD-append, set}
+use lib.Seq.{ext-getD, getD-append-add, getD-set-other, getD-set-same}
 use Rattle.sorted.specs.Sorted.{laid}
 use Rattle.sorted.proofs.Lists.{laid-at, laid-beyond, laid-length, less-or-not}
-use Rattle.table.specs.declared.Goal.{Goal}
-use Rattle.automata.specs.declared.StateSets.{StateSets}
-use Rattle.derivation.specs.Forest.{written}
-use Rattle.members.specs.declared.above.Above.{Above}
-use Rattle.writing.specs.First.{firstForest}
 use Rattle.writing.specs.Walked.{Over, Walked}
-use Rattle.writing.proofs.FirstNode.{first-end, first-floor, first-node}
-
-pub first-append : (t : List ℕ) (S A levels : ℕ) (above : Above) (s : StateSets) (goals more : List Goal)
-    → written (firstForest t S A levels above s (goals ++ more))
-    ≡ written (firstForest t S A levels above s goals) ++ written (firstForest t S A levels above s more)
-unfolding written
-first-append t S A zero above s goals more =
-    let none = first-floor t S A above s in
-    rw (none (goals ++ more), none goals, none more)
-first-append t S A (suc levels) above s [] more = rw (first-end t S A (suc levels) above s)
-first-append t S A (suc levels) above s (g ∷ goals) more =
-    let node = first-node t S A levels above s g in
-    rw (node (goals ++ more), node goals, first-append t S A (suc levels) above s goals more, append-assoc)
 
 -- numbers behind those that the cells hold already
 module _ (at : ℕ) (xs ys before mid after : List ℕ) (first : Over at xs before mid)
@@ -94,6 +75,61 @@ module _ {at most next : ℕ} {xs before mid : List ℕ} (walked : Walked at mos
         stopped = λ h. let e = walked .stopped h in omega arith;
         over = λ h l. absurd (omega arith);
       }
+
+-- a walk that has not begun
+pub walked-none : (at most : ℕ) (rec : List ℕ) → Walked at most [] rec rec at
+walked-none at most rec =
+    record {
+      size = refl;
+      whole = λ h. omega arith;
+      stopped = λ h. omega arith;
+      over = λ h l.
+          record { held = λ i m. absurd (omega arith); earlier = λ i m. refl; beyond = λ i m. refl };
+    }
+
+-- a node's numbers, where there are cells for both, and where there are not
+module _ (at c m : ℕ) (rec : List ℕ) where
+  pub put-both : at + 2 ≤ length rec → Walked at (at + 2) (c ∷ m ∷ []) rec (set (set rec at c) (at + 1) m) (at + 2)
+  put-both room =
+      record {
+        size = length-set (set rec at c) (at + 1) m ∙ length-set rec at c;
+        whole = λ h. refl;
+        stopped = λ h. h;
+        over = λ h l. record { held = held; earlier = λ i k. other i (λ e. omega arith) (λ e. omega arith); beyond = beyond };
+      }
+    where
+      other : (i : ℕ) → (i ≡ at → ⊥) → (i ≡ at + 1 → ⊥) → getD (set (set rec at c) (at + 1) m) i 0 ≡ getD rec i 0
+      other i n0 n1 = getD-set-other (set rec at c) (at + 1) i m 0 n1 ∙ getD-set-other rec at i c 0 n0
+
+      beyond : (i : ℕ) → at + 2 ≤ i → getD (set (set rec at c) (at + 1) m) i 0 ≡ getD rec i 0
+      beyond i k = other i (λ e. omega arith) (λ e. omega arith)
+
+      held : (i : ℕ) → i < 2 → getD (set (set rec at c) (at + 1) m) (at + i) 0 ≡ getD (c ∷ m ∷ []) i 0
+      held zero l =
+          let here : at + 0 ≡ at = omega arith in
+          rw here (getD-set-other (set rec at c) (at + 1) at m 0 (λ e. omega arith) ∙ getD-set-same rec at c 0 (omega arith))
+      held (suc zero) l = getD-set-same (set rec at c) (at + 1) m 0 (omega (arith, length-set rec at c))
+      held (suc (suc i)) l = absurd (omega arith)
+
+  pub put-none : length rec < at + 2 → Walked at (at + 2) (c ∷ m ∷ []) rec rec (at + 2)
+  put-none few =
+      record { size = refl; whole = λ h. refl; stopped = λ h. h; over = λ h l. absurd (omega arith) }
+
+-- numbers behind those that are all put
+pub walked-then : {at most next next′ : ℕ} {xs ys before mid after : List ℕ} → Walked at next xs before mid next
+    → Walked next most ys mid after next′ → Walked at most (xs ++ ys) before after next′
+walked-then {at} {most} {next} {next′} {xs} {ys} {before} {mid} {after} first second =
+    let size = length-append xs ys in
+    let here = first .whole (omega arith) in
+    record {
+      size = second .size ∙ first .size;
+      whole = λ h. let e = second .whole h in omega arith;
+      stopped = λ h. let e = second .stopped h in omega arith;
+      over = λ h l.
+          let e = second .whole h in
+          over-append at xs ys before mid after (first .over (omega arith) (omega arith))
+          (rw here at (second .over h (omega (arith, first .size))));
+    }
 
 -- the record of a whole walk
 pub over-laid : (numbers before after : List ℕ) → length after ≡ length before → length numbers ≤ length before

@@ -1,9 +1,22 @@
 -- What a walk over the nodes of a record leaves in the lent cells, and what it tells: the cell behind the record, or, where it
--- stopped since the record does not fit, a cell that lies beyond the most that there are.
-use Prim.Native.Nat.{ℕ, _+_, _<_, _≤_}
+-- stopped since the record does not fit, a cell that lies beyond the most that there are; and what the words of the record meet of
+-- the automata that are owed.
+use Prim.Native.Nat.{ℕ, _+_, _-_, _<_, _≤_}
 use mathlib.Core.Path.{_≡_}
-use mathlib.Core.List.{List}
+use mathlib.Core.List.{List, [], _∷_}
 use lib.ListN.{getD, length}
+use Rattle.families.specs.Families.{inFamily}
+use Rattle.families.specs.declared.Family.{Family}
+use Rattle.table.specs.declared.Goal.{Goal}
+use Rattle.automata.specs.declared.StateSets.{StateSets}
+use Rattle.derivation.specs.Forest.{Forest, written}
+use Rattle.members.specs.declared.above.Above.{Above}
+use Rattle.search.specs.declared.Terms.{Terms}
+use Rattle.search.specs.declared.asking.Asked.{Asked}
+use Rattle.search.specs.Asking.{Pair, pairsFrom}
+use Rattle.search.specs.Search.{goalAt}
+use Rattle.writing.specs.First.{firstForest, metFrom}
+use Rattle.writing.specs.declared.walk.Reached.{Reached}
 
 -- the cells from `at` on hold the numbers, and all others are as they were
 pub record Over (at : ℕ) (numbers before after : List ℕ) : Type 0 where
@@ -16,3 +29,22 @@ pub record Walked (at most : ℕ) (numbers before after : List ℕ) (next : ℕ)
   pub whole : next ≤ most → next ≡ at + length numbers
   pub stopped : most < next → most < at + length numbers
   pub over : next ≤ most → next ≤ length before → Over at numbers before after
+
+-- the goals whose principals and roles stand at these places, and those that are asked from goal k on
+unfoldable pub goalsAt : List ℕ → List Pair → List Goal
+goalsAt t [] = []
+goalsAt t (p ∷ pairs) = goalAt t (p .person) (p .place) ∷ goalsAt t pairs
+
+abbrev pub goalsFrom : List ℕ → Asked → ℕ → List Goal
+goalsFrom t asked k = goalsAt t (pairsFrom (asked .persons) (asked .places) (asked .len - k) k)
+
+-- on the terms of a search: the first forest of the goals such that they meet a set of the family
+abbrev pub firstOn : List ℕ → Terms → Family → ℕ → Above → StateSets → List Goal → Forest
+firstOn t terms wanted levels above s =
+    firstForest t (terms .allowed) (terms .constraints) (terms .owed) levels above s (inFamily wanted)
+
+-- the forest's record is walked, and its words, which are read from the state sets s on, meet what is told, unless the walk stopped
+pub record Walks (t : List ℕ) (terms : Terms) (s : StateSets) (f : Forest) (at most : ℕ) (before after : List ℕ) (r : Reached)
+    : Type 0 where
+  pub walked : Walked at most (written f) before after (r .next)
+  pub meets : r .next ≤ most → r .met ≡ metFrom t (terms .constraints) (terms .owed) s f
