@@ -13,6 +13,8 @@ pub mod Firsts
 pub mod Fitting
 pub mod Walking
 pub mod Children
+pub mod Later
+pub mod Nodes
 pub mod Listed
 pub mod Beginning
 pub mod Passes

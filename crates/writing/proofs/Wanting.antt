@@ -5,7 +5,7 @@ use mathlib.Core.List.{List, [], _∷_}
 use mathlib.Core.Bool.{Bool, true}
 use Prim.Native.Nat.{ℕ, suc, _<_, _≤_}
 use native.Mathlib.Omega.{arith}
-use lib.Bits.{bitAnd, bitOr, and-le-r, or-lt}
+use lib.Bits.{bitAnd, bitOr, or-lt}
 use lib.Dec.{eqb}
 use borrow.Author.Tests.{eq-eqb, eqb-true}
 use Rattle.sets.specs.Logic.{_and_, anyBelow}
@@ -45,6 +45,29 @@ part-within X Y Z O few all =
     inSet-or (bitAnd Y O) (bitAnd Z O) k
     ∙ or-either (λ one. or-first _ (inSet-and Y O k ∙ and-both one owed)) (λ other. or-second _ (inSet-and Z O k ∙ and-both other owed))
     (sym (inSet-or Y Z k) ∙ part-member X _ k all h))
+
+-- who can meet more can meet less
+abbrev pub Lessens : {G : Type 0} → (G → ℕ → Bool) → Type 0
+Lessens {G} one = (g : G) (Y Y′ : ℕ) → part Y′ Y ≡ true → one g Y ≡ true → one g Y′ ≡ true
+
+-- what the first goal meets of O, and what the others do
+pub shared-owed : {G : Type 0} (one : G → ℕ → Bool) (O : ℕ) → Lessens one → (g : G) (goals : List G) (X : ℕ) → part X O ≡ true
+    → shares one O (g ∷ goals) X ≡ true
+    → (Y Z : ℕ) × (part Y O ≡ true) × (part Z O ≡ true) × (one g Y ≡ true) × (shares one O goals Z ≡ true)
+    × (part X (bitOr Y Z) ≡ true)
+shared-owed one O less g goals X owed shared =
+    let by = shares-shows one O g goals X shared in
+    let Y = by .first in
+    let Z = by .others in
+    (
+      bitAnd Y O,
+      bitAnd Z O,
+      and-part Y O,
+      and-part Z O,
+      less g Y (bitAnd Y O) (and-part-left Y O) (by .proves-first),
+      shares-less one O goals Z (bitAnd Z O) (and-part-left Z O) (by .proves-others),
+      part-within X Y Z O owed (by .together),
+    )
 
 -- all that is owed, and nothing less
 pub wanted-all : (O : ℕ) → O < allSets → Wanted O (eqb O)
@@ -156,20 +179,14 @@ module _ {O : ℕ} {wants : ℕ → Bool} (wanted : Wanted O wants) where
       (and-part-left O (acceptingSet t s)) is
 
   -- where goals suit what is wanted the first of them can meet a set that it may meet
-  pub first-suits : (one : Goal → ℕ → Bool) → ((g : Goal) (Y Y′ : ℕ) → part Y′ Y ≡ true → one g Y ≡ true → one g Y′ ≡ true)
-      → (g : Goal) (goals : List Goal) → suits one O wants (g ∷ goals) ≡ true
+  pub first-suits : (one : Goal → ℕ → Bool) → Lessens one → (g : Goal) (goals : List Goal) → suits one O wants (g ∷ goals) ≡ true
       → (Y : ℕ) × (Y ≤ O) × (leaves one O wants goals Y ≡ true) × (one g Y ≡ true)
   first-suits one less g goals h =
       let (X, owed, is, shared) = suits-shows one (g ∷ goals) h in
-      let by = shares-shows one O g goals X shared in
-      let Y = bitAnd (by .first) O in
-      let Z = bitAnd (by .others) O in
-      let together = part-within X (by .first) (by .others) O owed (by .together) in
+      let (Y, Z, few, few′, first, others, together) = shared-owed one O less g goals X owed shared in
       (
         Y,
-        and-le-r (by .first) O,
-        leaves-reached one goals Y Z (and-part (by .first) O) (and-le-r (by .others) O)
-        (shares-less one O goals (by .others) Z (and-part-left (by .others) O) (by .proves-others))
-        (wanted .upward X (bitOr Y Z) together (part-or Y Z O (and-part (by .first) O) (and-part (by .others) O)) is),
-        less g (by .first) Y (and-part-left (by .first) O) (by .proves-first),
+        part-le Y O few,
+        leaves-reached one goals Y Z few (part-le Z O few′) others (wanted .upward X (bitOr Y Z) together (part-or Y Z O few few′) is),
+        first,
       )

@@ -4,6 +4,7 @@
 use Prim.Native.Nat.{ℕ, _+_, _-_, _<_, _≤_}
 use mathlib.Core.Path.{_≡_}
 use mathlib.Core.List.{List, [], _∷_}
+use mathlib.Core.Bool.{Bool}
 use lib.ListN.{getD, length}
 use Rattle.families.specs.Families.{inFamily}
 use Rattle.families.specs.declared.Family.{Family}
@@ -14,7 +15,7 @@ use Rattle.members.specs.declared.above.Above.{Above}
 use Rattle.search.specs.declared.Terms.{Terms}
 use Rattle.search.specs.declared.asking.Asked.{Asked}
 use Rattle.search.specs.Asking.{Pair, pairsFrom}
-use Rattle.search.specs.Search.{goalAt}
+use Rattle.search.specs.Search.{goalAt, proves, shares}
 use Rattle.writing.specs.First.{firstForest, metFrom}
 use Rattle.writing.specs.declared.walk.Reached.{Reached}
 
@@ -37,6 +38,10 @@ goalsAt t (p ∷ pairs) = goalAt t (p .person) (p .place) ∷ goalsAt t pairs
 
 abbrev pub goalsFrom : List ℕ → Asked → ℕ → List Goal
 goalsFrom t asked k = goalsAt t (pairsFrom (asked .persons) (asked .places) (asked .len - k) k)
+
+-- what goals can meet together, below a branch
+abbrev pub laterTest : List ℕ → ℕ → ℕ → ℕ → ℕ → StateSets → List Goal → ℕ → Above → Bool
+laterTest t S A O levels s goals = λ X above. shares (proves t S A O levels above s) O goals X
 
 -- on the terms of a search: the first forest of the goals such that they meet a set of the family
 abbrev pub firstOn : List ℕ → Terms → Family → ℕ → Above → StateSets → List Goal → Forest
