@@ -3,8 +3,9 @@
 use mathlib.Core.Path.{_≡_, refl, sym, ap, ap₂, fun-ext, _∙_}
 use mathlib.Core.List.{List, [], _∷_, _++_, append-assoc, append-nil}
 use mathlib.Core.Bool.{Bool, true}
-use Prim.Native.Nat.{ℕ, zero, suc, _<_, _≤_}
+use Prim.Native.Nat.{ℕ, zero, suc, _+_, _<_, _≤_}
 use native.Mathlib.Omega.{arith}
+use lib.ListN.{getD}
 use lib.Bits.{bitOr, or-zero-r}
 use Rattle.sets.specs.Sets.{inSet, part}
 use Rattle.sets.specs.Logic.{_or_}
@@ -17,11 +18,13 @@ use Rattle.automata.specs.declared.StateSets.{StateSets}
 use Rattle.derivation.specs.Forest.{Forest, written}
 use Rattle.derivation.specs.Forest.Forest.{end, node}
 use Rattle.members.specs.declared.above.Above.{Above}
-use Rattle.search.specs.Search.{proves}
+use Rattle.search.specs.Search.{goalAt, proves}
+use Rattle.search.specs.declared.asking.Asked.{Asked}
+use Rattle.search.proofs.Pairs.{asked-end, asked-from}
 use Rattle.search.proofs.Owing.{proves-less}
 use Rattle.choice.specs.Choice.{suits}
 use Rattle.writing.specs.First.{firstForest, leaves, metFrom}
-use Rattle.writing.specs.Walked.{Walked}
+use Rattle.writing.specs.Walked.{Walked, goalsAt, goalsFrom}
 use Rattle.writing.proofs.Wanting.{Wanted, first-suits, suits-alone, wanted-after, wanted-here}
 use Rattle.writing.proofs.Meeting.{met-end, met-few, met-split}
 use Rattle.writing.proofs.FirstNode.{first-end, first-node, firstTree, wantsBehind, wantsHere}
@@ -40,7 +43,7 @@ written-split : (c m : ℕ) (children siblings : Forest)
 unfolding written
 written-split c m children siblings = rw (append-nil (written children))
 
-module _ (t : List ℕ) (wf : WellFormed t) (S A O levels : ℕ) (above : Above) (s : StateSets) where
+module _ (t : List ℕ) (S A O levels : ℕ) (above : Above) (s : StateSets) where
   abbrev one : Goal → ℕ → Bool
   one = proves t S A O levels above s
 
@@ -126,7 +129,7 @@ module _ (t : List ℕ) (wf : WellFormed t) (S A O levels : ℕ) (above : Above)
 -- one child more, with a level left
 module _ (t : List ℕ) (wf : WellFormed t) (S A O levels : ℕ) (above : Above) (s : StateSets) (wants : ℕ → Bool) (wanted : Wanted O wants)
     (goals rest : List Goal) (g : Goal) {from most next met : ℕ} {before mid : List ℕ}
-    (passed : Passed t wf S A O (suc levels) above s wants goals (g ∷ rest) from most before mid next met) where
+    (passed : Passed t S A O (suc levels) above s wants goals (g ∷ rest) from most before mid next met) where
   abbrev left : ℕ → Bool
   left = λ X. wants (bitOr met X)
 
@@ -154,7 +157,7 @@ module _ (t : List ℕ) (wf : WellFormed t) (S A O levels : ℕ) (above : Above)
       ∙ ap (λ w. (passed .numbers ++ written child) ++ written (firstForest t S A O (suc levels) above s w rest)) regrouped
 
   module _ (room : next ≤ most) {next′ : ℕ} {after : List ℕ} (on : Walked next most (written child) mid after next′) where
-    tree-passed : Passed t wf S A O (suc levels) above s wants goals rest from most before after next′ (bitOr met now)
+    tree-passed : Passed t S A O (suc levels) above s wants goals rest from most before after next′ (bitOr met now)
     tree-passed =
         record {
           numbers = passed .numbers ++ written child;
@@ -176,25 +179,25 @@ module _ (t : List ℕ) (wf : WellFormed t) (S A O levels : ℕ) (above : Above)
 -- one child more, which may meet what a family has
 module _ (t : List ℕ) (wf : WellFormed t) (S A O : ℕ) (above : Above) (s : StateSets) (wants : ℕ → Bool) (wanted : Wanted O wants)
     (goals rest : List Goal) (g : Goal) (may : ℕ → Bool) {from most next met : ℕ} {before mid : List ℕ} where
-  module _ (levels : ℕ) (passed : Passed t wf S A O levels above s wants goals (g ∷ rest) from most before mid next met)
+  module _ (levels : ℕ) (passed : Passed t S A O levels above s wants goals (g ∷ rest) from most before mid next met)
       (alike : Alike may (leaves (proves t S A O levels above s) O (λ X. wants (bitOr met X)) rest)) where
     pub may-wanted : Wanted O may
     may-wanted =
-        child-wanted t wf S A O levels above s _ (wanted-after wanted met (passed .few)) g rest (passed .suited) may alike
+        child-wanted t S A O levels above s _ (wanted-after wanted met (passed .few)) g rest (passed .suited) may alike
 
     pub may-suits : suits (proves t S A O levels above s) O may (g ∷ []) ≡ true
     may-suits =
-        child-suits t wf S A O levels above s _ (wanted-after wanted met (passed .few)) g rest (passed .suited) may alike
+        child-suits t S A O levels above s _ (wanted-after wanted met (passed .few)) g rest (passed .suited) may alike
 
     child-is : firstForest t S A O levels above s may (g ∷ [])
         ≡ firstForest t S A O levels above s (leaves (proves t S A O levels above s) O (λ X. wants (bitOr met X)) rest) (g ∷ [])
     child-is = first-alike t S A O (wanted .few) levels above s may _ alike (g ∷ [])
 
-  pub passed-next : (levels : ℕ) → Passed t wf S A O levels above s wants goals (g ∷ rest) from most before mid next met
+  pub passed-next : (levels : ℕ) → Passed t S A O levels above s wants goals (g ∷ rest) from most before mid next met
       → Alike may (leaves (proves t S A O levels above s) O (λ X. wants (bitOr met X)) rest) → next ≤ most → {next′ : ℕ} {after : List ℕ}
       → Walked next most (written (firstForest t S A O levels above s may (g ∷ []))) mid after next′
       → (now : ℕ) → now ≡ metFrom t A O s (firstForest t S A O levels above s may (g ∷ []))
-      → Passed t wf S A O levels above s wants goals rest from most before after next′ (bitOr met now)
+      → Passed t S A O levels above s wants goals rest from most before after next′ (bitOr met now)
   passed-next zero passed alike room on now is =
       absurd (level-none t S A O above s _ (wanted-after wanted met (passed .few)) g rest (passed .suited))
   passed-next (suc levels) passed alike room on now is =
@@ -202,7 +205,7 @@ module _ (t : List ℕ) (wf : WellFormed t) (S A O : ℕ) (above : Above) (s : S
       rw (is ∙ ap (metFrom t A O s) same)
       (tree-passed t wf S A O levels above s wants wanted goals rest g passed room (rw same at on))
 
-  pub passed-beyond : (levels : ℕ) → Passed t wf S A O levels above s wants goals (g ∷ rest) from most before mid next met
+  pub passed-beyond : (levels : ℕ) → Passed t S A O levels above s wants goals (g ∷ rest) from most before mid next met
       → Alike may (leaves (proves t S A O levels above s) O (λ X. wants (bitOr met X)) rest) → next ≤ most → {next′ : ℕ} {after : List ℕ}
       → Walked next most (written (firstForest t S A O levels above s may (g ∷ []))) mid after next′ → most < next′
       → Walked from most (written (firstForest t S A O levels above s wants goals)) before after next′
@@ -211,3 +214,47 @@ module _ (t : List ℕ) (wf : WellFormed t) (S A O : ℕ) (above : Above) (s : S
   passed-beyond (suc levels) passed alike room on over =
       let same = child-is (suc levels) passed alike in
       tree-beyond t wf S A O levels above s wants wanted goals rest g passed room (rw same at on) over
+
+-- goal by goal of those that are asked
+pub goals-next : (t : List ℕ) (a : Asked) (k : ℕ) → k < a .len
+    → goalsFrom t a k ≡ goalAt t (getD (a .persons) k 0) (getD (a .places) k 0) ∷ goalsFrom t a (k + 1)
+unfolding goalsAt
+goals-next t a k l = rw (asked-from (a .persons) (a .places) (a .len) k l)
+
+pub goals-last : (t : List ℕ) (a : Asked) (k : ℕ) → a .len ≤ k → goalsFrom t a k ≡ []
+unfolding goalsAt
+goals-last t a k all = rw (asked-end (a .persons) (a .places) (a .len) k all)
+
+pub asked-last : (t : List ℕ) (S A O levels : ℕ) (above : Above) (s : StateSets) (wants : ℕ → Bool) (goals : List Goal) (a : Asked) (k : ℕ)
+    → a .len ≤ k → {from most next met : ℕ} {before mid : List ℕ}
+    → Passed t S A O levels above s wants goals (goalsFrom t a k) from most before mid next met
+    → Walked from most (written (firstForest t S A O levels above s wants goals)) before mid next
+    × (met ≡ metFrom t A O s (firstForest t S A O levels above s wants goals))
+asked-last t S A O levels above s wants goals a k all passed =
+    passed-last t S A O levels above s wants goals (rw (goals-last t a k all) at passed)
+
+module _ {t : List ℕ} (wf : WellFormed t) (S A O levels : ℕ) (above : Above) (s : StateSets) (wants : ℕ → Bool) (wanted : Wanted O wants)
+    {goals : List Goal} (a : Asked) (k : ℕ) (l : k < a .len) {from most next met : ℕ} {before mid : List ℕ}
+    (passed : Passed t S A O levels above s wants goals (goalsFrom t a k) from most before mid next met) (may : ℕ → Bool)
+    (alike : Alike may (leaves (proves t S A O levels above s) O (λ X. wants (bitOr met X)) (goalsFrom t a (k + 1)))) where
+  abbrev g : Goal
+  g = goalAt t (getD (a .persons) k 0) (getD (a .places) k 0)
+
+  here : Passed t S A O levels above s wants goals (g ∷ goalsFrom t a (k + 1)) from most before mid next met
+  here = rw (goals-next t a k l) at passed
+
+  pub asked-wanted : Wanted O may
+  asked-wanted = may-wanted t wf S A O above s wants wanted goals (goalsFrom t a (k + 1)) g may levels here alike
+
+  pub asked-suits : suits (proves t S A O levels above s) O may (g ∷ []) ≡ true
+  asked-suits = may-suits t wf S A O above s wants wanted goals (goalsFrom t a (k + 1)) g may levels here alike
+
+  module _ (room : next ≤ most) {next′ : ℕ} {after : List ℕ}
+      (on : Walked next most (written (firstForest t S A O levels above s may (g ∷ []))) mid after next′) where
+    pub asked-next : (now : ℕ) → now ≡ metFrom t A O s (firstForest t S A O levels above s may (g ∷ []))
+        → Passed t S A O levels above s wants goals (goalsFrom t a (k + 1)) from most before after next′ (bitOr met now)
+    asked-next now is = passed-next t wf S A O above s wants wanted goals (goalsFrom t a (k + 1)) g may levels here alike room on now is
+
+    pub asked-beyond : most < next′ → Walked from most (written (firstForest t S A O levels above s wants goals)) before after next′
+    asked-beyond over =
+        passed-beyond t wf S A O above s wants wanted goals (goalsFrom t a (k + 1)) g may levels here alike room on over

@@ -3,12 +3,12 @@
 use mathlib.Core.Path.{_≡_, refl, sym, ap, _∙_}
 use mathlib.Core.List.{List, [], _∷_}
 use mathlib.Core.Bool.{Bool, true}
-use Prim.Native.Nat.{ℕ, zero, suc, _+_, _<_, _≤_}
+use Prim.Native.Nat.{ℕ, zero, suc, _+_, _-_, _<_, _≤_}
 use native.Mathlib.Omega.{arith}
 use lib.ListN.{getD}
 use lib.Bits.{bitOr, or-comm, or-lt, or-zero-r}
 use lib.Dec.{eqb}
-use borrow.Author.Tests.{eq-eqb, eqb-true, lt-ltb}
+use borrow.Author.Tests.{eq-eqb, eqb-true, lt-ltb, ltb-true}
 use Rattle.sets.specs.Logic.{_and_}
 use Rattle.sets.specs.Sets.{part}
 use Rattle.sets.proofs.Tests.{and-both, and-first, and-second, same-test}
@@ -25,10 +25,14 @@ use Rattle.members.specs.declared.above.Above.{Above}
 use Rattle.search.specs.Asking.{pairsFrom}
 use Rattle.search.specs.Search.{goalAt, proves, provesAt, shares}
 use Rattle.search.specs.Failing.{Told, goalTest}
+use Rattle.search.proofs.Pairs.{asked-end, asked-from}
 use Rattle.search.proofs.Sharing.{shares-reached}
 use Rattle.search.proofs.Owing.{proves-less}
+use Rattle.search.specs.declared.asking.Asked.{Asked}
+use Rattle.choice.specs.Choice.{Children}
+use Rattle.choice.specs.Choice as choice
 use Rattle.writing.specs.First.{leaves}
-use Rattle.writing.specs.Walked.{goalsAt, laterTest}
+use Rattle.writing.specs.Walked.{goalsAt, goalsFrom, laterTest}
 use Rattle.writing.proofs.Wanting.{Wanted, leaves-reached, leaves-shows, shared-owed, wanted-after}
 use Rattle.writing.proofs.Alike.{Alike}
 use Rattle.writing.proofs.Children.{or-behind}
@@ -73,6 +77,25 @@ module _ (t : List ℕ) (S A O levels : ℕ) (s : StateSets) {above : Above} whe
       one : Goal → ℕ → Bool
       one = proves t S A O levels above s
 
+-- from the last of the goals that are asked to the first
+abbrev Later : List ℕ → ℕ → ℕ → ℕ → ℕ → StateSets → List ℕ → List ℕ → ℕ → Above → ℕ → Family → Type 0
+Later t S A O levels s persons places len above k f =
+    Told O (laterTest t S A O levels s (goalsAt t (pairsFrom persons places (len - k) k))) above f
+
+module _ (t : List ℕ) (S A O levels : ℕ) (s : StateSets) (persons places : List ℕ) (len : ℕ) {above : Above} where
+  pub later-none : {f : Family} → FamilyOf (eqb 0) f → Later t S A O levels s persons places len above len f
+  unfolding goalsAt
+  later-none only = rw (asked-end persons places len len (omega arith)) (told-none t S A O levels s only)
+
+  pub later-next : (k : ℕ) → 1 ≤ k → k ≤ len → getD places (k - 1) 0 < credentials t → {f g r : Family} → FamilyOf (joins f g) r
+      → Told O (goalTest t S A O levels s (getD persons (k - 1) 0) (getD places (k - 1) 0)) above f
+      → Later t S A O levels s persons places len above k g → Later t S A O levels s persons places len above (k - 1) r
+  unfolding goalsAt
+  later-next k one few there all first others =
+      let back : k - 1 + 1 ≡ k = omega arith in
+      rw (asked-from persons places len (k - 1) (omega arith), back)
+      (told-next t S A O levels s (getD persons (k - 1) 0) (getD places (k - 1) 0) there _ all first others)
+
 -- goals each of which is proved
 pub shares-nothing : (t : List ℕ) (S A O levels : ℕ) (above : Above) (s : StateSets) (persons places : List ℕ) (n k : ℕ)
     → ((j : ℕ) → k ≤ j → j < k + n → provesAt t S A O levels above s (getD persons j 0) (getD places j 0) 0 ≡ true)
@@ -85,6 +108,25 @@ shares-nothing t S A O levels above s persons places (suc n) k each =
     (and-second _ _ (each k (omega arith) (omega arith)))
     (shares-nothing t S A O levels above s persons places n (suc k) (λ j from l. each j (omega arith) (omega arith)))
     (part-zero (bitOr 0 0))
+
+-- a child's role is defined, and those from one child on are proved
+module _ {t : List ℕ} {S A O levels : ℕ} {above : Above} {s : StateSets} {goals : List Goal} {a : Asked}
+    (children : Children t S A O levels above s goals a) where
+  pub child-there : (k : ℕ) → k < a .len → getD (a .places) k 0 < credentials t
+  unfolding provesAt
+  child-there k l = ltb-true _ (credentials t) (and-first _ _ (children .proved k l))
+
+  pub children-nothing : (from : ℕ) → from ≤ a .len → shares (proves t S A O levels above s) O (goalsFrom t a from) 0 ≡ true
+  children-nothing from few =
+      shares-nothing t S A O levels above s (a .persons) (a .places) (a .len - from) from
+      (λ j later l. children .proved j (omega arith))
+
+-- a family says what is wanted
+pub family-wants : {O : ℕ} {wanted : Family} → choice.Wanted O wanted → Wanted O (inFamily wanted)
+family-wants w = record { few = w .few; upward = w .upward; inside = w .inside }
+
+pub wants-family : {O : ℕ} {wanted : Family} → Wanted O (inFamily wanted) → choice.Wanted O wanted
+wants-family w = record { few = w .few; upward = w .upward; inside = w .inside }
 
 -- what is left to a goal, where those behind it are `rest`
 module _ (one : Goal → ℕ → Bool) (O : ℕ) (wanted : Family) (wants : Wanted O (inFamily wanted)) (met : ℕ) (owed : part met O ≡ true)

@@ -3,13 +3,13 @@ pub mod Wanting
 pub mod Meeting
 pub mod LeastNode
 pub mod FirstNode
-pub mod Alike
 pub mod FirstMet
 pub mod FirstShown
 pub mod Ordering
 pub mod FirstBefore
 pub mod Settling
 pub mod Firsts
+pub mod Alike
 pub mod Fitting
 pub mod Walking
 pub mod Children

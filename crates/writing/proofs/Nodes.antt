@@ -76,6 +76,10 @@ children-goals {t} {goals = goals} {a = a} children =
     ∙ sym (goals-each t (a .persons) (a .places) (a .len) 0 k (omega (arith, children .count))
     ∙ ap (λ i. goalAt t (getD (a .persons) i 0) (getD (a .places) i 0)) here)))
 
+pub children-asked : {t : List ℕ} {S A O levels : ℕ} {above : Above} {s : StateSets} {goals : List Goal} {a : Asked}
+    → Children t S A O levels above s goals a → Children t S A O levels above s (goalsFrom t a 0) a
+children-asked children = rw (children-goals children) at children
+
 -- a goal whose node is to be chosen: it suits what is wanted, and branch and state sets are one role on
 pub record Entered (t : List ℕ) (S A O levels : ℕ) (above deeper : Above) (s below : StateSets) (wants : ℕ → Bool) (person place : ℕ)
     : Type 0 where
@@ -160,6 +164,9 @@ module _ {t : List ℕ} {S A O levels : ℕ} {above deeper : Above} {s below : S
         ap (metFrom t A O s) tree-is
         ∙ met-alone t A O (entered .wellFormed) g (n .credential) (n .middle) asks applies s children
         ∙ ap (λ x. nodeMet t A O x asks children) (sym (entered .moved))
+
+    pub chosen-suits : (n .asked .len ≡ 0 → ⊥) → suits (proves t S A O (levels - 1) deeper below) O wants (goalsFrom t (n .asked) 0) ≡ true
+    chosen-suits some-goals = rw (children-goals (chosen .children)) at (chosen .suited some-goals)
 
     -- its numbers are put
     module _ {at : ℕ} {before mid : List ℕ}

@@ -1,8 +1,12 @@
 // The first record, node by node in preorder: a node's two numbers go into the cells, where there are any left, and then what
-// the node asks is walked in order. A walk stops as soon as it has more numbers than there is room for.
+// the node asks is walked in order. A walk stops as soon as it has more numbers than there is room for. On the way it is known
+// which sets of the owed automata a goal may meet: what it meets has to leave to the goals behind it what they can meet.
 use automata::StateSets;
+use families::Family;
 use members::Above;
+use search::Asked;
 use search::Terms;
+use sets::AutomatonSet;
 use sets::CredentialSet;
 use sets::StateSet;
 use table::Number;
@@ -12,16 +16,29 @@ ghost use mathlib.Core.Path.{_≡_};
 ghost use mathlib.Core.Bool.{true};
 ghost use mathlib.Core.List.{[], _∷_};
 ghost use Prim.Native.Nat.{_+_, _^_, _<_, _≤_};
+ghost use lib.Bits.{bitOr};
+ghost use lib.Dec.{eqb};
+ghost use Rattle.sets.specs.Sets.{part};
+ghost use Rattle.families.specs.Families.{FamilyOf, allSets, inFamily};
+ghost use Rattle.table.specs.Layout.{credentials};
 ghost use Rattle.automata.specs.Together.{startingSets};
 ghost use Rattle.derivation.specs.Rules.{goalOf};
 ghost use Rattle.derivation.specs.Forest.{written};
 ghost use Rattle.members.specs.Above.{nothingAbove};
 ghost use Rattle.members.specs.Members.{Members};
-ghost use Rattle.search.specs.Search.{Prepared, Searched, Stands, goalAt, provable, provesAt};
-ghost use Rattle.writing.specs.First.{firstForest};
-ghost use Rattle.writing.specs.Walked.{Walked};
+ghost use Rattle.search.specs.Search.{Prepared, Searched, Stands, goalAt, provable, proves};
+ghost use Rattle.search.specs.Failing.{Told};
+ghost use Rattle.choice.specs.Choice.{Children, Wanted, suitsAll};
+ghost use Rattle.writing.specs.First.{firstForest, leaves};
+ghost use Rattle.writing.specs.Walked.{Walked, Walks, firstOn, goalsFrom, laterTest};
 
-// Walks the whole record, from the query's goal on.
+// What a walk tells: the cell behind the record, and which of the owed automata the words of the record meet.
+struct Reached {
+    pub next: usize,
+    pub met: AutomatonSet,
+}
+
+// Walks the whole record, from the query's goal on, which has to meet all that is owed.
 pub fn from_goal(
     table: &[Number],
     query: Query,
@@ -34,17 +51,20 @@ pub fn from_goal(
 ) -> usize
     requires { ⌜ Prepared (now table) query (now index) (now arcs) ⌝ }
     requires { ⌜ Members (now table) (terms .allowed) (query .depth) (terms .last) (now rows) ⌝ }
-    requires { ⌜ provable (now table) query (terms .allowed) (terms .constraints) ≡ true ⌝ }
+    requires { ⌜ terms .owed < allSets ⌝ }
+    requires { ⌜ provable (now table) query (terms .allowed) (terms .constraints) (terms .owed) ≡ true ⌝ }
     requires { ⌜ most < 2 ^ 63 ⌝ }
-    ensures { λ r. ⌜ Walked 0 most (written (firstForest (now (table .entry)) (terms .allowed) (terms .constraints) (query .depth)
-        nothingAbove (startingSets (now (table .entry))) (goalOf query ∷ []))) (now (rec .entry)) (now (rec .exit)) r ⌝ }
+    ensures { λ r. ⌜ Walked 0 most (written (firstForest (now (table .entry)) (terms .allowed) (terms .constraints) (terms .owed)
+        (query .depth) nothingAbove (startingSets (now (table .entry))) (eqb (terms .owed)) (goalOf query ∷ [])))
+        (now (rec .entry)) (now (rec .exit)) r ⌝ }
 {
-    walk(
+    let walked = walk(
         table,
         index,
         arcs,
         rows,
         terms,
+        Family::only(terms.owed),
         members::goal_person(index),
         members::goal_role(index),
         layout::wide(query.depth),
@@ -53,17 +73,19 @@ pub fn from_goal(
         most,
         0,
         rec,
-    )
+    );
+    walked.next
 }
 
-// Walks the record of the principal at `person` in the role at `place`, which goes into the cells from `at` on, and tells the
-// cell behind it. Where that lies beyond `most`, the walk may have stopped before.
+// Walks the record of the principal at `person` in the role at `place`, such that it meets a set of the family `wanted`. It goes into
+// the cells from `at` on. Where the cell behind it lies beyond `most`, the walk may have stopped before.
 fn walk(
     table: &[Number],
     index: &[u8],
     arcs: &[StateSet],
     rows: &[CredentialSet],
     terms: Terms,
+    wanted: Family,
     person: usize,
     place: usize,
     levels: usize,
@@ -72,15 +94,17 @@ fn walk(
     most: usize,
     at: usize,
     rec: &mut [Number],
-) -> usize
+) -> Reached
     requires { ⌜ Searched (now table) (now index) (now arcs) (now rows) (terms .allowed) levels (terms .last) ⌝ }
-    requires { ⌜ Stands (now table) person place ⌝ }
-    requires { ⌜ provesAt (now table) (terms .allowed) (terms .constraints) levels above states person place ≡ true ⌝ }
+    requires { ⌜ Stands (now table) person place × (place < credentials (now table)) ⌝ }
+    requires { ⌜ Wanted (terms .owed) wanted ⌝ }
+    requires { ⌜ suitsAll (now table) terms wanted levels above states (goalAt (now table) person place ∷ []) ≡ true ⌝ }
     requires { ⌜ (at ≤ most) × (most < 2 ^ 63) ⌝ }
-    ensures { λ r. ⌜ Walked at most (written (firstForest (now (table .entry)) (terms .allowed) (terms .constraints) levels above states
-        (goalAt (now (table .entry)) person place ∷ []))) (now (rec .entry)) (now (rec .exit)) r ⌝ }
+    ensures { λ r. ⌜ Walks (now (table .entry)) terms states
+        (firstOn (now (table .entry)) terms wanted levels above states (goalAt (now (table .entry)) person place ∷ []))
+        at most (now (rec .entry)) (now (rec .exit)) r ⌝ }
 {
-    let below = search::stepped(table, arcs, terms.constraints, place, states);
+    let below = search::stepped(table, arcs, terms.constraints | terms.owed, place, states);
     let deeper = above.with(person, place);
     let node = choice::choose(
         table,
@@ -88,6 +112,7 @@ fn walk(
         arcs,
         rows,
         terms,
+        wanted,
         person,
         place,
         levels - 1,
@@ -95,16 +120,171 @@ fn walk(
         deeper,
     );
     put(node.credential, node.middle, at, rec);
-    let len = node.len;
-    let persons = node.persons;
-    let places = node.places;
-    let mut next = at + 2;
+    let next = at + 2;
+    if node.asked.len == 0 {
+        return Reached {
+            next: next,
+            met: terms.owed & below.states.accepting(table, arcs),
+        };
+    }
+    if most < next {
+        return Reached {
+            next: next,
+            met: 0,
+        };
+    }
+    walk_asked(
+        table,
+        index,
+        arcs,
+        rows,
+        terms,
+        wanted,
+        node.asked,
+        levels - 1,
+        below.states,
+        deeper,
+        most,
+        next,
+        rec,
+    )
+}
+
+// Walks the records of the goals that are asked, in order. Each goal may meet what leaves to those behind it what they can meet of
+// what those before it have not met.
+fn walk_asked(
+    table: &[Number],
+    index: &[u8],
+    arcs: &[StateSet],
+    rows: &[CredentialSet],
+    terms: Terms,
+    wanted: Family,
+    asked: Asked,
+    levels: usize,
+    states: StateSets,
+    above: Above,
+    most: usize,
+    from: usize,
+    rec: &mut [Number],
+) -> Reached
+    requires { ⌜ Searched (now table) (now index) (now arcs) (now rows) (terms .allowed) levels (terms .last) ⌝ }
+    requires { ⌜ Children (now table) (terms .allowed) (terms .constraints) (terms .owed) levels above states
+        (goalsFrom (now table) asked 0) asked ⌝ }
+    requires { ⌜ Wanted (terms .owed) wanted ⌝ }
+    requires { ⌜ suitsAll (now table) terms wanted levels above states (goalsFrom (now table) asked 0) ≡ true ⌝ }
+    requires { ⌜ (from ≤ most) × (most < 2 ^ 63) ⌝ }
+    ensures { λ r. ⌜ Walks (now (table .entry)) terms states
+        (firstOn (now (table .entry)) terms wanted levels above states (goalsFrom (now (table .entry)) asked 0))
+        from most (now (rec .entry)) (now (rec .exit)) r ⌝ }
+{
+    let persons = asked.persons;
+    let places = asked.places;
+    let mut next = from;
+    let mut met = 0;
     let mut k = 0;
-    while k < len {
+    while k < asked.len {
+        let here = wanted_here(
+            table,
+            index,
+            arcs,
+            rows,
+            terms,
+            wanted,
+            met,
+            asked,
+            k + 1,
+            levels,
+            states,
+            above,
+        );
+        let walked = walk(
+            table,
+            index,
+            arcs,
+            rows,
+            terms,
+            here,
+            persons[k],
+            places[k],
+            levels,
+            states,
+            above,
+            most,
+            next,
+            rec,
+        );
+        next = walked.next;
         if most < next {
-            return next;
+            break;
         }
-        next = walk(
+        met = met | walked.met;
+        k += 1;
+    }
+    Reached {
+        next: next,
+        met: met,
+    }
+}
+
+// What the goal before the goals from `from` on may meet, where those before it have met `met`: where that is wanted already there is
+// nothing left to meet, and what the goals behind it can meet need not be known.
+fn wanted_here(
+    table: &[Number],
+    index: &[u8],
+    arcs: &[StateSet],
+    rows: &[CredentialSet],
+    terms: Terms,
+    wanted: Family,
+    met: AutomatonSet,
+    asked: Asked,
+    from: usize,
+    levels: usize,
+    states: StateSets,
+    above: Above,
+) -> Family
+    requires { ⌜ Searched (now table) (now index) (now arcs) (now rows) (terms .allowed) levels (terms .last) ⌝ }
+    requires { ⌜ Children (now table) (terms .allowed) (terms .constraints) (terms .owed) levels above states
+        (goalsFrom (now table) asked 0) asked ⌝ }
+    requires { ⌜ Wanted (terms .owed) wanted ⌝ }
+    requires { ⌜ (part met (terms .owed) ≡ true) × (from ≤ asked .len) ⌝ }
+    ensures { λ r. ⌜ FamilyOf (leaves (proves (now (table .entry)) (terms .allowed) (terms .constraints) (terms .owed) levels above states)
+        (terms .owed) (λ X. inFamily wanted (bitOr met X)) (goalsFrom (now (table .entry)) asked from)) r ⌝ }
+{
+    let now = Family::only(met);
+    if wanted.has(met) {
+        return wanted.left_by(now, terms.owed);
+    }
+    let later = met_from(table, index, arcs, rows, terms, asked, from, levels, states, above);
+    wanted.left_by(now.joined(later), terms.owed)
+}
+
+// What the goals from `from` on can meet together, the last of them first.
+fn met_from(
+    table: &[Number],
+    index: &[u8],
+    arcs: &[StateSet],
+    rows: &[CredentialSet],
+    terms: Terms,
+    asked: Asked,
+    from: usize,
+    levels: usize,
+    states: StateSets,
+    above: Above,
+) -> Family
+    requires { ⌜ Searched (now table) (now index) (now arcs) (now rows) (terms .allowed) levels (terms .last) ⌝ }
+    requires { ⌜ Children (now table) (terms .allowed) (terms .constraints) (terms .owed) levels above states
+        (goalsFrom (now table) asked 0) asked ⌝ }
+    requires { ⌜ (terms .owed < allSets) × (from ≤ asked .len) ⌝ }
+    ensures { λ r. ⌜ Told (terms .owed) (laterTest (now (table .entry)) (terms .allowed) (terms .constraints) (terms .owed) levels states
+        (goalsFrom (now (table .entry)) asked from)) above r ⌝ }
+{
+    let persons = asked.persons;
+    let places = asked.places;
+    let mut met = Family::only(0);
+    let mut k = asked.len;
+    while from < k {
+        k -= 1;
+        let one = search::goal_search(
             table,
             index,
             arcs,
@@ -112,16 +292,13 @@ fn walk(
             terms,
             persons[k],
             places[k],
-            levels - 1,
-            below.states,
-            deeper,
-            most,
-            next,
-            rec,
+            levels,
+            states,
+            above,
         );
-        k += 1;
+        met = one.joined(met);
     }
-    next
+    met
 }
 
 // A node's two numbers, where there are cells for both.

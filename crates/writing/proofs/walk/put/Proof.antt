@@ -2,7 +2,7 @@
 use native.Mathlib.Omega.{arith}
 use lib.ListN.{length-set}
 use denote.Ref.{now}
-use Rattle.writing.proofs.Nodes.{put-both, put-none}
+use Rattle.writing.proofs.Walking.{put-both, put-none}
 use borrow.Author.Needs.{needs}
 use Rattle.writing.proofs.walk.put.Statement.{statement}
 use Rattle.writing.proofs.walk.put.Tie as tie

@@ -1,0 +1,96 @@
+-- `writing::walk::met_from` meets its contract: what the goals from k on can meet together is found. Assumes nothing.
+use mathlib.Core.Path.{_≡_}
+use Prim.Native.Nat.{_-_, _≤_}
+use native.Mathlib.Omega.{arith}
+use Rattle.search.specs.Failing.{Told}
+use Rattle.search.specs.Asking.{pairsFrom}
+use Rattle.search.proofs.Answering.{asked-stands}
+use Rattle.writing.specs.Walked.{goalsAt, laterTest}
+use Rattle.writing.proofs.Later.{child-there, later-next, later-none}
+use borrow.Author.Needs.{needs}
+use Rattle.writing.proofs.walk.met_from.Statement.{statement}
+use Rattle.writing.proofs.walk.met_from.Tie as tie
+
+abbrev Inv-loop : tie.InvT-loop
+Inv-loop table index arcs rows terms from levels states above persons places met₀ k₀ met k =
+    (from ≤ k) × (k ≤ k₀)
+    × Told (terms .owed) (laterTest table (terms .allowed) (terms .constraints) (terms .owed) levels states
+    (goalsAt table (pairsFrom persons places (k₀ - k) k))) above met
+
+abbrev μ-loop : tie.MeasureT-loop
+μ-loop table index arcs rows terms from levels states above persons places met₀ k₀ met k = k
+
+-- the place where the loop begins, and the one where the call was asked
+abbrev start : tie.After-only Inv-loop μ-loop → tie.Start Inv-loop μ-loop
+start at = at .before .before .before .before .before .before .before
+
+only-requires : tie.Need-only-requires Inv-loop μ-loop
+only-requires c κs = omega arith
+
+loop-holds : tie.Need-loop-holds Inv-loop μ-loop
+loop-holds c = (start c .pre .1 .1 .1, omega arith, later-none _ _ _ _ _ _ _ _ _ (c .only .ensures))
+
+sub-k : tie.Need-sub-k Inv-loop μ-loop
+sub-k c = search needs
+
+mul-goal-search : tie.Need-mul-goal-search Inv-loop μ-loop
+mul-goal-search c = search needs
+
+array-read-goal-search : tie.Need-array-read-goal-search Inv-loop μ-loop
+array-read-goal-search c = omega (arith, c .loop-test .taken, c .before .loop .inv .1,
+    start (c .before .before) .pre .1 .0 .fits .few)
+
+mul-goal-search-2 : tie.Need-mul-goal-search-2 Inv-loop μ-loop
+mul-goal-search-2 c = search needs
+
+array-read-goal-search-2 : tie.Need-array-read-goal-search-2 Inv-loop μ-loop
+array-read-goal-search-2 c = omega (arith, c .loop-test .taken, c .before .loop .inv .1,
+    start (c .before .before) .pre .1 .0 .fits .few)
+
+goal-search-requires : tie.Need-goal-search-requires Inv-loop μ-loop
+goal-search-requires c κs =
+    let pre = start (c .before .before) .pre in
+    let few = c .before .loop .inv .1 in
+    (pre .0, (asked-stands _ (pre .1 .0 .stands) _ (omega (arith, c .loop-test .taken, few)), pre .1 .1 .0))
+
+joined-requires : tie.Need-joined-requires Inv-loop μ-loop
+joined-requires c κs = search needs
+
+loop-less : tie.Need-loop-less Inv-loop μ-loop
+loop-less c = search needs
+
+loop-again : tie.Need-loop-again Inv-loop μ-loop
+loop-again c =
+    let test = c .before .before .loop-test .taken in
+    let few = c .before .before .before .loop .inv .1 in
+    let there = child-there (start (c .before .before .before .before) .pre .1 .0) in (
+      omega (arith, test),
+      omega (arith, few),
+      later-next _ _ _ _ _ _ _ _ _ _ (omega (arith, test)) few (there _ (omega (arith, test, few))) (c .joined .ensures)
+          (c .before .goal-search .ensures) (c .before .before .before .loop .inv .2),
+    )
+
+returns : tie.Need-returns Inv-loop μ-loop
+returns c =
+    let last : c .before .loop .k ≡ start (c .before .before) .args .from =
+    omega (arith, c .loop-test .left, c .before .loop .inv .0) in
+    rw last at (c .before .loop .inv .2)
+
+pub met-from-spec : {M : Type 1} → statement M
+met-from-spec =
+    tie.close
+    (tie.spec
+    Inv-loop
+    μ-loop
+    only-requires
+    loop-holds
+    sub-k
+    mul-goal-search
+    array-read-goal-search
+    mul-goal-search-2
+    array-read-goal-search-2
+    goal-search-requires
+    joined-requires
+    loop-less
+    loop-again
+    returns)
