@@ -1,11 +1,14 @@
 -- The two passes: the first counts, without cells, so that they are as they were; the second writes what was counted.
-use mathlib.Core.Path.{_≡_, refl, ap, _∙_}
+use mathlib.Core.Path.{_≡_, refl, ap, ap₂, _∙_}
 use mathlib.Core.List.{List, [], _∷_, _++_}
 use mathlib.Core.Bool.{true}
 use Prim.Native.Nat.{ℕ, _+_, _<_, _≤_}
 use native.Mathlib.Omega.{arith}
 use native.Mathlib.Decide.{decLt}
 use lib.ListN.{length}
+use lib.Bits.{bitXor}
+use lib.Dec.{eqb}
+use Rattle.families.specs.Families.{allSets}
 use Rattle.sorted.specs.Sorted.{laid}
 use Rattle.table.specs.Outcome.{Outcome}
 use Rattle.table.specs.Outcome.Outcome.{accepted, refused}
@@ -16,13 +19,14 @@ use Rattle.table.proofs.Stages.{refused-then, then-on}
 use Rattle.automata.specs.Together.{startingSets}
 use Rattle.derivation.specs.Rules.{goalOf}
 use Rattle.derivation.specs.Forest.{written}
-use Rattle.derivation.specs.Attached.{automataOf}
+use Rattle.derivation.specs.Attached.{automataOf, everyOf, markedOf, owedOf}
 use Rattle.search.specs.Search.{provable}
 use Rattle.listing.specs.Minimal.{isMinimal}
 use Rattle.members.specs.Above.{nothingAbove}
 use Rattle.writing.specs.First.{firstForest, firstRecord}
 use Rattle.writing.specs.Walked.{Walked}
 use Rattle.writing.specs.Writing.{Tells, filled, recordAfter, writing}
+use Rattle.writing.proofs.Settling.{every-rest, owed-few}
 use Rattle.writing.proofs.Firsts.{minimal-provable}
 use Rattle.writing.proofs.Fitting.{tells-longer, tells-written}
 use Rattle.writing.proofs.Walking.{over-laid}
@@ -42,40 +46,54 @@ pub tells-instead : (t : List ℕ) (q : Query) (S : ℕ) (before : List ℕ) {af
     → after ≡ after′ → Tells t q S before after′ o′ → Tells t q S before after o
 tells-instead t q S before same held tells = rw (same, held) tells
 
--- a minimal set proves the query under its automata, which the code holds as A
-pub proves-under : (t : List ℕ) → WellFormed t → (q : Query) → Valid q → (S A : ℕ) → A ≡ automataOf t S → isMinimal t q S ≡ true
-    → provable t q S A ≡ true
-proves-under t wf q valid S A imposed listed = rw imposed (minimal-provable t wf q valid S listed)
+-- the automata of the set by their marks, as the code holds them: those that are imposed, and those that are owed
+pub record Settled (t : List ℕ) (S A O : ℕ) : Type 0 where
+  pub imposed : A ≡ everyOf t S
+  pub owed : O ≡ owedOf t S
 
--- with all automata of the set imposed, what is walked is the first record; there are as many cells as the most says
-module _ (t : List ℕ) (q : Query) (S A : ℕ) (imposed : A ≡ automataOf t S) (most : ℕ) where
+pub settled-by : (t : List ℕ) → WellFormed t → (S : ℕ) {borne O : ℕ} → borne ≡ automataOf t S → O ≡ markedOf t borne
+    → Settled t S (bitXor borne O) O
+unfolding owedOf
+settled-by t wf S all marked =
+    let owed = marked ∙ ap (markedOf t) all in
+    record { imposed = ap₂ bitXor all owed ∙ every-rest t wf S; owed = owed }
+
+module _ {t : List ℕ} (wf : WellFormed t) {S A O : ℕ} (by : Settled t S A O) where
+  pub owed-fits : O < allSets
+  owed-fits = rw (by .owed) (owed-few t wf S)
+
+  -- a minimal set proves the query under its automata
+  pub proves-under : (q : Query) → Valid q → isMinimal t q S ≡ true → provable t q S A O ≡ true
+  proves-under q valid listed = rw (by .imposed, by .owed) (minimal-provable t wf q valid S listed)
+
+-- what is walked is the first record; there are as many cells as the most says
+module _ {t : List ℕ} (q : Query) {S A O : ℕ} (by : Settled t S A O) (most : ℕ) where
   abbrev Pass : List ℕ → List ℕ → ℕ → Type 0
-  Pass = Walked 0 most (written (firstForest t S A (q .depth) nothingAbove (startingSets t) (goalOf q ∷ [])))
+  Pass = Walked 0 most (written (firstForest t S A O (q .depth) nothingAbove (startingSets t) (eqb O) (goalOf q ∷ [])))
 
-  pass-whole : {from to : List ℕ} {len : ℕ} → Pass from to len → len ≤ most → len ≡ length (firstRecord t q S)
+  walked-is : written (firstForest t S A O (q .depth) nothingAbove (startingSets t) (eqb O) (goalOf q ∷ [])) ≡ firstRecord t q S
   unfolding firstRecord
-  pass-whole counted room = rw (← imposed) (omega (arith, counted .whole room))
+  walked-is = rw (by .imposed, by .owed)
+
+  -- a pass over it
+  first-pass : {from to : List ℕ} {len : ℕ} → Pass from to len → Walked 0 most (firstRecord t q S) from to len
+  first-pass pass = rw walked-is at pass
 
   module _ (listed : isMinimal t q S ≡ true) {cells from to : List ℕ} (all : most ≡ length cells) {len : ℕ}
       (counted : Pass from to len) where
     pub counted-longer : most < len → Tells t q S cells cells (refused 16 0)
-    unfolding firstRecord
-    counted-longer less =
-        tells-longer t q S cells listed (rw (← imposed) (omega (arith, all, counted .stopped less)))
+    counted-longer less = tells-longer t q S cells listed (omega (arith, all, first-pass counted .stopped less))
 
     pub counted-written : len ≤ most → {after : List ℕ} {next : ℕ} → Pass cells after next → Tells t q S cells after (accepted len)
-    unfolding firstRecord
     counted-written room {after} {next} pass =
-        let len-is = pass-whole counted room in
-        tells-written t q S cells listed len-is (omega (arith, all))
-        (go (decLt most next))
+        let len-is : len ≡ length (firstRecord t q S) = omega (arith, first-pass counted .whole room) in
+        tells-written t q S cells listed len-is (omega (arith, all)) (go (decLt most next) (first-pass pass))
       where
-        go : Dec (most < next) → after ≡ laid (firstRecord t q S) cells
-        go (yes beyond) = absurd (omega (arith, rw imposed at (pass .stopped beyond), pass-whole counted room))
-        go (no fits) =
-            rw (← imposed)
-            (over-laid _ cells after (pass .size) (omega (arith, all, pass .whole (omega arith)))
-            (pass .over (omega arith) (omega (arith, all))))
+        go : Dec (most < next) → Walked 0 most (firstRecord t q S) cells after next → after ≡ laid (firstRecord t q S) cells
+        go (yes beyond) walked = absurd (omega (arith, walked .stopped beyond, first-pass counted .whole room))
+        go (no fits) walked =
+            over-laid _ cells after (walked .size) (omega (arith, all, walked .whole (omega arith)))
+            (walked .over (omega arith) (omega (arith, all)))
 
 -- past rows 1 to 8, and where they refuse
 module _ (t : List ℕ) (q : Query) (S : ℕ) (before : List ℕ) where

@@ -109,9 +109,12 @@ fn write_listed(
 {
     let mut rows = [0; members::TABLE_CELLS];
     let last = members::fill(table, index, set, layout::wide(query.depth), &mut rows);
+    let borne = derivation::automata_of(table, set);
+    let owed = derivation::marked(table, borne);
     let terms = Terms {
         allowed: set,
-        constraints: derivation::automata_of(table, set),
+        constraints: borne ^ owed,
+        owed: owed,
         last: last,
     };
     let cells = rec.len();

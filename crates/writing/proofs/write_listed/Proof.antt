@@ -5,14 +5,17 @@ use mathlib.Core.List.{List}
 use Prim.Native.Nat.{ℕ, _^_, _<_}
 use native.Mathlib.Omega.{arith}
 use lib.ListN.{length, length-take}
+use lib.Bits.{bitXor}
 use denote.Ref.{now}
+use Rattle.families.specs.Families.{allSets}
 use Rattle.derivation.proofs.Above.{depth-fits, depth-some}
 use Rattle.table.specs.Checks.{numberOf}
 use Rattle.members.specs.Members.{tableCells}
 use Rattle.members.proofs.Reading.{zeros}
 use Rattle.search.specs.Search.{provable}
 use Rattle.writing.specs.Writing.{writtenTold}
-use Rattle.writing.proofs.Passes.{counted-longer, counted-written, passed-by, proves-under, tells-instead}
+use Rattle.writing.proofs.Passes.{Settled, counted-longer, counted-written, owed-fits, passed-by, proves-under, settled-by}
+use Rattle.writing.proofs.Passes.{tells-instead}
 use borrow.Author.Needs.{needs}
 use Rattle.writing.proofs.write_listed.Statement.{statement}
 use Rattle.writing.proofs.write_listed.Tie as tie
@@ -37,6 +40,9 @@ fill-requires c κs =
 automata-of-requires : tie.Need-automata-of-requires
 automata-of-requires c κs = search needs
 
+marked-requires : tie.Need-marked-requires
+marked-requires c κs = search needs
+
 slice-aggregate-from-goal : tie.Need-slice-aggregate-from-goal
 slice-aggregate-from-goal c = search needs
 
@@ -51,7 +57,7 @@ abbrev Ready : Type 0
 Ready = tie.After-from-goal-arg
 
 abbrev asked : Ready → tie.Start
-asked at = at .before .before .before .before .before .before .before .before .before .before .before
+asked at = at .before .before .before .before .before .before .before .before .before .before .before .before
 
 abbrev cells : Ready → List ℕ
 cells at = now (asked at .args .rec)
@@ -60,17 +66,33 @@ cells at = now (asked at .args .rec)
 room : (at : Ready) → length (cells at) < 2 ^ 63
 room at = search needs
 
--- the set proves the query under its automata
-proves : (at : Ready) → let from = asked at .args in
-    provable (now (from .table)) (from .query) (from .set) (at .before .before .automata-of .result) ≡ true
-proves at =
+-- the automata of the set by their marks
+settled : (at : Ready) → let from = asked at .args in
+    Settled (now (from .table)) (from .set) (bitXor (at .before .before .before .automata-of .result) (at .before .before .marked .result))
+    (at .before .before .marked .result)
+settled at =
+    settled-by _ (asked at .pre .0 .wellFormed) _ (at .before .before .before .automata-of .ensures) (at .before .before .marked .ensures)
+
+-- what each walk asks: the set proves the query under its automata
+abbrev Walkable : Ready → Type 0
+Walkable at =
+    let from = asked at .args in
+    let owed = at .before .before .marked .result in
+    (owed < allSets) × (provable (now (from .table)) (from .query) (from .set)
+    (bitXor (at .before .before .before .automata-of .result) owed) owed ≡ true)
+
+walkable : (at : Ready) → Walkable at
+walkable at =
     let pre = asked at .pre in
-    proves-under _ (pre .0 .wellFormed) _ (pre .0 .valid) _ _ (at .before .before .automata-of .ensures) (pre .1)
+    let wf = pre .0 .wellFormed in
+    (owed-fits wf (settled at), proves-under wf (settled at) _ (pre .0 .valid) (pre .1))
 
 from-goal-requires : tie.Need-from-goal-requires
 from-goal-requires c κs =
-    let filled = c .before .before .before .before in
-    (asked c .pre .0, (rw (filled .before .before .wide .ensures .0) at (filled .fill .ensures), (proves c, room c)))
+    let filled = c .before .before .before .before .before in (
+      asked c .pre .0,
+      (rw (filled .before .before .wide .ensures .0) at (filled .fill .ensures), (walkable c .0, (walkable c .1, room c))),
+    )
 
 refused-requires : tie.Need-refused-requires
 refused-requires c κs = search needs
@@ -86,7 +108,7 @@ returns c =
     let at = c .before .before .before .before .before in
     let counted = c .before .before .before .before .from-goal .ensures in
     tells-instead _ _ _ _ (c .refused .ensures) (passed-by counted (cells at))
-    (counted-longer _ _ _ _ (at .before .before .automata-of .ensures) _ (asked at .pre .1) refl counted (c .before .if1 .taken))
+    (counted-longer _ (settled at) _ (asked at .pre .1) refl counted (c .before .if1 .taken))
 
 slice-aggregate-from-goal-3 : tie.Need-slice-aggregate-from-goal-3
 slice-aggregate-from-goal-3 c = search needs
@@ -94,8 +116,10 @@ slice-aggregate-from-goal-3 c = search needs
 from-goal-requires-2 : tie.Need-from-goal-requires-2
 from-goal-requires-2 c κs =
     let at = c .before .before .before .before .before .before in
-    let filled = at .before .before .before .before in
-    (asked at .pre .0, (rw (filled .before .before .wide .ensures .0) at (filled .fill .ensures), (proves at, room at)))
+    let filled = at .before .before .before .before .before in (
+      asked at .pre .0,
+      (rw (filled .before .before .wide .ensures .0) at (filled .fill .ensures), (walkable at .0, (walkable at .1, room at))),
+    )
 
 same-length-2 : tie.Need-same-length-2
 same-length-2 c =
@@ -108,7 +132,7 @@ unfolding writtenTold
 returns-2 c =
     let at = c .before .before .before .before .before .before .before .before .before in
     let counted = c .before .before .before .before .before .before .before .before .from-goal .ensures in
-    counted-written _ _ _ _ (at .before .before .automata-of .ensures) _ (asked at .pre .1) refl counted
+    counted-written _ (settled at) _ (asked at .pre .1) refl counted
     (c .before .before .before .before .before .if1 .left)
     (rw (passed-by counted (cells at)) at (c .before .before .from-goal2 .ensures))
 
@@ -120,6 +144,7 @@ write-listed-spec =
     slice-aggregate-fill
     fill-requires
     automata-of-requires
+    marked-requires
     slice-aggregate-from-goal
     slice-relend-prefix-from-goal
     slice-aggregate-from-goal-2

@@ -1,10 +1,14 @@
 -- `writing::walk::from_goal` meets its contract. Assumes nothing.
 use native.Mathlib.Omega.{arith}
 use Rattle.search.proofs.Starting.{goal-searched}
-use Rattle.writing.proofs.Beginning.{begins-proved, begins-stands, begins-walked}
+use Rattle.writing.proofs.Beginning.{begins-stands, begins-suits, begins-there, begins-walked, begins-wanted}
+use Rattle.writing.proofs.Later.{wants-family}
 use borrow.Author.Needs.{needs}
 use Rattle.writing.proofs.walk.from_goal.Statement.{statement}
 use Rattle.writing.proofs.walk.from_goal.Tie as tie
+
+only-requires : tie.Need-only-requires
+only-requires c κs = search needs
 
 goal-person-requires : tie.Need-goal-person-requires
 goal-person-requires c κs = search needs
@@ -26,7 +30,7 @@ abbrev Ready : Type 0
 Ready = tie.After-start
 
 abbrev asked : Ready → tie.Start
-asked at = at .before .before .before .before .before .before .before .before .before
+asked at = at .before .before .before .before .before .before .before .before .before .before
 
 walk-requires : tie.Need-walk-requires
 walk-requires c κs =
@@ -34,13 +38,20 @@ walk-requires c κs =
     let pre = asked at .pre in
     let who = at .before .before .before .goal-person .ensures .0 in
     let place = at .before .before .goal-role .ensures .0 in
-    let levels = at .before .wide .ensures .0 in (
+    let only = at .before .before .before .before .only .ensures in
+    let levels = at .before .wide .ensures .0 in
+    let few = pre .1 .1 .0 in
+    let proved = pre .1 .1 .1 .0 in (
       goal-searched (pre .0) levels (pre .1 .0),
       (
-        begins-stands (pre .0) (pre .1 .0) _ (pre .1 .1 .0) who place,
+        (begins-stands (pre .0) (pre .1 .0) _ _ few proved who place, begins-there (pre .0) (pre .1 .0) _ _ few proved who place),
         (
-          rw (c .before .nothing .ensures) (begins-proved (pre .0) (pre .1 .0) _ (pre .1 .1 .0) who place _ _ levels (at .start .ensures)),
-          (omega arith, pre .1 .1 .1),
+          wants-family (begins-wanted (pre .0) (pre .1 .0) _ _ few proved who place _ only),
+          (
+            rw (c .before .nothing .ensures)
+            (begins-suits (pre .0) (pre .1 .0) _ _ few proved who place _ only _ _ levels (at .start .ensures)),
+            (omega arith, pre .1 .1 .1 .1),
+          ),
         ),
       ),
     )
@@ -54,13 +65,15 @@ returns c =
     let pre = asked at .pre in
     let who = at .before .before .before .goal-person .ensures .0 in
     let place = at .before .before .goal-role .ensures .0 in
-    begins-walked (pre .0) (pre .1 .0) _ (pre .1 .1 .0) who place _ _ (at .before .wide .ensures .0) (at .start .ensures) _ _ _ _
-    (rw (c .before .before .before .before .nothing .ensures) at (c .before .before .walk .ensures))
+    begins-walked (pre .0) (pre .1 .0) _ _ (pre .1 .1 .0) (pre .1 .1 .1 .0) who place _ (at .before .before .before .before .only .ensures)
+    _ _ (at .before .wide .ensures .0) (at .start .ensures) _ _ _ _
+    (rw (c .before .before .before .before .nothing .ensures) at (c .before .before .walk .ensures .walked))
 
 pub from-goal-spec : {M : Type 1} → statement M
 from-goal-spec =
     tie.close
     (tie.spec
+    only-requires
     goal-person-requires
     goal-role-requires
     wide-requires
