@@ -119,13 +119,12 @@ module _ {t : List ℕ} {S A O levels : ℕ} {above deeper : Above} {s below : S
   -- it can meet a set that is wanted
   can-meet : (X : ℕ) × (X ≤ O) × (wants X ≡ true) × (proves t S A O (suc (levels - 1)) above s g X ≡ true)
   can-meet =
-      let (X, owed, is, shared) = suits-shows (entered .wanted) _ (g ∷ []) (entered .suited) in
-      (
+      let (X, owed, is, shared) = suits-shows (entered .wanted) _ (g ∷ []) (entered .suited) in (
         X,
         part-le X O owed,
         is,
         rw one-less (shares-alone (proves t S A O levels above s) O
-        (λ Y Y′ h. proves-less t S A O levels above s h Y Y′) g X shared),
+            (λ Y Y′ h. proves-less t S A O levels above s h Y Y′) g X shared),
       )
 
   -- some credential proves it
@@ -187,7 +186,7 @@ module _ {t : List ℕ} {S A O levels : ℕ} {above deeper : Above} {s below : S
           ∙ ap written (first-end t S A O deeper below wants (levels - 1)) in (
             rw (tree-written, ended) (walked-any put most),
             (λ room. sym (tree-met ∙ ap (λ gs. nodeMet t A O below gs (firstForest t S A O (levels - 1) deeper below wants gs)) nothing
-            ∙ ap (bitAnd O) (sym accepting-is))),
+                ∙ ap (bitAnd O) (sym accepting-is))),
           )
         where
           no-goals : (goals : List Goal) → length goals ≡ 0 → goals ≡ []
@@ -208,6 +207,6 @@ module _ {t : List ℕ} {S A O levels : ℕ} {above deeper : Above} {s below : S
           let same = children-goals (chosen .children) in (
             rw tree-written (walked-then put (rw (← same) at on)),
             (λ room. meets room
-            ∙ ap (λ gs. metFrom t A O below (firstForest t S A O (levels - 1) deeper below wants gs)) (sym same)
-            ∙ sym (tree-met ∙ node-asks t A O below asks children (λ none. some-goals (chosen .children .count ∙ none)))),
+                ∙ ap (λ gs. metFrom t A O below (firstForest t S A O (levels - 1) deeper below wants gs)) (sym same)
+                ∙ sym (tree-met ∙ node-asks t A O below asks children (λ none. some-goals (chosen .children .count ∙ none)))),
           )

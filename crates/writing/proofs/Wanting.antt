@@ -58,8 +58,7 @@ pub shared-owed : {G : Type 0} (one : G → ℕ → Bool) (O : ℕ) → Lessens 
 shared-owed one O less g goals X owed shared =
     let by = shares-shows one O g goals X shared in
     let Y = by .first in
-    let Z = by .others in
-    (
+    let Z = by .others in (
       bitAnd Y O,
       bitAnd Z O,
       and-part Y O,
@@ -183,8 +182,7 @@ module _ {O : ℕ} {wants : ℕ → Bool} (wanted : Wanted O wants) where
       → (Y : ℕ) × (Y ≤ O) × (leaves one O wants goals Y ≡ true) × (one g Y ≡ true)
   first-suits one less g goals h =
       let (X, owed, is, shared) = suits-shows one (g ∷ goals) h in
-      let (Y, Z, few, few′, first, others, together) = shared-owed one O less g goals X owed shared in
-      (
+      let (Y, Z, few, few′, first, others, together) = shared-owed one O less g goals X owed shared in (
         Y,
         part-le Y O few,
         leaves-reached one goals Y Z few (part-le Z O few′) others (wanted .upward X (bitOr Y Z) together (part-or Y Z O few few′) is),

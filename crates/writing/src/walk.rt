@@ -128,10 +128,7 @@ fn walk(
         };
     }
     if most < next {
-        return Reached {
-            next: next,
-            met: 0,
-        };
+        return Reached { next: next, met: 0 };
     }
     walk_asked(
         table,
@@ -254,7 +251,18 @@ fn wanted_here(
     if wanted.has(met) {
         return wanted.left_by(now, terms.owed);
     }
-    let later = met_from(table, index, arcs, rows, terms, asked, from, levels, states, above);
+    let later = met_from(
+        table,
+        index,
+        arcs,
+        rows,
+        terms,
+        asked,
+        from,
+        levels,
+        states,
+        above,
+    );
     wanted.left_by(now.joined(later), terms.owed)
 }
 

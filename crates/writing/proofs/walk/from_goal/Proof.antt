@@ -49,7 +49,7 @@ walk-requires c κs =
           wants-family (begins-wanted (pre .0) (pre .1 .0) _ _ few proved who place _ only),
           (
             rw (c .before .nothing .ensures)
-            (begins-suits (pre .0) (pre .1 .0) _ _ few proved who place _ only _ _ levels (at .start .ensures)),
+                (begins-suits (pre .0) (pre .1 .0) _ _ few proved who place _ only _ _ levels (at .start .ensures)),
             (omega arith, pre .1 .1 .1 .1),
           ),
         ),

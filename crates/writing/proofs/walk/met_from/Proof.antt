@@ -37,15 +37,23 @@ mul-goal-search : tie.Need-mul-goal-search Inv-loop μ-loop
 mul-goal-search c = search needs
 
 array-read-goal-search : tie.Need-array-read-goal-search Inv-loop μ-loop
-array-read-goal-search c = omega (arith, c .loop-test .taken, c .before .loop .inv .1,
-    start (c .before .before) .pre .1 .0 .fits .few)
+array-read-goal-search c = omega (
+  arith,
+  c .loop-test .taken,
+  c .before .loop .inv .1,
+  start (c .before .before) .pre .1 .0 .fits .few,
+)
 
 mul-goal-search-2 : tie.Need-mul-goal-search-2 Inv-loop μ-loop
 mul-goal-search-2 c = search needs
 
 array-read-goal-search-2 : tie.Need-array-read-goal-search-2 Inv-loop μ-loop
-array-read-goal-search-2 c = omega (arith, c .loop-test .taken, c .before .loop .inv .1,
-    start (c .before .before) .pre .1 .0 .fits .few)
+array-read-goal-search-2 c = omega (
+  arith,
+  c .loop-test .taken,
+  c .before .loop .inv .1,
+  start (c .before .before) .pre .1 .0 .fits .few,
+)
 
 goal-search-requires : tie.Need-goal-search-requires Inv-loop μ-loop
 goal-search-requires c κs =
