@@ -11,14 +11,14 @@ use lib.ListN.{length}
 use lib.Bits.{bitOr}
 use borrow.Author.Tests.{ne-eqb}
 use Rattle.sets.specs.Logic.{pick}
-use Rattle.sets.specs.Sets.{inSet, part}
+use Rattle.sets.specs.Sets.{inSet}
 use Rattle.sets.proofs.Tests.{and-both, and-second}
 use Rattle.sets.proofs.Members.{part-le}
 use Rattle.table.specs.Holding.{WellFormed}
 use Rattle.table.specs.declared.Role.{Role}
 use Rattle.table.specs.declared.Goal.{Goal}
 use Rattle.automata.specs.declared.StateSets.{StateSets}
-use Rattle.derivation.specs.Rules.{premises}
+use Rattle.derivation.specs.Rules.{fresh, premises}
 use Rattle.derivation.specs.Forest.{Derives, Forest, written}
 use Rattle.derivation.specs.Forest.Forest.{end, node}
 use Rattle.derivation.specs.Forest.Derives.{done, step}
@@ -33,13 +33,13 @@ use Rattle.search.specs.Search.{AllAccept, UsesOnly, ends, proves, shares}
 use Rattle.search.proofs.Naming.{middle-tried, tried-proves}
 use Rattle.search.proofs.Within.{only-below, only-here, only-later}
 use Rattle.search.proofs.Searching.{Led, derived-proves, led-on, nodeWords, node-accepted, words-split}
-use Rattle.choice.specs.Choice.{asked, suits}
+use Rattle.choice.specs.Choice.{asked}
 use Rattle.writing.specs.First.{firstForest, metFrom}
 use Rattle.writing.proofs.Wanting.{Wanted, ends-reached, leaves-reached, suits-reached, wanted-after, wanted-here}
 use Rattle.writing.proofs.Meeting.{met-alone, met-few, met-node, met-shared, node-accepts, node-asks, node-few, nodeMet}
 use Rattle.writing.proofs.LeastNode.{least-credential-least, least-middle-least}
 use Rattle.writing.proofs.FirstNode.{first-end, first-node, firstAsked, firstBelow, firstCredential, firstMiddle}
-use Rattle.writing.proofs.FirstNode.{metHere, pairsBelow, provedBelow, setsBelow, suitsBelow, wantsBehind, wantsHere, wordEnds}
+use Rattle.writing.proofs.FirstNode.{metHere, provedBelow, setsBelow, suitsBelow, wantsBehind, wantsHere, wordEnds}
 use Rattle.writing.proofs.FirstShown.{NodeShows, first-shows, node-shown}
 use Rattle.writing.proofs.Ordering.{Order, order-next, order-then}
 use Rattle.writing.proofs.Ordering.Order.{same}
@@ -129,36 +129,84 @@ module _ (t : List ℕ) (wf : WellFormed t) (S A O : ℕ) where
       (λ all′ met′. derived-proves t wf S A O d only _ (on-next t (wf .sized .counted .fewCredentials) branch above g on) word below after
       all′ X few met′)))
 
+-- another derivation of some goals, by its first node and what follows, which meets what is wanted
+module _ (t : List ℕ) (wf : WellFormed t) (S A O levels : ℕ) {branch goals rest : List Goal} (g : Goal) (c m : ℕ) (ch si : Forest)
+    (applies : premises t g c m ≡ some goals) (new : fresh branch g ≡ true) (d : Derives t levels (g ∷ branch) goals ch)
+    (later : Derives t (suc levels) branch rest si) (only : UsesOnly (node c m ch si) S) (above : Above) (on : OnBranch t branch above)
+    (w : List Role) (s : StateSets) (led : Led t (bitOr A O) s w) (all : AllAccept t A (words t w (node c m ch si)))
+    (wants : ℕ → Bool) (wanted : Wanted O wants) (met : wants (metFrom t A O s (node c m ch si)) ≡ true) where
+  abbrev one : Goal → ℕ → Bool
+  one = proves t S A O (suc levels) above s
+
+  abbrev here : ℕ → Bool
+  here = wantsHere t S A O levels above s wants g rest
+
+  abbrev below : StateSets
+  below = setsBelow t S A O levels above s here g
+
+  abbrev firsts : Forest
+  firsts = firstBelow t S A O levels above s here g goals
+
+  abbrev behind : ℕ → Bool
+  behind = wantsBehind t S A O levels above s wants g rest
+
+  here-wanted : Wanted O here
+  here-wanted = wanted-here wanted one rest
+
+  parted : AllAccept t A (nodeWords t goals (w ++ (g .role ∷ [])) ch) × AllAccept t A (words t w si)
+  parted = words-split t wf A g c m goals applies w ch si all
+
+  -- what the node meets, with what follows
+  meets : wants (bitOr (nodeMet t A O below goals ch) (metFrom t A O s si)) ≡ true
+  meets = sym (ap wants (met-node t A O wf g c m goals applies s ch si)) ∙ met
+
+  -- so the goal may meet it
+  may : here (nodeMet t A O below goals ch) ≡ true
+  may =
+      leaves-reached wanted one rest _ (metFrom t A O s si) (node-few t A O below goals ch) (part-le _ O (met-few t A O si s))
+      (met-shared t wf A O S later (only-later S c m ch si only) above on w s led (parted .1)) meets
+
+  may-below : (length goals ≡ 0 → ⊥) → here (metFrom t A O below ch) ≡ true
+  may-below asks = sym (ap here (node-asks t A O below goals ch asks)) ∙ may
+
+  first : NodeShows t S A levels branch w g (firstCredential t S A O levels above s here g) (firstMiddle t S A O levels above s here g)
+      (firstAsked t S A O levels above s here g) (firstBelow t S A O levels above s here g (firstAsked t S A O levels above s here g))
+  first =
+      node-shown t wf S A O levels (first-shows t wf S A O levels) above on w s led wants wanted g rest
+      (suits-reached wanted one (g ∷ rest) (metFrom t A O s (node c m ch si)) (part-le _ O (met-few t A O (node c m ch si) s)) met
+      (met-shared t wf A O S (step applies new d later) only above on w s led all))
+
+  -- where what the goals ask is in order, and what follows is where both nodes have met the same
+  step-order : Order (written firsts) (written ch)
+      → (behind (metFrom t A O s si) ≡ true → Order (written (firstForest t S A O (suc levels) above s behind rest)) (written si))
+      → Order (written (firstForest t S A O (suc levels) above s wants (g ∷ rest))) (written (node c m ch si))
+  unfolding written
+  step-order children after =
+      rw (first-node t S A O levels above s wants g rest)
+      (node-order t wf S A O levels above s here g c m goals applies (only-here S c m ch si only) d
+      (node-proved t wf S A O above on w s here here-wanted g c m applies d (only-below S c m ch si only) led (parted .0) may)
+      children
+      (λ e e′ alike.
+      let now = same-met t wf S A O levels above s here g c m goals applies first d e e′ alike in
+      after (ap (λ x. wants (bitOr x (metFrom t A O s si))) now ∙ meets)))
+
+module _ (t : List ℕ) (wf : WellFormed t) (S A O : ℕ) where
   pub first-order : {levels : ℕ} {branch goals : List Goal} {f : Forest} → Derives t levels branch goals f → UsesOnly f S
-      → (above : Above) → OnBranch t branch above → (w : List Role) (s : StateSets) → Led t (bitOr A O) s w → AllAccept t A (words t w f)
-      → (wants : ℕ → Bool) → Wanted O wants → ((length goals ≡ 0 → ⊥) → wants (metFrom t A O s f) ≡ true)
+      → (above : Above) → OnBranch t branch above → (w : List Role) (s : StateSets) → Led t (bitOr A O) s w
+      → AllAccept t A (words t w f) → (wants : ℕ → Bool) → Wanted O wants
+      → ((length goals ≡ 0 → ⊥) → wants (metFrom t A O s f) ≡ true)
       → Order (written (firstForest t S A O levels above s wants goals)) (written f)
   unfolding written
   first-order (done {levels}) only above on w s led all wants wanted met = rw (first-end t S A O above s wants levels) same
   first-order (step {levels} {c} {m} {branch} {goals} {rest} {g} {children = ch} {siblings = si} applies new d later)
       only above on w s led all wants wanted met =
-      let (own-words, after) = words-split t wf A g c m goals applies w ch si all in
-      let word = w ++ (g .role ∷ []) in
-      let kept = only-below S c m ch si only in
-      let one = proves t S A O (suc levels) above s in
-      let here = wantsHere t S A O levels above s wants g rest in
-      let wanted₁ = wanted-here wanted one rest in
-      let below = setsBelow t S A O levels above s here g in
-      let now = nodeMet t A O below goals ch in
-      let meets = sym (ap wants (met-node t A O wf g c m goals applies s ch si)) ∙ met (λ e. omega arith) in
-      let may = leaves-reached wanted one rest now (metFrom t A O s si) (node-few t A O below goals ch)
-      (part-le _ O (met-few t A O si s)) (met-shared t wf A O S later (only-later S c m ch si only) above on w s led after) meets in
-      let suited = suits-reached wanted one (g ∷ rest) (metFrom t A O s (node c m ch si)) (part-le _ O (met-few t A O (node c m ch si) s))
-      (met (λ e. omega arith)) (met-shared t wf A O S (step applies new d later) only above on w s led all) in
-      let first = node-shown t wf S A O levels (first-shows t wf S A O levels) above on w s led wants wanted g rest suited in
-      rw (first-node t S A O levels above s wants g rest)
-      (node-order t wf S A O levels above s here g c m goals applies (only-here S c m ch si only) d
-      (node-proved above on w s here wanted₁ g c m applies d kept led own-words may)
-      (first-order d kept _ (on-next t (wf .sized .counted .fewCredentials) branch above g on) word below
-      (led-on t (bitOr A O) s w (g .role) led) (below-accepted word d own-words) here wanted₁
-      (λ some. sym (ap here (node-asks t A O below goals ch some)) ∙ may))
-      (λ e e′ alike.
-      let now-same = same-met t wf S A O levels above s here g c m goals applies first d e e′ alike in
-      first-order later (only-later S c m ch si only) above on w s led after (wantsBehind t S A O levels above s wants g rest)
-      (wanted-after wanted (metHere t S A O levels above s wants g rest) (met-few t A O _ s))
-      (λ some. ap (λ x. wants (bitOr x (metFrom t A O s si))) now-same ∙ meets)))
+      let asks : length (g ∷ rest) ≡ 0 → ⊥ = λ e. omega arith in
+      let both = parted t wf S A O levels g c m ch si applies new d later only above on w s led all wants wanted (met asks) in
+      step-order t wf S A O levels g c m ch si applies new d later only above on w s led all wants wanted (met asks)
+      (first-order d (only-below S c m ch si only) _ (on-next t (wf .sized .counted .fewCredentials) branch above g on)
+      (w ++ (g .role ∷ [])) _ (led-on t (bitOr A O) s w (g .role) led)
+      (below-accepted t wf S A O (w ++ (g .role ∷ [])) d (both .0)) _ (wanted-here wanted _ rest)
+      (may-below t wf S A O levels g c m ch si applies new d later only above on w s led all wants wanted (met asks)))
+      (λ behind-met.
+      first-order later (only-later S c m ch si only) above on w s led (both .1) _
+      (wanted-after wanted (metHere t S A O levels above s wants g rest) (met-few t A O _ s)) (λ some-goals. behind-met))
