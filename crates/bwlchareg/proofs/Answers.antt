@@ -26,6 +26,7 @@ answered-refusal reason.Branch position = refl
 answered-refusal reason.Word position = refl
 answered-refusal reason.NotListed position = refl
 answered-refusal reason.LongerRecord position = refl
+answered-refusal reason.Mark position = refl
 
 -- the callee's answer r, which the call finds to be r′ and tells, has the outcome p
 pub told-as : {A : Type 0} (answer : A → Outcome) {r r′ : A} {o p : Outcome} → o ≡ answer r′ → r ≡ r′ → answer r ≡ p → o ≡ p
