@@ -1,9 +1,9 @@
--- What is wanted is asked only of sets of the eight automata: where two tests agree on these, the first derivations are the same. And
--- that of one goal alone is its tree.
+-- What is wanted is asked only of sets of the eight automata: where two tests agree on these, the first derivations are the
+-- same. And that of one goal alone is its tree.
 use mathlib.Core.Path.{_≡_, refl, sym, ap, ap₂, fun-ext, _∙_}
 use mathlib.Core.List.{List, [], _∷_}
 use mathlib.Core.Bool.{Bool, true, false}
-use Prim.Native.Nat.{ℕ, zero, suc, _<_, _≤_}
+use Prim.Native.Nat.{ℕ, zero, suc, _<_}
 use native.Mathlib.Omega.{arith}
 use lib.Bits.{bitOr, or-lt, or-zero-r}
 use borrow.Author.Tests.{eq-eqb, eqb-true}
@@ -67,7 +67,8 @@ module _ (O : ℕ) (few : O < allSets) (wants wants′ : ℕ → Bool) (alike : 
       part-less X Y within less = part-trans X Y O less within
 
 module _ (t : List ℕ) (S A O : ℕ) (few : O < allSets) where
-  pub first-alike : (levels : ℕ) (above : Above) (s : StateSets) (wants wants′ : ℕ → Bool) → Alike wants wants′ → (goals : List Goal)
+  pub first-alike : (levels : ℕ) (above : Above) (s : StateSets) (wants wants′ : ℕ → Bool) → Alike wants wants′
+      → (goals : List Goal)
       → firstForest t S A O levels above s wants goals ≡ firstForest t S A O levels above s wants′ goals
   first-alike zero above s wants wants′ alike goals =
       first-floor t S A O above s wants goals ∙ sym (first-floor t S A O above s wants′ goals)
@@ -77,10 +78,12 @@ module _ (t : List ℕ) (S A O : ℕ) (few : O < allSets) where
       let here : wantsHere t S A O levels above s wants g rest ≡ wantsHere t S A O levels above s wants′ g rest =
       leaves-alike O few wants wants′ alike (proves t S A O (suc levels) above s) rest in
       let now : (ℕ → Bool) → ℕ = λ may. metFrom t A O s (firstTree t S A O levels above s may g end) in
-      let less = part-le _ O (met-few t A O (firstTree t S A O levels above s (wantsHere t S A O levels above s wants g rest) g end) s) in
+      let less = part-le _ O
+      (met-few t A O (firstTree t S A O levels above s (wantsHere t S A O levels above s wants g rest) g end) s) in
       first-node t S A O levels above s wants g rest
       ∙ ap₂ (firstTreeOf levels above s g) here
-      (first-alike (suc levels) above s (wantsBehind t S A O levels above s wants g rest) (wantsBehind t S A O levels above s wants′ g rest)
+      (first-alike (suc levels) above s (wantsBehind t S A O levels above s wants g rest)
+      (wantsBehind t S A O levels above s wants′ g rest)
       (λ X l.
       alike (bitOr (now (wantsHere t S A O levels above s wants g rest)) X)
       (or-lt 8 (now (wantsHere t S A O levels above s wants g rest)) X (omega arith) l)
@@ -91,7 +94,8 @@ module _ (t : List ℕ) (S A O : ℕ) (few : O < allSets) where
       firstTreeOf : ℕ → Above → StateSets → Goal → (ℕ → Bool) → Forest → Forest
       firstTreeOf levels above s g may = firstTree t S A O levels above s may g
 
-  pub tree-alike : (levels : ℕ) (above : Above) (s : StateSets) (g : Goal) (here here′ : ℕ → Bool) → Alike here here′ → (f : Forest)
+  pub tree-alike : (levels : ℕ) (above : Above) (s : StateSets) (g : Goal) (here here′ : ℕ → Bool) → Alike here here′
+      → (f : Forest)
       → firstTree t S A O levels above s here g f ≡ firstTree t S A O levels above s here′ g f
   tree-alike levels above s g here here′ alike f =
       let below = setsBelow t S A O levels above s here g in

@@ -1,5 +1,5 @@
--- The walk begins at the query's goal, which can meet all that is owed: principal and role stand at the places that the index has for
--- them, and a family that has this one set says what is wanted.
+-- The walk begins at the query's goal, which can meet all that is owed: principal and role stand at the places that the index
+-- has for them, and a family that has this one set says what is wanted.
 use mathlib.Core.Path.{_≡_, refl, sym, ap, ap₂, _∙_}
 use mathlib.Core.List.{List, [], _∷_}
 use mathlib.Core.Bool.{true}
@@ -30,7 +30,8 @@ use Rattle.writing.proofs.Wanting.{Wanted, suits-alone, wanted-all}
 use Rattle.writing.proofs.Alike.{first-alike, wanted-alike}
 
 module _ {t : List ℕ} {q : Query} {index arcs rows : List ℕ} {S last : ℕ} (prepared : Prepared t q index arcs)
-    (members : Members t S (q .depth) last rows) (A O : ℕ) (few : O < allSets) (proved : provable t q S A O ≡ true) {person place : ℕ}
+    (members : Members t S (q .depth) last rows) (A O : ℕ) (few : O < allSets) (proved : provable t q S A O ≡ true)
+    {person place : ℕ}
     (who : person ≡ getD index goalPerson 0) (role-at : place ≡ getD index goalRole 0) where
   named : person < credentials t
   named = go (decLt person (credentials t))
@@ -69,7 +70,8 @@ module _ {t : List ℕ} {q : Query} {index arcs rows : List ℕ} {S last : ℕ} 
       unfolding provesAt
       begins-suits =
           rw (levels, starts)
-          (suits-alone begins-wanted (proves t S A O (q .depth) nothingAbove (startingSets t)) (goalAt t person place) O (omega arith)
+          (suits-alone begins-wanted (proves t S A O (q .depth) nothingAbove (startingSets t)) (goalAt t person place) O
+          (omega arith)
           (only O few ∙ eq-eqb O O refl) (and-second _ _ found))
 
       pub begins-walked : (most : ℕ) (before after : List ℕ) (next : ℕ)
@@ -78,5 +80,11 @@ module _ {t : List ℕ} {q : Query} {index arcs rows : List ℕ} {S last : ℕ} 
           → Walked 0 most (written (firstForest t S A O (q .depth) nothingAbove (startingSets t) (eqb O) (goalOf q ∷ [])))
           before after next
       begins-walked most before after next walked =
-          rw (levels, starts, begins-goal, first-alike t S A O few (q .depth) nothingAbove (startingSets t) (inFamily wanted) (eqb O) only)
+          rw (
+            levels,
+            starts,
+            begins-goal,
+            first-alike t S A O few (q .depth) nothingAbove (startingSets t) (inFamily wanted)
+                (eqb O) only,
+          )
           at walked

@@ -1,17 +1,15 @@
 -- From child to child: the record of some goals is that of the first, who may meet what leaves to the others what these can, and
 -- behind it that of the others, who have to meet what the first has not. `met` is what all children so far have met together.
-use mathlib.Core.Path.{_≡_, refl, sym, ap, ap₂, fun-ext, _∙_}
+use mathlib.Core.Path.{_≡_, refl, sym, ap, fun-ext, _∙_}
 use mathlib.Core.List.{List, [], _∷_, _++_, append-assoc, append-nil}
 use mathlib.Core.Bool.{Bool, true}
 use Prim.Native.Nat.{ℕ, zero, suc, _+_, _<_, _≤_}
-use native.Mathlib.Omega.{arith}
 use lib.ListN.{getD}
 use lib.Bits.{bitOr, or-zero-r}
 use Rattle.sets.specs.Sets.{inSet, part}
 use Rattle.sets.specs.Logic.{_or_}
 use Rattle.sets.proofs.Tests.{or-assoc}
 use Rattle.sets.proofs.Members.{inSet-or, part-or, part-zero, same-members}
-use Rattle.families.specs.Families.{allSets}
 use Rattle.table.specs.Holding.{WellFormed}
 use Rattle.table.specs.declared.Goal.{Goal}
 use Rattle.automata.specs.declared.StateSets.{StateSets}
@@ -27,7 +25,7 @@ use Rattle.writing.specs.First.{firstForest, leaves, metFrom}
 use Rattle.writing.specs.Walked.{Walked, goalsAt, goalsFrom}
 use Rattle.writing.proofs.Wanting.{Wanted, first-suits, suits-alone, wanted-after, wanted-here}
 use Rattle.writing.proofs.Meeting.{met-end, met-few, met-split}
-use Rattle.writing.proofs.FirstNode.{first-end, first-node, firstTree, wantsBehind, wantsHere}
+use Rattle.writing.proofs.FirstNode.{first-end, first-node, firstTree, wantsHere}
 use Rattle.writing.proofs.Alike.{Alike, first-alike, first-alone, suits-alike, wanted-alike}
 use Rattle.writing.proofs.FirstMet.{behind-suits, level-none}
 use Rattle.writing.proofs.Walking.{walked-append, walked-beyond, walked-none}
@@ -54,7 +52,8 @@ module _ (t : List ℕ) (S A O levels : ℕ) (above : Above) (s : StateSets) whe
   meets = metFrom t A O s
 
   -- the first goal, alone, such that it meets what it may
-  module _ (wants : ℕ → Bool) (wanted : Wanted O wants) (g : Goal) (rest : List Goal) (suited : suits one O wants (g ∷ rest) ≡ true)
+  module _ (wants : ℕ → Bool) (wanted : Wanted O wants) (g : Goal) (rest : List Goal)
+      (suited : suits one O wants (g ∷ rest) ≡ true)
       (may : ℕ → Bool) (alike : Alike may (leaves one O wants rest)) where
     child-wanted : Wanted O may
     child-wanted = wanted-alike O (wanted .few) _ may (λ X l. sym (alike X l)) (wanted-here wanted one rest)
@@ -66,7 +65,8 @@ module _ (t : List ℕ) (S A O levels : ℕ) (above : Above) (s : StateSets) whe
         ∙ suits-alone (wanted-here wanted one rest) one g Y few is proved
 
   -- where the children before have met `met`, and `rest` are those behind: what is walked so far, and what is left
-  pub record Passed (wants : ℕ → Bool) (goals rest : List Goal) (from most : ℕ) (before mid : List ℕ) (next met : ℕ) : Type 0 where
+  pub record Passed (wants : ℕ → Bool) (goals rest : List Goal) (from most : ℕ) (before mid : List ℕ) (next met : ℕ)
+      : Type 0 where
     pub numbers : List ℕ
     pub walked : Walked from most numbers before mid next
     pub written-is : written (forest wants goals) ≡ numbers ++ written (forest (λ X. wants (bitOr met X)) rest)
@@ -97,7 +97,8 @@ module _ (t : List ℕ) (S A O levels : ℕ) (above : Above) (s : StateSets) whe
       )
 
 -- the first of some goals, with a level left
-module _ (t : List ℕ) (wf : WellFormed t) (S A O levels : ℕ) (above : Above) (s : StateSets) (wants : ℕ → Bool) (wanted : Wanted O wants)
+module _ (t : List ℕ) (wf : WellFormed t) (S A O levels : ℕ) (above : Above) (s : StateSets) (wants : ℕ → Bool)
+    (wanted : Wanted O wants)
     (g : Goal) (rest : List Goal) where
   abbrev tree : Forest
   tree = firstForest t S A O (suc levels) above s (wantsHere t S A O levels above s wants g rest) (g ∷ [])
@@ -127,7 +128,8 @@ module _ (t : List ℕ) (wf : WellFormed t) (S A O levels : ℕ) (above : Above)
       ∙ behind-suits t wf S A O levels above s wants wanted g rest suited
 
 -- one child more, with a level left
-module _ (t : List ℕ) (wf : WellFormed t) (S A O levels : ℕ) (above : Above) (s : StateSets) (wants : ℕ → Bool) (wanted : Wanted O wants)
+module _ (t : List ℕ) (wf : WellFormed t) (S A O levels : ℕ) (above : Above) (s : StateSets) (wants : ℕ → Bool)
+    (wanted : Wanted O wants)
     (goals rest : List Goal) (g : Goal) {from most next met : ℕ} {before mid : List ℕ}
     (passed : Passed t S A O (suc levels) above s wants goals (g ∷ rest) from most before mid next met) where
   abbrev left : ℕ → Bool
@@ -172,7 +174,8 @@ module _ (t : List ℕ) (wf : WellFormed t) (S A O levels : ℕ) (above : Above)
               ∙ cons-suits t wf S A O levels above s left left-wanted g rest (passed .suited);
         }
 
-    tree-beyond : most < next′ → Walked from most (written (firstForest t S A O (suc levels) above s wants goals)) before after next′
+    tree-beyond : most < next′
+        → Walked from most (written (firstForest t S A O (suc levels) above s wants goals)) before after next′
     tree-beyond over =
         rw whole-written (walked-beyond (walked-append (passed .walked) (written child) room on) _ over)
 
@@ -194,7 +197,8 @@ module _ (t : List ℕ) (wf : WellFormed t) (S A O : ℕ) (above : Above) (s : S
     child-is = first-alike t S A O (wanted .few) levels above s may _ alike (g ∷ [])
 
   pub passed-next : (levels : ℕ) → Passed t S A O levels above s wants goals (g ∷ rest) from most before mid next met
-      → Alike may (leaves (proves t S A O levels above s) O (λ X. wants (bitOr met X)) rest) → next ≤ most → {next′ : ℕ} {after : List ℕ}
+      → Alike may (leaves (proves t S A O levels above s) O (λ X. wants (bitOr met X)) rest) → next ≤ most
+      → {next′ : ℕ} {after : List ℕ}
       → Walked next most (written (firstForest t S A O levels above s may (g ∷ []))) mid after next′
       → (now : ℕ) → now ≡ metFrom t A O s (firstForest t S A O levels above s may (g ∷ []))
       → Passed t S A O levels above s wants goals rest from most before after next′ (bitOr met now)
@@ -206,7 +210,8 @@ module _ (t : List ℕ) (wf : WellFormed t) (S A O : ℕ) (above : Above) (s : S
       (tree-passed t wf S A O levels above s wants wanted goals rest g passed room (rw same at on))
 
   pub passed-beyond : (levels : ℕ) → Passed t S A O levels above s wants goals (g ∷ rest) from most before mid next met
-      → Alike may (leaves (proves t S A O levels above s) O (λ X. wants (bitOr met X)) rest) → next ≤ most → {next′ : ℕ} {after : List ℕ}
+      → Alike may (leaves (proves t S A O levels above s) O (λ X. wants (bitOr met X)) rest) → next ≤ most
+      → {next′ : ℕ} {after : List ℕ}
       → Walked next most (written (firstForest t S A O levels above s may (g ∷ []))) mid after next′ → most < next′
       → Walked from most (written (firstForest t S A O levels above s wants goals)) before after next′
   passed-beyond zero passed alike room on over =
@@ -225,7 +230,8 @@ pub goals-last : (t : List ℕ) (a : Asked) (k : ℕ) → a .len ≤ k → goals
 unfolding goalsAt
 goals-last t a k all = rw (asked-end (a .persons) (a .places) (a .len) k all)
 
-pub asked-last : (t : List ℕ) (S A O levels : ℕ) (above : Above) (s : StateSets) (wants : ℕ → Bool) (goals : List Goal) (a : Asked) (k : ℕ)
+pub asked-last : (t : List ℕ) (S A O levels : ℕ) (above : Above) (s : StateSets) (wants : ℕ → Bool) (goals : List Goal)
+    (a : Asked) (k : ℕ)
     → a .len ≤ k → {from most next met : ℕ} {before mid : List ℕ}
     → Passed t S A O levels above s wants goals (goalsFrom t a k) from most before mid next met
     → Walked from most (written (firstForest t S A O levels above s wants goals)) before mid next
@@ -233,7 +239,8 @@ pub asked-last : (t : List ℕ) (S A O levels : ℕ) (above : Above) (s : StateS
 asked-last t S A O levels above s wants goals a k all passed =
     passed-last t S A O levels above s wants goals (rw (goals-last t a k all) at passed)
 
-module _ {t : List ℕ} (wf : WellFormed t) (S A O levels : ℕ) (above : Above) (s : StateSets) (wants : ℕ → Bool) (wanted : Wanted O wants)
+module _ {t : List ℕ} (wf : WellFormed t) (S A O levels : ℕ) (above : Above) (s : StateSets) (wants : ℕ → Bool)
+    (wanted : Wanted O wants)
     {goals : List Goal} (a : Asked) (k : ℕ) (l : k < a .len) {from most next met : ℕ} {before mid : List ℕ}
     (passed : Passed t S A O levels above s wants goals (goalsFrom t a k) from most before mid next met) (may : ℕ → Bool)
     (alike : Alike may (leaves (proves t S A O levels above s) O (λ X. wants (bitOr met X)) (goalsFrom t a (k + 1)))) where
@@ -253,8 +260,10 @@ module _ {t : List ℕ} (wf : WellFormed t) (S A O levels : ℕ) (above : Above)
       (on : Walked next most (written (firstForest t S A O levels above s may (g ∷ []))) mid after next′) where
     pub asked-next : (now : ℕ) → now ≡ metFrom t A O s (firstForest t S A O levels above s may (g ∷ []))
         → Passed t S A O levels above s wants goals (goalsFrom t a (k + 1)) from most before after next′ (bitOr met now)
-    asked-next now is = passed-next t wf S A O above s wants wanted goals (goalsFrom t a (k + 1)) g may levels here alike room on now is
+    asked-next now is =
+        passed-next t wf S A O above s wants wanted goals (goalsFrom t a (k + 1)) g may levels here alike room on now is
 
-    pub asked-beyond : most < next′ → Walked from most (written (firstForest t S A O levels above s wants goals)) before after next′
+    pub asked-beyond : most < next′
+        → Walked from most (written (firstForest t S A O levels above s wants goals)) before after next′
     asked-beyond over =
         passed-beyond t wf S A O above s wants wanted goals (goalsFrom t a (k + 1)) g may levels here alike room on over

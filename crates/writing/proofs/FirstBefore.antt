@@ -1,6 +1,7 @@
--- The first derivation comes before every other of the same goals that uses only credentials of the set, whose words the imposed
--- automata accept, and that meets what is wanted. By induction over the other one: a node of it has a greater number, or both nodes
--- ask the same goals; and where the records of these are the same both have met the same, so that the same is left to meet.
+-- The first derivation comes before every other of the same goals that uses only credentials of the set, whose words the
+-- imposed automata accept, and that meets what is wanted. By induction over the other one: a node of it has a greater number,
+-- or both nodes ask the same goals; and where the records of these are the same both have met the same, so that the same is
+-- left to meet.
 use mathlib.Core.Path.{_≡_, refl, ap, sym, _∙_}
 use mathlib.Core.List.{List, [], _∷_, _++_}
 use mathlib.Core.Bool.{Bool, true}
@@ -50,7 +51,8 @@ unfolding asked
 same-asked t g applies e e′ = rw (e, e′, applies)
 
 -- another node of the same goal, with so many levels left below it
-module _ (t : List ℕ) (wf : WellFormed t) (S A O levels : ℕ) (above : Above) (s : StateSets) (here : ℕ → Bool) (g : Goal) (c m : ℕ)
+module _ (t : List ℕ) (wf : WellFormed t) (S A O levels : ℕ) (above : Above) (s : StateSets) (here : ℕ → Bool) (g : Goal)
+    (c m : ℕ)
     (goals : List Goal) (applies : premises t g c m ≡ some goals) where
   abbrev all : List Goal → Bool
   all = suitsBelow t S A O levels above s here g
@@ -75,10 +77,12 @@ module _ (t : List ℕ) (wf : WellFormed t) (S A O levels : ℕ) (above : Above)
       least-credential-least t S all word g c (applies-numbered t g c m goals applies) (and-both own defines) proves
 
   -- where it is the first its middle is no less either, and where both are the same the rest decides
-  node-order : {branch : List Goal} {ch : Forest} {later later′ : List ℕ} → inSet S (c - 1) ≡ true → Derives t levels branch goals ch
+  node-order : {branch : List Goal} {ch : Forest} {later later′ : List ℕ} → inSet S (c - 1) ≡ true
+      → Derives t levels branch goals ch
       → provedPremises all word (premises t g c m) ≡ true → Order (written (children goals)) (written ch)
       → (c₁ ≡ c → m₁ ≡ m → written (children goals) ≡ written ch → Order later later′)
-      → Order (c₁ ∷ m₁ ∷ (written (children (firstAsked t S A O levels above s here g)) ++ later)) (c ∷ m ∷ (written ch ++ later′))
+      → Order (c₁ ∷ m₁ ∷ (written (children (firstAsked t S A O levels above s here g)) ++ later))
+      (c ∷ m ∷ (written ch ++ later′))
   node-order own d proved below after =
       order-next _ c (credential-no-less own (tried-proves t all word g c m (middle-tried wf g c m goals applies d) proved))
       (λ e. order-next _ m (rw e (least-middle-least t all word g c m proved))
@@ -113,7 +117,8 @@ module _ (t : List ℕ) (wf : WellFormed t) (S A O : ℕ) where
       → Derives t levels (g ∷ branch) goals f
       → UsesOnly f S → Led t (bitOr A O) s w → AllAccept t A (nodeWords t goals (w ++ (g .role ∷ [])) f)
       → here (nodeMet t A O (setsBelow t S A O levels above s here g) goals f) ≡ true
-      → provedPremises (suitsBelow t S A O levels above s here g) (wordEnds t S A O levels above s here g) (premises t g c m) ≡ true
+      → provedPremises (suitsBelow t S A O levels above s here g) (wordEnds t S A O levels above s here g) (premises t g c m) ≡
+      true
   unfolding provedPremises
   node-proved {levels} {branch} {goals} {f} above on w s here wanted g c m applies d only led all may =
       let word = w ++ (g .role ∷ []) in
@@ -126,13 +131,15 @@ module _ (t : List ℕ) (wf : WellFormed t) (S A O : ℕ) where
       (ends t A below X) _ (ends-reached wanted t A below X few may) (premises t g c m)
       (rw applies (node-accepted t wf S A O goals (λ gs. shares one O gs X) below word f X few after all
       (node-accepts t wf A O below goals word f after)
-      (λ all′ met′. derived-proves t wf S A O d only _ (on-next t (wf .sized .counted .fewCredentials) branch above g on) word below after
+      (λ all′ met′. derived-proves t wf S A O d only _ (on-next t (wf .sized .counted .fewCredentials) branch above g on) word
+      below after
       all′ X few met′)))
 
 -- another derivation of some goals, by its first node and what follows, which meets what is wanted
 module _ (t : List ℕ) (wf : WellFormed t) (S A O levels : ℕ) {branch goals rest : List Goal} (g : Goal) (c m : ℕ) (ch si : Forest)
     (applies : premises t g c m ≡ some goals) (new : fresh branch g ≡ true) (d : Derives t levels (g ∷ branch) goals ch)
-    (later : Derives t (suc levels) branch rest si) (only : UsesOnly (node c m ch si) S) (above : Above) (on : OnBranch t branch above)
+    (later : Derives t (suc levels) branch rest si) (only : UsesOnly (node c m ch si) S) (above : Above)
+    (on : OnBranch t branch above)
     (w : List Role) (s : StateSets) (led : Led t (bitOr A O) s w) (all : AllAccept t A (words t w (node c m ch si)))
     (wants : ℕ → Bool) (wanted : Wanted O wants) (met : wants (metFrom t A O s (node c m ch si)) ≡ true) where
   abbrev one : Goal → ℕ → Bool
@@ -169,8 +176,10 @@ module _ (t : List ℕ) (wf : WellFormed t) (S A O levels : ℕ) {branch goals r
   may-below : (length goals ≡ 0 → ⊥) → here (metFrom t A O below ch) ≡ true
   may-below asks = sym (ap here (node-asks t A O below goals ch asks)) ∙ may
 
-  first : NodeShows t S A levels branch w g (firstCredential t S A O levels above s here g) (firstMiddle t S A O levels above s here g)
-      (firstAsked t S A O levels above s here g) (firstBelow t S A O levels above s here g (firstAsked t S A O levels above s here g))
+  first : NodeShows t S A levels branch w g (firstCredential t S A O levels above s here g)
+      (firstMiddle t S A O levels above s here g)
+      (firstAsked t S A O levels above s here g)
+      (firstBelow t S A O levels above s here g (firstAsked t S A O levels above s here g))
   first =
       node-shown t wf S A O levels (first-shows t wf S A O levels) above on w s led wants wanted g rest
       (suits-reached wanted one (g ∷ rest) (metFrom t A O s (node c m ch si)) (part-le _ O (met-few t A O (node c m ch si) s)) met

@@ -1,9 +1,9 @@
--- What the first derivation meets is wanted, where the goals suit what is wanted: so what its first tree meets leaves to the goals
--- behind it what they can meet. By induction over the levels, goal by goal.
+-- What the first derivation meets is wanted, where the goals suit what is wanted: so what its first tree meets leaves to the
+-- goals behind it what they can meet. By induction over the levels, goal by goal.
 use mathlib.Core.Path.{_≡_, ap, sym, _∙_}
 use mathlib.Core.List.{List, [], _∷_}
 use mathlib.Core.Bool.{Bool, true}
-use Prim.Native.Nat.{ℕ, zero, suc, _≤_}
+use Prim.Native.Nat.{ℕ, zero, suc}
 use native.Mathlib.Omega.{arith}
 use lib.ListN.{length}
 use lib.Dec.{eqb}
@@ -13,7 +13,6 @@ use Rattle.sets.proofs.Tests.{false-true}
 use Rattle.table.specs.Holding.{WellFormed}
 use Rattle.table.specs.declared.Goal.{Goal}
 use Rattle.automata.specs.declared.StateSets.{StateSets}
-use Rattle.derivation.specs.Forest.Forest.{end}
 use Rattle.members.specs.declared.above.Above.{Above}
 use Rattle.search.specs.Search.{proves, shares}
 use Rattle.search.proofs.Sharing.{shares-shows}
@@ -23,7 +22,7 @@ use Rattle.writing.specs.First.{firstForest, metFrom}
 use Rattle.writing.proofs.Wanting.{Wanted, ends-met, first-suits, suits-after, suits-shows, wanted-after, wanted-here}
 use Rattle.writing.proofs.Meeting.{met-alone, met-end, met-few, met-split, nodeMet}
 use Rattle.writing.proofs.FirstNode.{first-applies, first-end, first-node, first-proved, firstAsked, firstCredential}
-use Rattle.writing.proofs.FirstNode.{firstMiddle, firstTree, metHere, pairsBelow, setsBelow, wantsBehind, wantsHere}
+use Rattle.writing.proofs.FirstNode.{firstMiddle, metHere, pairsBelow, setsBelow, wantsBehind, wantsHere}
 
 -- with no level left nothing suits
 pub level-none : (t : List ℕ) (S A O : ℕ) (above : Above) (s : StateSets) (wants : ℕ → Bool) → Wanted O wants
@@ -51,7 +50,8 @@ module _ (t : List ℕ) (wf : WellFormed t) (S A O : ℕ) where
       ∙ ap wants (met-end t A O s ∙ sym (eqb-true X 0 nothing)) ∙ is
 
   -- what a node asks, where a word ends well if that is nothing
-  asked-met : (levels : ℕ) → AllMet levels → (above : Above) (s : StateSets) (here : ℕ → Bool) → Wanted O here → (goals : List Goal)
+  asked-met : (levels : ℕ) → AllMet levels → (above : Above) (s : StateSets) (here : ℕ → Bool) → Wanted O here
+      → (goals : List Goal)
       → pick (eqb (length goals) 0) (endsWell t A O here s) (suits (proves t S A O levels above s) O here goals) ≡ true
       → here (nodeMet t A O s goals (firstForest t S A O levels above s here goals)) ≡ true
   unfolding pick nodeMet
@@ -61,7 +61,8 @@ module _ (t : List ℕ) (wf : WellFormed t) (S A O : ℕ) where
       rw nonzero (inside above s here wanted (g ∷ goals) (rw nonzero at h))
 
   -- the first of some goals
-  module _ (levels : ℕ) (inside : AllMet levels) (above : Above) (s : StateSets) (wants : ℕ → Bool) (wanted : Wanted O wants) (g : Goal)
+  module _ (levels : ℕ) (inside : AllMet levels) (above : Above) (s : StateSets) (wants : ℕ → Bool) (wanted : Wanted O wants)
+      (g : Goal)
       (rest : List Goal) (suited : suits (proves t S A O (suc levels) above s) O wants (g ∷ rest) ≡ true) where
     abbrev one : Goal → ℕ → Bool
     one = proves t S A O (suc levels) above s
@@ -75,7 +76,8 @@ module _ (t : List ℕ) (wf : WellFormed t) (S A O : ℕ) where
         let (X, few, may, proved) = first-suits wanted one (proves-less t S A O (suc levels) above s) g rest suited in
         ap here (met-alone t A O wf g (firstCredential t S A O levels above s here g) (firstMiddle t S A O levels above s here g)
         (firstAsked t S A O levels above s here g) (first-applies t S A O levels above s here g wanted₁ X few may proved) s _)
-        ∙ asked-met levels inside (pairsBelow t S A O levels above s here g) (setsBelow t S A O levels above s here g) here wanted₁ _
+        ∙ asked-met levels inside (pairsBelow t S A O levels above s here g) (setsBelow t S A O levels above s here g) here
+        wanted₁ _
         (first-proved t S A O levels above s here g wanted₁ X few may proved)
 
     suits-behind : suits one O (wantsBehind t S A O levels above s wants g rest) rest ≡ true
@@ -96,7 +98,8 @@ module _ (t : List ℕ) (wf : WellFormed t) (S A O : ℕ) where
   first-met (suc levels) above s wants wanted goals h = level-met levels (first-met levels) above s wants wanted goals h
 
   -- what is left for the goals behind the first suits them
-  pub behind-suits : (levels : ℕ) (above : Above) (s : StateSets) (wants : ℕ → Bool) → Wanted O wants → (g : Goal) (rest : List Goal)
+  pub behind-suits : (levels : ℕ) (above : Above) (s : StateSets) (wants : ℕ → Bool) → Wanted O wants
+      → (g : Goal) (rest : List Goal)
       → suits (proves t S A O (suc levels) above s) O wants (g ∷ rest) ≡ true
       → suits (proves t S A O (suc levels) above s) O (wantsBehind t S A O levels above s wants g rest) rest ≡ true
   behind-suits levels = suits-behind levels (first-met levels)

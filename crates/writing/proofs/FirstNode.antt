@@ -1,5 +1,5 @@
--- What a node of the first derivation is made of. Where the goal can meet a set that is wanted, the node's credential is in the set
--- and applies with the node's middle, and what it asks suits what is wanted.
+-- What a node of the first derivation is made of. Where the goal can meet a set that is wanted, the node's credential is in the
+-- set and applies with the node's middle, and what it asks suits what is wanted.
 use mathlib.Core.Path.{_≡_, refl}
 use mathlib.Core.List.{List, [], _∷_}
 use mathlib.Core.Bool.{Bool, true, not}
@@ -18,7 +18,7 @@ use Rattle.derivation.specs.Rules.{premises}
 use Rattle.derivation.specs.Forest.{Forest}
 use Rattle.derivation.specs.Forest.Forest.{end, node}
 use Rattle.members.specs.Above.{isAbove, withGoal}
-use Rattle.members.specs.Trying.{mayUse, provedPremises}
+use Rattle.members.specs.Trying.{provedPremises}
 use Rattle.members.specs.declared.above.Above.{Above}
 use Rattle.members.proofs.Stepping.{all-by-mono}
 use Rattle.search.specs.Search.{ends, proves, shares, stepped}
@@ -67,7 +67,8 @@ module _ (t : List ℕ) (S A O levels : ℕ) (above : Above) (s : StateSets) (he
     first-found =
         any-mono _ _ (credentials t) (λ c l both.
         and-both (and-first _ _ both)
-        (all-by-mono (λ goals. shares provedBelow O goals X) suitsBelow (λ goals. suits-reached wanted provedBelow goals X few may)
+        (all-by-mono (λ goals. shares provedBelow O goals X) suitsBelow
+        (λ goals. suits-reached wanted provedBelow goals X few may)
         (ends t A setsBelow X) wordEnds (ends-reached wanted t A setsBelow X few may) t g (suc c) (and-second _ _ both)))
         (and-second _ _ proved)
 

@@ -4,7 +4,7 @@ use mathlib.Core.Path.{_≡_, refl, _∙_}
 use mathlib.Core.List.{List, [], _∷_, _++_}
 use mathlib.Core.Bool.{Bool, true}
 use mathlib.Core.Option.{some}
-use Prim.Native.Nat.{ℕ, zero, suc, _-_, _≤_}
+use Prim.Native.Nat.{ℕ, zero, suc, _-_}
 use native.Mathlib.Omega.{arith}
 use lib.ListN.{length}
 use lib.Bits.{bitOr}
@@ -37,9 +37,10 @@ use Rattle.writing.proofs.FirstNode.{firstBelow, firstCredential, first
 use Rattle.writing.proofs.FirstNode.{wantsBehind, wantsHere}
 use Rattle.writing.proofs.FirstMet.{behind-suits, level-none}
 
--- with so many levels left, below a branch whose roles are the word w: the forest derives the goals and uses only credentials of S,
--- and each automaton of A accepts its words
-pub record Shows (t : List ℕ) (S A levels : ℕ) (branch : List Goal) (w : List Role) (goals : List Goal) (f : Forest) : Type 0 where
+-- with so many levels left, below a branch whose roles are the word w: the forest derives the goals and uses only credentials
+-- of S, and each automaton of A accepts its words
+pub record Shows (t : List ℕ) (S A levels : ℕ) (branch : List Goal) (w : List Role) (goals : List Goal) (f : Forest)
+    : Type 0 where
   pub derives : Derives t levels branch goals f
   pub usesOnly : UsesOnly f S
   pub accepted : AllAccept t A (words t w f)
@@ -120,8 +121,10 @@ module _ (t : List ℕ) (wf : WellFormed t) (S A O : ℕ) where
         let (X, few, may, proved) = first-suits wanted one (proves-less t S A O (suc levels) above s) g rest suited in
         let applies = first-applies t S A O levels above s here g wanted₁ X few may proved in
         let (derives, only, all) = asked-shown levels inside (g ∷ branch) (pairsBelow t S A O levels above s here g)
-        (on-next t (wf .sized .counted .fewCredentials) branch above g on) (w ++ (g .role ∷ [])) (setsBelow t S A O levels above s here g)
-        (led-on t (bitOr A O) s w (g .role) led) here wanted₁ asks (first-proved t S A O levels above s here g wanted₁ X few may proved) in
+        (on-next t (wf .sized .counted .fewCredentials) branch above g on) (w ++ (g .role ∷ []))
+        (setsBelow t S A O levels above s here g)
+        (led-on t (bitOr A O) s w (g .role) led) here wanted₁ asks
+        (first-proved t S A O levels above s here g wanted₁ X few may proved) in
         record {
           applies = applies;
           new =

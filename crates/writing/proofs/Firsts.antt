@@ -1,6 +1,7 @@
--- A minimal set has one first record. Every accepted record within the set uses all of it, so that its words are what each automaton
--- of the set demands by its mark; and of the derivations within the set of which that holds, the first is `firstForest`.
-use mathlib.Core.Path.{_≡_, refl, sym, ap, _∙_}
+-- A minimal set has one first record. Every accepted record within the set uses all of it, so that its words are what each
+-- automaton of the set demands by its mark; and of the derivations within the set of which that holds, the first is
+-- `firstForest`.
+use mathlib.Core.Path.{_≡_, refl, sym, _∙_}
 use mathlib.Core.List.{List, [], _∷_, List-discrete}
 use mathlib.Core.Bool.{true}
 use Prim.Native.Nat.{ℕ}

@@ -1,5 +1,5 @@
--- What the goals behind one can meet, as the code gathers it: a family of the sets that they can meet together. And what it leaves to
--- the one, where the children so far have met `met`.
+-- What the goals behind one can meet, as the code gathers it: a family of the sets that they can meet together. And what it
+-- leaves to the one, where the children so far have met `met`.
 use mathlib.Core.Path.{_≡_, refl, sym, ap, _∙_}
 use mathlib.Core.List.{List, [], _∷_}
 use mathlib.Core.Bool.{Bool, true}
@@ -9,7 +9,6 @@ use lib.ListN.{getD}
 use lib.Bits.{bitOr, or-comm, or-lt, or-zero-r}
 use lib.Dec.{eqb}
 use borrow.Author.Tests.{eq-eqb, eqb-true, lt-ltb, ltb-true}
-use Rattle.sets.specs.Logic.{_and_}
 use Rattle.sets.specs.Sets.{part}
 use Rattle.sets.proofs.Tests.{and-both, and-first, and-second, same-test}
 use Rattle.sets.proofs.Members.{part-le, part-or, part-or-left, part-or-right, part-refl, part-trans, part-zero}
@@ -129,7 +128,8 @@ pub wants-family : {O : ℕ} {wanted : Family} → Wanted O (inFamily wanted) �
 wants-family w = record { few = w .few; upward = w .upward; inside = w .inside }
 
 -- what is left to a goal, where those behind it are `rest`
-module _ (one : Goal → ℕ → Bool) (O : ℕ) (wanted : Family) (wants : Wanted O (inFamily wanted)) (met : ℕ) (owed : part met O ≡ true)
+module _ (one : Goal → ℕ → Bool) (O : ℕ) (wanted : Family) (wants : Wanted O (inFamily wanted)) (met : ℕ)
+    (owed : part met O ≡ true)
     (rest : List Goal) (now : Family) (only : FamilyOf (eqb met) now) where
   abbrev left : ℕ → Bool
   left = λ X. inFamily wanted (bitOr met X)

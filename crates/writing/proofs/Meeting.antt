@@ -4,7 +4,7 @@ use mathlib.Core.Path.{_≡_, refl, sym, ap, ap₂, _∙_}
 use mathlib.Core.List.{List, [], _∷_, _++_}
 use mathlib.Core.Bool.{Bool, true, false}
 use mathlib.Core.Option.{some}
-use Prim.Native.Nat.{ℕ, suc, _≤_}
+use Prim.Native.Nat.{ℕ, suc}
 use native.Mathlib.Omega.{arith}
 use lib.ListN.{length}
 use lib.Bits.{bitAnd, bitOr, or-zero-r}
@@ -136,7 +136,8 @@ module _ (t : List ℕ) (wf : WellFormed t) (A O : ℕ) where
       let word = w ++ (credential t c .role ∷ []) in
       let here = led-on t (bitOr A O) s w (credential t c .role) led in
       inSet-or _ (metFrom t A O s siblings) k
-      ∙ ap₂ _or_ (one-exact (eqb (credential t c .kind) 1) _ _ k _ _ (own-exact below word here k) (met-exact children below word here k))
+      ∙ ap₂ _or_ (one-exact (eqb (credential t c .kind) 1) _ _ k _ _ (own-exact below word here k)
+      (met-exact children below word here k))
       (met-exact siblings s w led k)
       ∙ both-exact (inSet O k) _ _
       ∙ ap (λ b. inSet O k and b) (sym (accepts-some-append t (suc k) _ (words t w siblings)))

@@ -1,6 +1,6 @@
--- A node as the walk comes to it: what the goal may meet it can, so a level is left; the node's two numbers are followed by the records
--- of what it asks, and what these meet is what the node does. A node that asks nothing ends a word.
-use mathlib.Core.Path.{_≡_, refl, sym, ap, ap₂, _∙_}
+-- A node as the walk comes to it: what the goal may meet it can, so a level is left; the node's two numbers are followed by the
+-- records of what it asks, and what these meet is what the node does. A node that asks nothing ends a word.
+use mathlib.Core.Path.{_≡_, refl, sym, ap, _∙_}
 use mathlib.Core.List.{List, [], _∷_, _++_, append-nil}
 use mathlib.Core.Bool.{Bool, true}
 use mathlib.Core.Option.{some}
@@ -10,12 +10,8 @@ use native.Mathlib.Decide.{ℕ-discrete}
 use lib.ListN.{getD, length}
 use lib.Seq.{ext-getD}
 use lib.Bits.{bitAnd, bitOr}
-use lib.Dec.{eqb}
 use Rattle.sets.specs.Logic.{anyBelow, pick}
-use Rattle.sets.specs.Sets.{part}
 use Rattle.sets.proofs.Members.{part-le}
-use Rattle.families.specs.Families.{allSets, inFamily}
-use Rattle.families.specs.declared.Family.{Family}
 use Rattle.table.specs.Layout.{credential, credentials}
 use Rattle.table.specs.Holding.{WellFormed}
 use Rattle.table.specs.declared.Goal.{Goal}
@@ -26,7 +22,6 @@ use Rattle.derivation.specs.Held.{noGoal}
 use Rattle.derivation.specs.Forest.{Forest, written}
 use Rattle.derivation.specs.Forest.Forest.{end, node}
 use Rattle.members.specs.Above.{withGoal, withPair}
-use Rattle.members.specs.Places.{personAt, roleAt}
 use Rattle.members.proofs.Places.{is-person}
 use Rattle.members.specs.declared.above.Above.{Above}
 use Rattle.search.specs.Asking.{pairsFrom}
@@ -40,8 +35,7 @@ use Rattle.writing.specs.First.{firstForest, metFrom}
 use Rattle.writing.specs.Walked.{Walked, goalsAt, goalsFrom}
 use Rattle.writing.proofs.Wanting.{Wanted, suits-shows}
 use Rattle.writing.proofs.Meeting.{met-alone, node-asks, nodeMet}
-use Rattle.writing.proofs.FirstNode.{first-applies, first-end, first-found, firstAsked, firstCredential, firstMiddle}
-use Rattle.writing.proofs.FirstNode.{firstTree}
+use Rattle.writing.proofs.FirstNode.{first-applies, first-end, first-found}
 use Rattle.writing.proofs.Alike.{first-alone}
 use Rattle.writing.proofs.FirstMet.{level-none}
 use Rattle.writing.proofs.Walking.{walked-any, walked-beyond, walked-then}
@@ -81,7 +75,8 @@ pub children-asked : {t : List ℕ} {S A O levels : ℕ} {above : Above} {s : St
 children-asked children = rw (children-goals children) at children
 
 -- a goal whose node is to be chosen: it suits what is wanted, and branch and state sets are one role on
-pub record Entered (t : List ℕ) (S A O levels : ℕ) (above deeper : Above) (s below : StateSets) (wants : ℕ → Bool) (person place : ℕ)
+pub record Entered (t : List ℕ) (S A O levels : ℕ) (above deeper : Above) (s below : StateSets) (wants : ℕ → Bool)
+    (person place : ℕ)
     : Type 0 where
   pub wellFormed : WellFormed t
   pub stands : Stands t person place
@@ -128,7 +123,8 @@ module _ {t : List ℕ} {S A O levels : ℕ} {above deeper : Above} {s below : S
       )
 
   -- some credential proves it
-  pub node-found : anyBelow (provesWith t S (suits (proves t S A O (levels - 1) deeper below) O wants) (endsWell t A O wants below) g)
+  pub node-found : anyBelow
+      (provesWith t S (suits (proves t S A O (levels - 1) deeper below) O wants) (endsWell t A O wants below) g)
       (credentials t) ≡ true
   node-found =
       let (X, few, is, proved) = can-meet in
@@ -154,7 +150,8 @@ module _ {t : List ℕ} {S A O levels : ℕ} {above deeper : Above} {s below : S
         rw (chosen .middle-is, chosen .credential-is, ← same-deeper, entered .moved)
         (first-applies t S A O (levels - 1) above s wants g (entered .wanted) X few is proved)
 
-    tree-written : written (firstForest t S A O levels above s wants (g ∷ [])) ≡ (n .credential ∷ n .middle ∷ []) ++ written children
+    tree-written : written (firstForest t S A O levels above s wants (g ∷ []))
+        ≡ (n .credential ∷ n .middle ∷ []) ++ written children
     unfolding written
     tree-written = ap written tree-is ∙ rw (append-nil (written children))
 
@@ -164,7 +161,8 @@ module _ {t : List ℕ} {S A O levels : ℕ} {above deeper : Above} {s below : S
         ∙ met-alone t A O (entered .wellFormed) g (n .credential) (n .middle) asks applies s children
         ∙ ap (λ x. nodeMet t A O x asks children) (sym (entered .moved))
 
-    pub chosen-suits : (n .asked .len ≡ 0 → ⊥) → suits (proves t S A O (levels - 1) deeper below) O wants (goalsFrom t (n .asked) 0) ≡ true
+    pub chosen-suits : (n .asked .len ≡ 0 → ⊥)
+        → suits (proves t S A O (levels - 1) deeper below) O wants (goalsFrom t (n .asked) 0) ≡ true
     chosen-suits some-goals = rw (children-goals (chosen .children)) at (chosen .suited some-goals)
 
     -- its numbers are put
@@ -177,7 +175,8 @@ module _ {t : List ℕ} {S A O levels : ℕ} {above deeper : Above} {s below : S
           × (next ≤ most → met ≡ metFrom t A O s (firstForest t S A O levels above s wants (g ∷ [])))
 
       -- it asks nothing
-      pub node-ends : n .asked .len ≡ 0 → {accepting : ℕ} → accepting ≡ acceptingSet t below → Told mid (at + 2) (bitAnd O accepting)
+      pub node-ends : n .asked .len ≡ 0 → {accepting : ℕ} → accepting ≡ acceptingSet t below
+          → Told mid (at + 2) (bitAnd O accepting)
       unfolding nodeMet pick written
       node-ends none accepting-is =
           let nothing : asks ≡ [] = no-goals asks (sym (chosen .children .count) ∙ none) in
@@ -185,7 +184,8 @@ module _ {t : List ℕ} {S A O levels : ℕ} {above deeper : Above} {s below : S
           ap (λ gs. written (firstForest t S A O (levels - 1) deeper below wants gs)) nothing
           ∙ ap written (first-end t S A O deeper below wants (levels - 1)) in (
             rw (tree-written, ended) (walked-any put most),
-            (λ room. sym (tree-met ∙ ap (λ gs. nodeMet t A O below gs (firstForest t S A O (levels - 1) deeper below wants gs)) nothing
+            (λ room. sym (tree-met ∙ ap (λ gs. nodeMet t A O below gs (firstForest t S A O (levels - 1) deeper below wants gs))
+                nothing
                 ∙ ap (bitAnd O) (sym accepting-is))),
           )
         where
@@ -200,8 +200,10 @@ module _ {t : List ℕ} {S A O levels : ℕ} {above deeper : Above} {s below : S
 
       -- what it asks is walked
       pub node-goes : (n .asked .len ≡ 0 → ⊥) → {after : List ℕ} {next met : ℕ}
-          → Walked (at + 2) most (written (firstForest t S A O (levels - 1) deeper below wants (goalsFrom t (n .asked) 0))) mid after next
-          → (next ≤ most → met ≡ metFrom t A O below (firstForest t S A O (levels - 1) deeper below wants (goalsFrom t (n .asked) 0)))
+          → Walked (at + 2) most (written (firstForest t S A O (levels - 1) deeper below wants (goalsFrom t (n .asked) 0))) mid
+          after next
+          → (next ≤ most → met ≡ metFrom t A O below
+          (firstForest t S A O (levels - 1) deeper below wants (goalsFrom t (n .asked) 0)))
           → Told after next met
       node-goes some-goals on meets =
           let same = children-goals (chosen .children) in (

@@ -1,6 +1,6 @@
--- Records compared number by number. No two come before each other, and lists that are in order stay so where others follow them
--- that are in order if the first are the same. Of the records of two derivations of the same goals none begins the other: the reader takes the one off the other,
--- and leaves nothing.
+-- Records compared number by number. No two come before each other, and lists that are in order stay so where others follow
+-- them that are in order if the first are the same. Of the records of two derivations of the same goals none begins the other:
+-- the reader takes the one off the other, and leaves nothing.
 use mathlib.Core.Path.{_≡_, refl}
 use mathlib.Core.List.{List, [], _∷_, _++_, append-nil}
 use mathlib.Core.Logic.{⊎-elim}

@@ -84,7 +84,8 @@ module _ {t : List ℕ} (q : Query) {S A O : ℕ} (by : Settled t S A O) (most :
     pub counted-longer : most < len → Tells t q S cells cells (refused 16 0)
     counted-longer less = tells-longer t q S cells listed (omega (arith, all, first-pass counted .stopped less))
 
-    pub counted-written : len ≤ most → {after : List ℕ} {next : ℕ} → Pass cells after next → Tells t q S cells after (accepted len)
+    pub counted-written : len ≤ most → {after : List ℕ} {next : ℕ} → Pass cells after next
+        → Tells t q S cells after (accepted len)
     counted-written room {after} {next} pass =
         let len-is : len ≡ length (firstRecord t q S) = omega (arith, first-pass counted .whole room) in
         tells-written t q S cells listed len-is (omega (arith, all)) (go (decLt most next) (first-pass pass))

@@ -7,15 +7,15 @@ use Prim.Native.Nat.{ℕ, suc, _<_}
 use native.Mathlib.Omega.{arith}
 use native.Mathlib.Decide.{ℕ-discrete}
 use lib.Bits.{bitXor}
-use lib.Dec.{eqb, ltb}
-use borrow.Author.Tests.{eq-eqb, eqb-true, ltb-true, ne-eqb}
+use lib.Dec.{eqb}
+use borrow.Author.Tests.{eq-eqb, eqb-true, ne-eqb}
 use Rattle.sets.specs.Logic.{_and_, pick}
 use Rattle.sets.specs.Sets.{inSet, setOf}
 use Rattle.sets.proofs.Tests.{and-both, and-first, and-second, false-true, refuted}
 use Rattle.sets.proofs.Members.{members-below, same-members, setOf-members}
 use Rattle.sets.proofs.Without.{inSet-xor}
 use Rattle.families.specs.Families.{allSets}
-use Rattle.table.specs.Layout.{automata, automaton, credential}
+use Rattle.table.specs.Layout.{automata, automaton}
 use Rattle.table.specs.Holding.{WellFormed}
 use Rattle.table.specs.declared.Query.{Query}
 use Rattle.table.proofs.WellFormed.{wf-credential, wf-mark}
@@ -32,7 +32,8 @@ abbrev Marked : List ℕ → ℕ → ℕ → ℕ → Type 0
 Marked t S k mark = (inSet (automataOf t S) k ≡ true) × (automaton t (suc k) .mark ≡ mark)
 
 module _ (t : List ℕ) (S k : ℕ) where
-  by-mark : (mark : ℕ) → inSet (setOf (λ k. inSet (automataOf t S) k and eqb (automaton t (suc k) .mark) mark) (automata t)) k ≡ true
+  by-mark : (mark : ℕ) → inSet (setOf (λ k. inSet (automataOf t S) k and eqb (automaton t (suc k) .mark) mark) (automata t)) k
+      ≡ true
       → Marked t S k mark
   by-mark mark h =
       let both = and-second _ _ (sym (setOf-members _ (automata t) k) ∙ h) in

@@ -1,4 +1,5 @@
--- A walk over the nodes of a record goes on where it ended: numbers stand one after the other in the cells. What a whole walk has put into the cells is the record laid in them.
+-- A walk over the nodes of a record goes on where it ended: numbers stand one after the other in the cells. What a whole walk
+-- has put into the cells is the record laid in them.
 use mathlib.Core.Path.{_≡_, refl, sym, _∙_}
 use mathlib.Core.List.{List, [], _∷_, _++_}
 use Prim.Native.Nat.{ℕ, zero, suc, _+_, _-_, _<_, _≤_}

@@ -8,8 +8,7 @@ use native.Mathlib.Omega.{arith}
 use lib.Bits.{bitAnd, bitOr, or-lt}
 use lib.Dec.{eqb}
 use borrow.Author.Tests.{eq-eqb, eqb-true}
-use Rattle.sets.specs.Logic.{_and_, anyBelow}
-use Rattle.sets.specs.Sets.{inSet, part}
+use Rattle.sets.specs.Sets.{part}
 use Rattle.sets.proofs.Tests.{and-both, and-first, and-second, any-reached, any-shows, or-either, or-first, or-second}
 use Rattle.sets.proofs.Members.{inSet-and, inSet-or, part-antisym, part-le, part-member, part-or, part-or-left, part-or-right}
 use Rattle.sets.proofs.Members.{part-refl, part-shown, part-trans}
@@ -43,7 +42,8 @@ part-within X Y Z O few all =
     part-shown X _ (λ k h.
     let owed = part-member X O k few h in
     inSet-or (bitAnd Y O) (bitAnd Z O) k
-    ∙ or-either (λ one. or-first _ (inSet-and Y O k ∙ and-both one owed)) (λ other. or-second _ (inSet-and Z O k ∙ and-both other owed))
+    ∙ or-either (λ one. or-first _ (inSet-and Y O k ∙ and-both one owed))
+    (λ other. or-second _ (inSet-and Z O k ∙ and-both other owed))
     (sym (inSet-or Y Z k) ∙ part-member X _ k all h))
 
 -- who can meet more can meet less
@@ -185,6 +185,7 @@ module _ {O : ℕ} {wants : ℕ → Bool} (wanted : Wanted O wants) where
       let (Y, Z, few, few′, first, others, together) = shared-owed one O less g goals X owed shared in (
         Y,
         part-le Y O few,
-        leaves-reached one goals Y Z few (part-le Z O few′) others (wanted .upward X (bitOr Y Z) together (part-or Y Z O few few′) is),
+        leaves-reached one goals Y Z few (part-le Z O few′) others
+            (wanted .upward X (bitOr Y Z) together (part-or Y Z O few few′) is),
         first,
       )

@@ -1,5 +1,5 @@
--- docs/DEFINITION.md, "The first record": the first derivation, node by node. At each node the least credential with which the goal
--- can be proved such that all that is owed can still be met, and with it the least middle; then what it asks, in order.
+-- docs/DEFINITION.md, "The first record": the first derivation, node by node. At each node the least credential with which the
+-- goal can be proved such that all that is owed can still be met, and with it the least middle; then what it asks, in order.
 -- specs/Writes.antt states that this is the record that the definition means.
 use Prim.Native.Nat.{ℕ, zero, suc}
 use mathlib.Core.List.{List, [], _∷_}

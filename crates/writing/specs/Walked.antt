@@ -1,6 +1,6 @@
 -- What a walk over the nodes of a record leaves in the lent cells, and what it tells: the cell behind the record, or, where it
--- stopped since the record does not fit, a cell that lies beyond the most that there are; and what the words of the record meet of
--- the automata that are owed.
+-- stopped since the record does not fit, a cell that lies beyond the most that there are; and what the words of the record meet
+-- of the automata that are owed.
 use Prim.Native.Nat.{ℕ, _+_, _-_, _<_, _≤_}
 use mathlib.Core.Path.{_≡_}
 use mathlib.Core.List.{List, [], _∷_}
@@ -48,7 +48,8 @@ abbrev pub firstOn : List ℕ → Terms → Family → ℕ → Above → StateSe
 firstOn t terms wanted levels above s =
     firstForest t (terms .allowed) (terms .constraints) (terms .owed) levels above s (inFamily wanted)
 
--- the forest's record is walked, and its words, which are read from the state sets s on, meet what is told, unless the walk stopped
+-- the forest's record is walked, and its words, which are read from the state sets s on, meet what is told, unless the walk
+-- stopped
 pub record Walks (t : List ℕ) (terms : Terms) (s : StateSets) (f : Forest) (at most : ℕ) (before after : List ℕ) (r : Reached)
     : Type 0 where
   pub walked : Walked at most (written f) before after (r .next)

@@ -77,8 +77,8 @@ pub fn from_goal(
     walked.next
 }
 
-// Walks the record of the principal at `person` in the role at `place`, such that it meets a set of the family `wanted`. It goes into
-// the cells from `at` on. Where the cell behind it lies beyond `most`, the walk may have stopped before.
+// Walks the record of the principal at `person` in the role at `place`, such that it meets a set of the family `wanted`. It
+// goes into the cells from `at` on. Where the cell behind it lies beyond `most`, the walk may have stopped before.
 fn walk(
     table: &[Number],
     index: &[u8],
@@ -147,8 +147,8 @@ fn walk(
     )
 }
 
-// Walks the records of the goals that are asked, in order. Each goal may meet what leaves to those behind it what they can meet of
-// what those before it have not met.
+// Walks the records of the goals that are asked, in order. Each goal may meet what leaves to those behind it what they can meet
+// of what those before it have not met.
 fn walk_asked(
     table: &[Number],
     index: &[u8],
@@ -223,8 +223,8 @@ fn walk_asked(
     }
 }
 
-// What the goal before the goals from `from` on may meet, where those before it have met `met`: where that is wanted already there is
-// nothing left to meet, and what the goals behind it can meet need not be known.
+// What the goal before the goals from `from` on may meet, where those before it have met `met`: where that is wanted already
+// there is nothing left to meet, and what the goals behind it can meet need not be known.
 fn wanted_here(
     table: &[Number],
     index: &[u8],
@@ -244,8 +244,9 @@ fn wanted_here(
         (goalsFrom (now table) asked 0) asked ⌝ }
     requires { ⌜ Wanted (terms .owed) wanted ⌝ }
     requires { ⌜ (part met (terms .owed) ≡ true) × (from ≤ asked .len) ⌝ }
-    ensures { λ r. ⌜ FamilyOf (leaves (proves (now (table .entry)) (terms .allowed) (terms .constraints) (terms .owed) levels above states)
-        (terms .owed) (λ X. inFamily wanted (bitOr met X)) (goalsFrom (now (table .entry)) asked from)) r ⌝ }
+    ensures { λ r. ⌜ FamilyOf (leaves
+        (proves (now (table .entry)) (terms .allowed) (terms .constraints) (terms .owed) levels above states) (terms .owed)
+        (λ X. inFamily wanted (bitOr met X)) (goalsFrom (now (table .entry)) asked from)) r ⌝ }
 {
     let now = Family::only(met);
     if wanted.has(met) {
@@ -283,8 +284,8 @@ fn met_from(
     requires { ⌜ Children (now table) (terms .allowed) (terms .constraints) (terms .owed) levels above states
         (goalsFrom (now table) asked 0) asked ⌝ }
     requires { ⌜ (terms .owed < allSets) × (from ≤ asked .len) ⌝ }
-    ensures { λ r. ⌜ Told (terms .owed) (laterTest (now (table .entry)) (terms .allowed) (terms .constraints) (terms .owed) levels states
-        (goalsFrom (now (table .entry)) asked from)) above r ⌝ }
+    ensures { λ r. ⌜ Told (terms .owed) (laterTest (now (table .entry)) (terms .allowed) (terms .constraints) (terms .owed)
+        levels states (goalsFrom (now (table .entry)) asked from)) above r ⌝ }
 {
     let persons = asked.persons;
     let places = asked.places;

@@ -1,5 +1,5 @@
--- `writing::write_checked` meets its contract: the record is written with the index of the table and the query, and with an index of
--- arcs where automata are attached. Assumes nothing.
+-- `writing::write_checked` meets its contract: the record is written with the index of the table and the query, and with an
+-- index of arcs where automata are attached. Assumes nothing.
 use native.Mathlib.Omega.{arith}
 use lib.ListN.{length-take}
 use Rattle.automata.proofs.Arcs.{no-arcs}

@@ -33,7 +33,10 @@ fill-requires c κs =
       pre .0 .wellFormed,
       (
         pre .0 .indexed,
-        ((omega (arith, depth-some _ (pre .0 .valid), wide), omega (arith, depth-fits _ (pre .0 .valid), wide)), (refl, zeros tableCells)),
+        (
+          (omega (arith, depth-some _ (pre .0 .valid), wide), omega (arith, depth-fits _ (pre .0 .valid), wide)),
+          (refl, zeros tableCells),
+        ),
       ),
     )
 
@@ -68,10 +71,12 @@ room at = search needs
 
 -- the automata of the set by their marks
 settled : (at : Ready) → let from = asked at .args in
-    Settled (now (from .table)) (from .set) (bitXor (at .before .before .before .automata-of .result) (at .before .before .marked .result))
+    Settled (now (from .table)) (from .set)
+    (bitXor (at .before .before .before .automata-of .result) (at .before .before .marked .result))
     (at .before .before .marked .result)
 settled at =
-    settled-by _ (asked at .pre .0 .wellFormed) _ (at .before .before .before .automata-of .ensures) (at .before .before .marked .ensures)
+    settled-by _ (asked at .pre .0 .wellFormed) _ (at .before .before .before .automata-of .ensures)
+    (at .before .before .marked .ensures)
 
 -- what each walk asks: the set proves the query under its automata
 abbrev Walkable : Ready → Type 0

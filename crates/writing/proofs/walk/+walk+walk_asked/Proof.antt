@@ -1,7 +1,7 @@
--- The walk over a node and the walk over what it asks meet their contracts, by the levels left: the records of the children passed
--- stand one after the other behind the node's two numbers, and what they have met together is known. The measures are twice the
--- levels, and one more. Assumes nothing.
-use mathlib.Core.Path.{_≡_, _∙_}
+-- The walk over a node and the walk over what it asks meet their contracts, by the levels left: the records of the children
+-- passed stand one after the other behind the node's two numbers, and what they have met together is known. The measures are
+-- twice the levels, and one more. Assumes nothing.
+use mathlib.Core.Path.{_∙_}
 use Prim.Native.Nat.{ℕ, _+_, _-_, _*_, _<_, _≤_}
 use native.Mathlib.Omega.{arith}
 use denote.Ref.{now}
@@ -70,13 +70,16 @@ abbrev walk-asked-claims : ℕ → walk-asked-lts.Claims
 walk-asked-claims t = (wanted-here-reads.Asked, wanted-here-reads.Learnt, walk-below t, walk.Post)
 
 abbrev walk-asked-Inv-loop : walk-asked-lts.InvT-loop
-walk-asked-Inv-loop table index arcs rows terms wanted asked levels states above most from rec₀ persons places next₀ met₀ k₀ rec next met k =
+walk-asked-Inv-loop table index arcs rows terms wanted asked levels states above most from rec₀ persons places next₀ met₀ k₀ rec
+    next met k =
     (k ≤ asked .len) × (next ≤ most)
-    × Passed table (terms .allowed) (terms .constraints) (terms .owed) levels above states (inFamily wanted) (goalsFrom table asked 0)
+    × Passed table (terms .allowed) (terms .constraints) (terms .owed) levels above states (inFamily wanted)
+    (goalsFrom table asked 0)
     (goalsFrom table asked k) from most rec₀ rec next met
 
 abbrev walk-asked-μ-loop : walk-asked-lts.MeasureT-loop
-walk-asked-μ-loop table index arcs rows terms wanted asked levels states above most from rec₀ persons places next₀ met₀ k₀ rec next met k =
+walk-asked-μ-loop table index arcs rows terms wanted asked levels states above most from rec₀ persons places next₀ met₀ k₀ rec
+    next met k =
     asked .len - k
 
 -- a place of each, or a need, where its measure is t; and what it needs, whatever its measure is
@@ -103,8 +106,10 @@ module _ (t : ℕ) where
   walk-from at = at .before .before .before .before .before .before .before .before
 
   walk-entered : (at : walk-place walk-lts.After-with t) → let from = walk-from at .args in
-      Entered (now (from .table)) (from .terms .allowed) (from .terms .constraints) (from .terms .owed) (from .levels) (from .above)
-      (at .with .result) (from .states) (at .before .stepped .result .states) (inFamily (from .wanted)) (from .person) (from .place)
+      Entered (now (from .table)) (from .terms .allowed) (from .terms .constraints) (from .terms .owed) (from .levels)
+      (from .above)
+      (at .with .result) (from .states) (at .before .stepped .result .states) (inFamily (from .wanted)) (from .person)
+      (from .place)
   walk-entered at =
       let pre = walk-from at .pre .1 in
       record {
@@ -158,7 +163,8 @@ walk-returns : walk-needs walk-lts.Need-returns
 walk-returns t c =
     let put = c .before .before .before .before .before .before in
     let chosen = put .before .before .choose .ensures in
-    let told = node-ends (walk-entered t (put .before .before .before)) chosen (put .put .ensures) _ (c .before .before .if1 .taken)
+    let told = node-ends (walk-entered t (put .before .before .before)) chosen (put .put .ensures) _
+    (c .before .before .if1 .taken)
     (c .before .accepting .ensures) in
     record { walked = told .0; meets = told .1 }
 
@@ -173,7 +179,8 @@ walk-returns-2 t c =
     record { walked = told .0; meets = told .1 }
 
 walk-sub-walk-asked : walk-needs walk-lts.Need-sub-walk-asked
-walk-sub-walk-asked t c = omega (arith, entered-left (walk-entered t (c .before .before .before .before .before .before .before .before)))
+walk-sub-walk-asked t c =
+    omega (arith, entered-left (walk-entered t (c .before .before .before .before .before .before .before .before)))
 
 walk-walk-asked-requires : walk-needs walk-lts.Need-walk-asked-requires
 walk-walk-asked-requires t c κs =
@@ -188,7 +195,10 @@ walk-walk-asked-requires t c κs =
           children-asked (chosen .children),
           (
             pre .1 .1 .1 .0,
-            (chosen-suits entered chosen (c .before .before .if1 .left), (omega (arith, c .before .if2 .left), pre .1 .1 .1 .1 .1 .1)),
+            (
+              chosen-suits entered chosen (c .before .before .if1 .left),
+              (omega (arith, c .before .if2 .left), pre .1 .1 .1 .1 .1 .1),
+            ),
           ),
         ),
       ),

@@ -65,7 +65,8 @@ returns c =
     let pre = asked at .pre in
     let who = at .before .before .before .goal-person .ensures .0 in
     let place = at .before .before .goal-role .ensures .0 in
-    begins-walked (pre .0) (pre .1 .0) _ _ (pre .1 .1 .0) (pre .1 .1 .1 .0) who place _ (at .before .before .before .before .only .ensures)
+    begins-walked (pre .0) (pre .1 .0) _ _ (pre .1 .1 .0) (pre .1 .1 .1 .0) who place _
+    (at .before .before .before .before .only .ensures)
     _ _ (at .before .wide .ensures .0) (at .start .ensures) _ _ _ _
     (rw (c .before .before .before .before .nothing .ensures) at (c .before .before .walk .ensures .walked))
 

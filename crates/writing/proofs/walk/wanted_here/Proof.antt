@@ -1,5 +1,5 @@
--- `writing::walk::wanted_here` meets its contract: either what has been met is wanted, or what the goals behind can meet is known.
--- Assumes nothing.
+-- `writing::walk::wanted_here` meets its contract: either what has been met is wanted, or what the goals behind can meet is
+-- known. Assumes nothing.
 use mathlib.Core.Path.{refl, sym, _∙_}
 use native.Mathlib.Omega.{arith}
 use Rattle.sets.proofs.Members.{part-le}
@@ -28,7 +28,8 @@ left-by-requires c κs = start (c .before .before .before) .pre .1 .1 .0 .few
 returns : tie.Need-returns
 returns c =
     let pre = c .before .before .before .before .before .before .before .before .pre in
-    here-all _ _ _ (family-wants (pre .1 .1 .0)) _ (pre .1 .1 .1 .0) _ _ (c .before .before .before .only .ensures) (children-nothing (pre .1 .0) _ (pre .1 .1 .1 .1))
+    here-all _ _ _ (family-wants (pre .1 .1 .0)) _ (pre .1 .1 .1 .0) _ _ (c .before .before .before .only .ensures)
+    (children-nothing (pre .1 .0) _ (pre .1 .1 .1 .1))
     (sym (c .before .before .has .ensures) ∙ c .before .if1 .taken) _ (c .left-by .ensures)
 
 met-from-requires : tie.Need-met-from-requires
@@ -45,7 +46,8 @@ left-by-requires-2 c κs = c .before .before .before .before .before .before .be
 returns-2 : tie.Need-returns-2
 returns-2 c =
     let pre = c .before .before .before .before .before .before .before .before .before .before .pre in
-    here-left _ _ _ (family-wants (pre .1 .1 .0)) _ (pre .1 .1 .1 .0) _ _ (c .before .before .before .before .before .only .ensures) _ _ (λ X. refl) _ _ _ (c .before .before .met-from .ensures)
+    here-left _ _ _ (family-wants (pre .1 .1 .0)) _ (pre .1 .1 .1 .0) _ _
+    (c .before .before .before .before .before .only .ensures) _ _ (λ X. refl) _ _ _ (c .before .before .met-from .ensures)
     (c .before .joined .ensures) (c .left-by2 .ensures)
 
 pub wanted-here-spec : {M : Type 1} → statement M
