@@ -3,16 +3,18 @@
 
 use std::time::Duration;
 
+use bwlchareg::layout::EVERY_WORD;
 use reference::generate::wallets::Wallet;
 use reference::listing::minimal_sets_within;
 use reference::patience::Patience;
 use reference::query::{Asked, Query};
+use reference::records::Records;
 use reference::table::Table;
 
 /// So many cells are lent, as many as the listing program has.
 pub const CELLS: usize = 4_096;
 /// The refusal that says that there is no minimal set.
-const NONE: u32 = 9;
+pub const NONE: u32 = 9;
 /// More steps than these the reference does not make in a second.
 const STEPS_PER_SECOND: f64 = 1e9;
 
@@ -23,15 +25,32 @@ pub struct Listing {
     pub table: Vec<u16>,
     /// The query.
     pub query: Query,
+    /// The table in the base layout, if it means the same there.
+    base: Option<Vec<u16>>,
 }
 
 impl Listing {
+    /// The listing of a table's numbers.
+    pub fn new(table: Vec<u16>, query: Query) -> Listing {
+        let base = Records::read(&table)
+            .ok()
+            .and_then(|records| based(&records));
+        Listing { table, query, base }
+    }
+
     /// The listing of a wallet.
     pub fn of(wallet: &Wallet) -> Listing {
         Listing {
             table: wallet.records.numbers(),
             query: wallet.query,
+            base: based(&wallet.records),
         }
+    }
+
+    /// The table in the base layout, for builds that know no other. There is none
+    /// if some automaton does not demand every word: nothing means that there.
+    pub fn base(&self) -> Option<&[u16]> {
+        self.base.as_deref()
     }
 
     /// The table and what is asked, as the reference reads them.
@@ -74,6 +93,14 @@ impl Listing {
     }
 }
 
+/// The table of some records in the base layout, if all marks are 0.
+fn based(records: &Records) -> Option<Vec<u16>> {
+    let mut marks = records.automata.iter().map(|[_, _, mark]| *mark);
+    marks
+        .all(|mark| mark == EVERY_WORD)
+        .then(|| records.base_numbers())
+}
+
 /// The reference's query as one for the library.
 pub fn library_query(query: Query) -> bwlchareg::Query {
     bwlchareg::Query {
@@ -88,4 +115,23 @@ pub fn library_query(query: Query) -> bwlchareg::Query {
 /// only.
 pub fn steps_within(limit: Duration) -> u64 {
     (limit.as_secs_f64() * STEPS_PER_SECOND) as u64
+}
+
+#[cfg(test)]
+mod tests {
+    use super::Listing;
+    use bwlchareg::layout::{self, SOME_WORD};
+    use reference::shop::{Q, T, U};
+
+    #[test]
+    fn the_base_layout_leaves_out_marks_of_0_and_knows_no_others() {
+        let base = |table: &[u16]| Listing::new(table.to_vec(), Q).base().map(<[u16]>::to_vec);
+        assert_eq!(base(&T), Some(T.to_vec()));
+        let upgraded = base(&U).map(|base| bwlchareg::upgraded(&base));
+        assert_eq!(upgraded, Some(Ok(U.to_vec())));
+        let mut marked = U;
+        marked[layout::automaton(&U, 1).end - 1] = SOME_WORD;
+        assert_eq!(base(&marked), None);
+        assert_eq!(base(&U[1..]), None);
+    }
 }

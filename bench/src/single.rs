@@ -76,10 +76,8 @@ pub fn run(call: Call) -> io::Result<()> {
     let numbers = numbers(&text).filter(|numbers| numbers.len() >= 4);
     let numbers = numbers.ok_or(io::Error::other("no query with a table"))?;
     let (query, table) = numbers.split_at(4);
-    let listing = Listing {
-        table: table.to_vec(),
-        query: Query::from_numbers([query[0], query[1], query[2], query[3]]),
-    };
+    let query = Query::from_numbers([query[0], query[1], query[2], query[3]]);
+    let listing = Listing::new(table.to_vec(), query);
     println!("{}", words(&call.answer(&listing)));
     Ok(())
 }

@@ -1,5 +1,5 @@
 //! A build of the library that is loaded from a shared object and called beside
-//! another one.
+//! another one. A build that knows no marks is given tables of the base layout.
 
 #![allow(unsafe_code)]
 
@@ -10,7 +10,7 @@ use std::path::Path;
 use bwlchareg::{Query, Refusal};
 
 use super::object::Object;
-use crate::listing::{library_query, Listing};
+use crate::listing::{library_query, Listing, NONE};
 
 /// The calls as bindings/c/bwlchareg.h has them.
 type List = unsafe extern "C" fn(
@@ -48,35 +48,81 @@ type Verify = unsafe extern "C" fn(
     value: *mut u64,
 ) -> u32;
 
+/// How a build reads tables.
+#[derive(Clone, Copy, Debug, PartialEq, Eq)]
+pub enum Layout {
+    /// Automata have no marks.
+    Base,
+    /// Automata have marks.
+    Marked,
+}
+
+impl Layout {
+    /// Both, with a table of each, whose automaton is its only record.
+    const ALL: [(Layout, &[u16]); 2] = [
+        (Layout::Base, &[0, 0, 1, 0, 0, 0]),
+        (Layout::Marked, &[0, 0, 1, 0, 0, 0, 0]),
+    ];
+}
+
 /// A build, which stays loaded.
 pub struct Build {
     list: List,
     write: Write,
     verify: Verify,
+    layout: Layout,
 }
 
 impl Build {
     /// Loads a shared object that was made of an archive, or says why it cannot be
     /// loaded. That its calls are those of the header is up to whoever names the
-    /// file. A file that is named twice is loaded once.
+    /// file. Which layout it reads it is asked. A file that is named twice is loaded
+    /// once.
     pub fn load(file: &Path) -> Result<Build, String> {
         let object = Object::load(file)?;
         let list = object.find(c"bwlchareg_list")?;
         let write = object.find(c"bwlchareg_write")?;
         let verify = object.find(c"bwlchareg_verify")?;
         // SAFETY: these are the calls of the header, whose types are above.
-        Ok(unsafe {
+        let mut build = unsafe {
             Build {
                 list: mem::transmute::<*mut c_void, List>(list),
                 write: mem::transmute::<*mut c_void, Write>(write),
                 verify: mem::transmute::<*mut c_void, Verify>(verify),
+                layout: Layout::Marked,
             }
-        })
+        };
+        let reads = |(_, table): &(Layout, &[u16])| build.reads(table);
+        let layout = Layout::ALL.into_iter().find(reads);
+        (build.layout, _) = layout.ok_or(format!("{}: reads no layout", file.display()))?;
+        Ok(build)
+    }
+
+    /// Whether it accepts a table, in which there is no minimal set.
+    fn reads(&self, table: &[u16]) -> bool {
+        let query = Query {
+            principal: 1,
+            owner: 1,
+            name: 1,
+            depth: 1,
+        };
+        let refusal = self.list_numbers(table, query, &mut []).err();
+        refusal.is_some_and(|refusal| refusal.number == NONE)
     }
 
     /// Its answer, with its list in the first cells.
     pub fn list(&self, listing: &Listing, sets: &mut [u32]) -> Result<usize, Refusal> {
-        let (table, query) = asked(listing);
+        let (table, query) = self.asked(listing);
+        self.list_numbers(table, query, sets)
+    }
+
+    /// The same for the numbers of a table.
+    fn list_numbers(
+        &self,
+        table: &[u16],
+        query: Query,
+        sets: &mut [u32],
+    ) -> Result<usize, Refusal> {
         let count = answer(|value| {
             // SAFETY: as in bindings/rust/src/ffi.rs. Each pointer has its length
             // from the slice that it has its address from.
@@ -99,7 +145,7 @@ impl Build {
 
     /// Its answer for a set, with the record in the first cells.
     pub fn write(&self, listing: &Listing, set: u32, cells: &mut [u16]) -> Result<usize, Refusal> {
-        let (table, query) = asked(listing);
+        let (table, query) = self.asked(listing);
         let length = answer(|value| {
             // SAFETY: as for `list`.
             unsafe {
@@ -122,7 +168,7 @@ impl Build {
 
     /// Its verdict on a record.
     pub fn verify(&self, listing: &Listing, record: &[u16]) -> Result<u32, Refusal> {
-        let (table, query) = asked(listing);
+        let (table, query) = self.asked(listing);
         let used = answer(|value| {
             // SAFETY: as for `list`; the record is only read.
             unsafe {
@@ -141,11 +187,15 @@ impl Build {
         });
         used.map(|used| used as u32)
     }
-}
 
-/// What is asked of a build.
-fn asked(listing: &Listing) -> (&[u16], Query) {
-    (&listing.table, library_query(listing.query))
+    /// What it is asked, with the table in its layout.
+    fn asked<'a>(&self, listing: &'a Listing) -> (&'a [u16], Query) {
+        let table = match self.layout {
+            Layout::Base => listing.base().expect("every mark is 0"),
+            Layout::Marked => &listing.table,
+        };
+        (table, library_query(listing.query))
+    }
 }
 
 /// The answer of a call, which is lent its last parameter.
@@ -162,14 +212,27 @@ fn answer(call: impl FnOnce(&mut u64) -> u32) -> Result<u64, Refusal> {
 
 #[cfg(test)]
 mod tests {
-    use super::Build;
+    use super::{Build, Layout};
     use crate::families;
     use crate::listing::{Listing, CELLS};
-    use reference::shop::{R, T, U};
+    use reference::shop::{Q, R, T, U};
     use std::env;
     use std::fs;
     use std::path::{Path, PathBuf};
     use std::process::{self, Command};
+
+    /// What stands for an older build: it reads the base layout, lists nothing for a
+    /// table without credentials, and tells the length of any other.
+    const OLDER: &str = "
+        unsigned bwlchareg_list(unsigned short *t, unsigned long n, unsigned short p,
+            unsigned short o, unsigned short m, unsigned short d, unsigned *s, unsigned long k,
+            unsigned long *value)
+        {
+            *value = n;
+            return n != 4 + 6 * t[0] + 3 * t[1] + 2 * t[2] + 6 * t[3] ? 3 : t[0] ? 0 : 9;
+        }
+        void bwlchareg_write(void) {}
+        void bwlchareg_verify(void) {}";
 
     /// Shared objects of the archive that is linked, if there are the tools that
     /// make them.
@@ -184,6 +247,19 @@ mod tests {
         let object = |at| PathBuf::from(format!("{}-{at}.so", name.display()));
         let done = maker.status().ok()?.success();
         done.then(|| [0, 16, 32, 48].map(object))
+    }
+
+    /// A shared object of a source in C, if there is a compiler.
+    fn compiled(name: &str, source: &str) -> Option<PathBuf> {
+        let name = format!("bwlchareg-{name}-{}", process::id());
+        let [written, object] =
+            ["c", "so"].map(|end| env::temp_dir().join(format!("{name}.{end}")));
+        fs::write(&written, source).expect("a file that can be written");
+        let mut compiler = Command::new("cc");
+        compiler.args(["-shared", "-fPIC", "-o"]);
+        let ended = compiler.arg(&object).arg(&written).status();
+        fs::remove_file(written).expect("a file that was there");
+        ended.ok()?.success().then_some(object)
     }
 
     /// Loads an object and removes its file.
@@ -207,6 +283,7 @@ mod tests {
     }
 
     fn answers_as_the_linked_one(build: &Build) {
+        assert_eq!(build.layout, Layout::Marked);
         for table in [&T[..], &U] {
             let listing = Listing::of(&families::shop(table));
             let (mut sets, mut loaded_sets) = ([0; CELLS], [0; CELLS]);
@@ -221,6 +298,29 @@ mod tests {
             }
             assert_eq!(build.verify(&listing, &R), listing.verify(&R));
         }
+    }
+
+    #[test]
+    fn an_older_build_is_given_the_base_layout() {
+        let Some(object) = compiled("older", OLDER) else {
+            return eprintln!("skipped: there is no compiler");
+        };
+        let build = taken(object);
+        assert_eq!(build.layout, Layout::Base);
+        let listing = Listing::new(U.to_vec(), Q);
+        let automata = usize::from(U[2]);
+        assert_eq!(build.list(&listing, &mut []), Ok(U.len() - automata));
+    }
+
+    #[test]
+    fn a_build_that_reads_no_layout_is_told() {
+        let source = OLDER.replace("4 +", "9 +");
+        let Some(object) = compiled("none", &source) else {
+            return eprintln!("skipped: there is no compiler");
+        };
+        let wrong = Build::load(&object).err().expect("no build");
+        fs::remove_file(object).expect("an object that was there");
+        assert!(wrong.ends_with("reads no layout"), "{wrong}");
     }
 
     #[test]

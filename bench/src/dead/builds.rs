@@ -137,8 +137,8 @@ fn time_verdicts(form: Form, pairs: &[Pair]) {
 fn grown() -> Vec<Claim> {
     let mut claims = calls::grown(&mut Random::new(SEED));
     claims.retain(|claim| {
-        let (table, query) = (claim.table.clone(), claim.query);
-        !can_a_role_come(&Listing { table, query })
+        let listing = Listing::new(claim.table.clone(), claim.query);
+        !can_a_role_come(&listing)
     });
     claims
 }
@@ -176,10 +176,9 @@ fn with_automata(automata: usize, attached: u16) -> Records {
 
 /// The times of one verdict by both builds, over some claims.
 fn verdicts(pairs: &[Pair], what: &str, claims: Vec<Claim>) -> [f64; 2] {
-    let claims = claims.into_iter().map(|claim| {
-        let (table, query) = (claim.table, claim.query);
-        (Listing { table, query }, claim.record)
-    });
+    let claims = claims
+        .into_iter()
+        .map(|claim| (Listing::new(claim.table, claim.query), claim.record));
     let claims: Vec<(Listing, Vec<u16>)> = claims.collect();
     let times = least(pairs, |pair| {
         for (listing, record) in &claims {

@@ -29,8 +29,7 @@ fn solver() -> Option<Solver> {
 
 /// The sets that the solver lists for a table and a query.
 fn listed(solver: &Solver, table: &[u16], query: Query) -> Vec<u32> {
-    let table = table.to_vec();
-    let list = solver.minimal_sets(&Listing { table, query }, LONG);
+    let list = solver.minimal_sets(&Listing::new(table.to_vec(), query), LONG);
     list.expect("a list")
 }
 

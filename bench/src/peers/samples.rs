@@ -27,7 +27,7 @@ pub fn listings(count: usize) -> Vec<Listing> {
         let (table, query) = (demanding_every_word(made_up.table), made_up.query);
         let is_valid = reference::check_query(&table, query).is_ok();
         let [credentials, cells, ..] = layout::counts(&table);
-        let listing = Listing { table, query };
+        let listing = Listing::new(table, query);
         let is_small = credentials <= CREDENTIALS && cells <= CELLS;
         if is_valid && is_small && (query.depth <= DEPTH || !can_a_role_come(&listing)) {
             listings.push(listing);
