@@ -43,6 +43,7 @@ mod plot;
 mod sheet;
 mod single;
 mod timing;
+mod within;
 mod words;
 mod writing;
 
