@@ -9,7 +9,7 @@ pub mod object;
 mod sides;
 
 pub use build::Build;
-pub use sides::{ratio, Side, Sides, Turns};
+pub use sides::{ratio, summary, Side, Sides, Turns, LEAST};
 
 /// An object of the older build and one of the newer build, which take turns.
 pub type Pair = [Build; 2];

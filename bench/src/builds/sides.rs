@@ -9,7 +9,7 @@ use bwlchareg::Refusal;
 use super::{Build, Pair};
 use crate::listing::Listing;
 use crate::sheet::Form;
-use crate::timing::{least_of_turns, Call};
+use crate::timing::{least_of_turns, median, Call};
 use crate::writing::spread;
 
 /// The heads of the columns about older and newer builds, and about the linked one.
@@ -153,6 +153,28 @@ impl Sides<'_> {
     }
 }
 
+/// The heads of a summary's last columns, if there are two sides.
+pub const LEAST: [&str; 2] = ["worst", "of"];
+
+/// The cells of a summary of some tables, by their names: the median of each side's
+/// times, and if there are two sides the median of the tables' ratios, the least of
+/// them, and where it is.
+pub fn summary(form: Form, names: &[&str], times: &[Vec<f64>]) -> Vec<String> {
+    let sides = 0..times[0].len();
+    let of_side = |side: usize| median(times.iter().map(|times| times[side]).collect());
+    let figures = sides.map(|side| form.time(of_side(side), 1));
+    let ratios: Vec<f64> = times.iter().filter_map(|times| ratio(times)).collect();
+    let least = ratios
+        .iter()
+        .zip(names)
+        .min_by(|one, other| one.0.total_cmp(other.0));
+    let ratios = least.map(|(&worst, name)| {
+        let [median, worst] = [median(ratios.clone()), worst].map(|ratio| form.close_ratio(ratio));
+        [median, worst, name.to_string()]
+    });
+    figures.chain(ratios.into_iter().flatten()).collect()
+}
+
 /// How many times as much the first of two figures is.
 pub fn ratio(figures: &[f64]) -> Option<f64> {
     match figures {
@@ -171,7 +193,7 @@ fn columns(rows: Vec<Vec<f64>>) -> Vec<Vec<f64>> {
 
 #[cfg(test)]
 mod tests {
-    use super::{columns, ratio, Sides, Turns};
+    use super::{columns, ratio, summary, Sides, Turns};
     use crate::families;
     use crate::listing::{Listing, CELLS};
     use crate::sheet::Form;
@@ -212,6 +234,16 @@ mod tests {
     fn only_two_figures_have_a_ratio() {
         assert_eq!(ratio(&[3.0, 2.0]), Some(1.5));
         assert_eq!(ratio(&[3.0]), None);
+    }
+
+    #[test]
+    fn the_worst_ratio_is_told_with_its_table() {
+        let names = ["one", "two", "three"];
+        let times = [[100.0, 50.0], [200.0, 250.0], [300.0, 200.0]].map(Vec::from);
+        let written = summary(Form::Markdown, &names, &times);
+        assert_eq!(written, ["200 ns", "200 ns", "1.50", "0.80", "two"]);
+        let alone = [100.0, 300.0, 200.0].map(|time| vec![time]);
+        assert_eq!(summary(Form::Markdown, &names, &alone), ["200 ns"]);
     }
 
     #[test]

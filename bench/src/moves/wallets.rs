@@ -9,13 +9,12 @@ use reference::shop;
 
 use super::edges::Edges;
 use super::tables::short;
-use crate::builds::{ratio, Side, Sides, Turns};
+use crate::builds::{summary, Side, Sides, Turns, LEAST};
 use crate::clubs::tables::{clubs, Constraint};
 use crate::families::{self, Named};
 use crate::listing::{Listing, CELLS};
 use crate::peers::wallets::{of_size, sizes};
 use crate::sheet::{Form, Lines};
-use crate::timing::median;
 
 const TURNS: Turns = Turns {
     round: Duration::from_micros(50),
@@ -82,7 +81,8 @@ pub fn time(form: Form, sides: &Sides) {
                     edges.words().to_string(),
                     if attached { "yes" } else { "no" }.to_string(),
                 ];
-                lines.line(&[first.to_vec(), cells(form, &wallets, &times)].concat());
+                let names: Vec<&str> = wallets.iter().map(|small| small.what.as_str()).collect();
+                lines.line(&[first.to_vec(), summary(form, &names, &times)].concat());
             }
         }
     }
@@ -91,29 +91,11 @@ pub fn time(form: Form, sides: &Sides) {
 /// Prints the head of the lines.
 fn begin(form: Form, sides: &Sides) -> Lines {
     let first = ["calls", "wallets", "automata, edges", "attached"].map(String::from);
-    let worst = ["worst", "of"].map(String::from);
+    let worst = LEAST.map(String::from);
     let worst = if sides.are_two() { &worst[..] } else { &[] };
     let heads = [&first[..], &sides.heads(), worst].concat();
     let title = "lists and records of small wallets, median time of one call";
     Lines::begin(form, &form.timed(title), &heads)
-}
-
-/// The cells of the figures: the median of each side's times, and if there are two
-/// sides the median of the wallets' ratios, the least of them, and where it is.
-fn cells(form: Form, wallets: &[Small], times: &[Vec<f64>]) -> Vec<String> {
-    let sides = 0..times[0].len();
-    let of_side = |side: usize| median(times.iter().map(|times| times[side]).collect());
-    let figures = sides.map(|side| form.time(of_side(side), 1));
-    let ratios: Vec<f64> = times.iter().filter_map(|times| ratio(times)).collect();
-    let least = ratios
-        .iter()
-        .zip(wallets)
-        .min_by(|one, other| one.0.total_cmp(other.0));
-    let ratios = least.map(|(&worst, small)| {
-        let [median, worst] = [median(ratios.clone()), worst].map(|ratio| form.close_ratio(ratio));
-        [median, worst, small.what.clone()]
-    });
-    figures.chain(ratios.into_iter().flatten()).collect()
 }
 
 /// The time of listing a wallet's sets by each side.
@@ -200,8 +182,7 @@ fn grown() -> Vec<Small> {
 
 #[cfg(test)]
 mod tests {
-    use super::{cells, families, Small, GIVEN};
-    use crate::sheet::Form;
+    use super::{families, GIVEN};
 
     #[test]
     fn no_wallet_is_missing() {
@@ -215,23 +196,5 @@ mod tests {
             let lists = GIVEN.map(|(edges, attached)| small.with(edges, attached).library_list());
             assert!(lists.iter().all(|list| list == &lists[0]), "{}", small.what);
         }
-    }
-
-    #[test]
-    fn the_worst_ratio_is_told_with_its_wallet() {
-        let [(_, wallets), ..] = families();
-        let wallets: Vec<Small> = wallets.into_iter().take(3).collect();
-        let times = [[100.0, 50.0], [200.0, 250.0], [300.0, 200.0]].map(Vec::from);
-        let written = cells(Form::Markdown, &wallets, &times);
-        assert_eq!(
-            written,
-            ["200 ns", "200 ns", "1.50", "0.80", &wallets[1].what]
-        );
-        let alone = cells(
-            Form::Markdown,
-            &wallets,
-            &[vec![100.0], vec![300.0], vec![200.0]],
-        );
-        assert_eq!(alone, ["200 ns"]);
     }
 }
