@@ -15,6 +15,7 @@ usage: bench
        bench dead [--before FILE --after FILE]...
        bench clubs [--limit SECONDS]
        bench moves [--before FILE --after FILE]...
+       bench marks [--limit SECONDS] [--before FILE --after FILE]...
        bench peers [--limit SECONDS] [--plot FILE]
        bench page [--limit SECONDS] [--plot FILE] [--before FILE --after FILE]...
        bench climb [--writing] [--steps NUMBER] [--seed NUMBER] [--limit SECONDS]
@@ -27,17 +28,20 @@ dies early are timed, beside twins whose constraint does not, and the tables are
 Markdown. With `clubs` the lists and records of clubs are timed, whose friends are
 the friends of their friends, and the tables are Markdown. With `moves` the moving
 of state sets along roles is timed, on long records beside a loop in C and on short
-ones, and the tables are Markdown. With `peers` several ways of listing are timed
-on the same wallets, and the tables are Markdown. With `page` all this is done, all
-tables are Markdown, and a table about the machine comes first. With `climb` tables
-on which the library's list takes long are looked for, and the slowest ones
-printed. With `single` one call is made for the numbers of a query and a table on
-standard input, and the numbers that it gives are printed: `clubs` starts it where
-a call may not end in time.
+ones, and the tables are Markdown. With `marks` wallets are timed whose automata
+demand every word, some word, or the one here and the other there, and tables in
+which many automata demand some word, and the tables are Markdown. With `peers`
+several ways of listing are timed on the same wallets, and the tables are Markdown.
+With `page` all this is done, all tables are Markdown, and a table about the machine
+comes first. With `climb` tables on which the library's list takes long are looked
+for, and the slowest ones printed. With `single` one call is made for the numbers of
+a query and a table on standard input, and the numbers that it gives are printed:
+`clubs` and `marks` start it where a call may not end in time.
 
 --limit SECONDS   how long a call may take for one wallet, 1 if not given
 --plot FILE       where a plot of the ways is written, as SVG
---before FILE     an older build of the library, as a shared object
+--before FILE     an older build of the library, as a shared object; one that knows
+                  no marks is given tables of the base layout
 --after FILE      a newer build that is timed beside it; docs/PERFORMANCE.md says
                   how they are made, and why each should be given several times
 --steps NUMBER    how many steps a climb has, 1000 if not given
@@ -52,6 +56,7 @@ const SEED: u64 = 2015;
 const PEERS: &[&str] = &["--limit", "--plot"];
 const PAGE: &[&str] = &["--limit", "--plot", "--before", "--after"];
 const BUILDS: &[&str] = &["--before", "--after"];
+const MARKS: &[&str] = &["--limit", "--before", "--after"];
 const CLUBS: &[&str] = &["--limit"];
 
 /// The limit if none is given.
@@ -74,6 +79,8 @@ pub enum Task {
     Clubs(Duration),
     /// Time moves, by two builds if they are given.
     Moves(Vec<[PathBuf; 2]>),
+    /// Time marks, by two builds too if they are given.
+    Marks(Options),
     /// Time several ways of listing.
     Peers(Options),
     /// All of this, as tables for the page.
@@ -106,6 +113,7 @@ pub fn task(arguments: impl IntoIterator<Item = OsString>) -> Result<Task, Strin
         Some("writing") => alone(arguments, Task::Writing),
         Some("dead") => Ok(Task::Dead(options(arguments, BUILDS)?.builds)),
         Some("moves") => Ok(Task::Moves(options(arguments, BUILDS)?.builds)),
+        Some("marks") => Ok(Task::Marks(options(arguments, MARKS)?)),
         Some("clubs") => Ok(Task::Clubs(options(arguments, CLUBS)?.limit)),
         Some("peers") => Ok(Task::Peers(options(arguments, PEERS)?)),
         Some("page") => Ok(Task::Page(options(arguments, PAGE)?)),
@@ -284,6 +292,14 @@ mod tests {
                 "moves --after b --before a",
                 Task::Moves(vec![["a", "b"].map(PathBuf::from)]),
             ),
+            ("marks", Task::Marks(options(1_000, None))),
+            (
+                "marks --before a --limit 2 --after b",
+                Task::Marks(Options {
+                    builds: vec![["a", "b"].map(PathBuf::from)],
+                    ..options(2_000, None)
+                }),
+            ),
             ("single library", Task::Single(single::Call::Library)),
             ("single reference", Task::Single(single::Call::Reference)),
             ("single write 7", Task::Single(single::Call::Write(7))),
@@ -336,6 +352,8 @@ mod tests {
             ("clubs --plot a", "unknown argument --plot"),
             ("moves --limit 1", "unknown argument --limit"),
             ("moves --before a", UNEQUAL),
+            ("marks --plot a", "unknown argument --plot"),
+            ("marks --after a", UNEQUAL),
             ("single", "something is missing after single"),
             ("single list", "unknown argument list"),
             ("single library 7", "unknown argument 7"),

@@ -15,7 +15,8 @@
 //! early, and, if asked, an older build of the library beside a newer one. With
 //! `clubs` it times clubs whose friends are the friends of their friends. With
 //! `moves` it times the moving of state sets along roles, beside a loop in C, and
-//! by two builds too, if asked.
+//! by two builds too, if asked. With `marks` it times automata that demand every
+//! word or some word, and by two builds too, if asked.
 //! With `peers` it times the library's list, the reference's, an enumeration of
 //! proofs and an answer set solver on the same wallets, and compares what they
 //! list. With `page` it does all this, and its tables are those of
@@ -36,6 +37,7 @@ mod families;
 mod listing;
 mod lists;
 mod machine;
+mod marks;
 mod moves;
 mod peers;
 mod pipe;
@@ -71,6 +73,8 @@ const DEAD: &str = "### Constraints that die early";
 const CLUBS: &str = "### Clubs";
 /// The head of the page's section about moves.
 const MOVES: &str = "### Moves";
+/// The head of the page's section about marks.
+const MARKS: &str = "### Marks";
 /// The code for wrong arguments.
 const WRONG_ARGUMENTS: u8 = 2;
 
@@ -96,6 +100,7 @@ fn done(task: Task) -> ExitCode {
         Task::Dead(builds) => return time_dead(&builds),
         Task::Clubs(limit) => print_clubs(limit),
         Task::Moves(builds) => return time_moves(&builds),
+        Task::Marks(options) => return time_marks(&options),
         Task::Peers(options) => return time_peers(&options, false),
         Task::Page(options) => return time_peers(&options, true),
         Task::Climb(climb) => climb::run(climb),
@@ -115,7 +120,7 @@ fn time_calls(form: Form) {
 
 /// Times the ways of listing, prints the tables and writes the plot. For the
 /// page there are tables of the machine, of the calls, of writing, of constraints
-/// that die early, of clubs and of moves beside them. It fails if two ways list
+/// that die early, of clubs, of moves and of marks beside them. It fails if two ways list
 /// different sets, if the plot cannot be written, or if a build or the loop in C
 /// cannot be loaded.
 fn time_peers(options: &Options, page: bool) -> ExitCode {
@@ -148,6 +153,8 @@ fn time_peers(options: &Options, page: bool) -> ExitCode {
         clubs::time(options.limit);
         println!("\n{MOVES}");
         moves::time(Form::Markdown, &pairs, &moves_limit);
+        println!("\n{MARKS}");
+        marks::time(Form::Markdown, options.limit, &pairs);
     }
     match drawn {
         Some(Err(error)) => unwritten(&error),
@@ -181,6 +188,20 @@ fn time_moves(builds: &[[PathBuf; 2]]) -> ExitCode {
     print_command();
     machine::print();
     moves::time(Form::Markdown, &pairs, &limit);
+    ExitCode::SUCCESS
+}
+
+/// Times marks, by two builds too if they are given. It fails if one of them cannot
+/// be loaded.
+fn time_marks(options: &Options) -> ExitCode {
+    let pairs = match loaded(&options.builds) {
+        Ok(pairs) => pairs,
+        Err(code) => return code,
+    };
+    println!("{MARKS}\n\nThis section was printed by\n");
+    print_command();
+    machine::print();
+    marks::time(Form::Markdown, options.limit, &pairs);
     ExitCode::SUCCESS
 }
 

@@ -112,6 +112,11 @@ pub fn least_of_turns(round: Duration, long: Duration, calls: Vec<Call>) -> Vec<
     turns(round, long, calls).into_iter().map(least).collect()
 }
 
+/// The same with the median of the rounds.
+pub fn of_turns(round: Duration, long: Duration, calls: Vec<Call>) -> Vec<f64> {
+    turns(round, long, calls).into_iter().map(median).collect()
+}
+
 /// The times of the rounds of two calls.
 fn two_turns<One, Other>(
     round: Duration,
@@ -123,7 +128,7 @@ fn two_turns<One, Other>(
 }
 
 /// A call whose value nobody asks for.
-fn unheard<'a, Value>(mut call: impl FnMut() -> Value + 'a) -> Call<'a> {
+pub fn unheard<'a, Value>(mut call: impl FnMut() -> Value + 'a) -> Call<'a> {
     Box::new(move || {
         black_box(call());
     })

@@ -5,7 +5,7 @@
 //! - [`builds`]: an older build beside a newer one
 
 mod builds;
-mod tables;
+pub mod tables;
 
 use std::fmt::Debug;
 use std::time::Duration;

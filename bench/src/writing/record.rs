@@ -2,6 +2,8 @@
 
 use std::time::Duration;
 
+use bwlchareg::Refusal;
+
 use crate::listing::Listing;
 use crate::timing::in_turns;
 
@@ -41,6 +43,26 @@ impl Written {
         }
     }
 
+    /// The set.
+    pub fn set(&self) -> u32 {
+        self.set
+    }
+
+    /// As many cells as the record has.
+    pub fn cells(&self) -> Vec<u16> {
+        self.record.clone()
+    }
+
+    /// Writes the record again.
+    pub fn write(&self, cells: &mut [u16]) -> Result<usize, Refusal> {
+        self.listing.write(self.set, cells)
+    }
+
+    /// Verifies the record again.
+    pub fn verify(&self) -> Result<u32, Refusal> {
+        self.listing.verify(&self.record)
+    }
+
     /// How many nodes the record has.
     pub fn nodes(&self) -> usize {
         self.record.len() / 2
@@ -49,9 +71,7 @@ impl Written {
     /// The times of writing and of verifying it, in nanoseconds, in rounds that
     /// last so long at the least.
     pub fn times(&self, round: Duration) -> [f64; 2] {
-        let mut cells = self.record.clone();
-        let write = || self.listing.write(self.set, &mut cells);
-        let verify = || self.listing.verify(&self.record);
-        in_turns(round, write, verify)
+        let mut cells = self.cells();
+        in_turns(round, || self.write(&mut cells), || self.verify())
     }
 }
