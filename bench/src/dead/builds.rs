@@ -132,13 +132,14 @@ fn time_verdicts(form: Form, pairs: &[Pair]) {
     }
 }
 
-/// Of the grown records those of tables in which no role can come again with
-/// another principal: a build that goes by roles accepts them too.
+/// Of the grown records those of tables whose marks are all 0, and in which no role
+/// can come again with another principal: a build that knows no marks, or goes by
+/// roles, accepts them too.
 fn grown() -> Vec<Claim> {
     let mut claims = calls::grown(&mut Random::new(SEED));
     claims.retain(|claim| {
         let listing = Listing::new(claim.table.clone(), claim.query);
-        !can_a_role_come(&listing)
+        listing.base().is_some() && !can_a_role_come(&listing)
     });
     claims
 }
@@ -197,4 +198,19 @@ fn accepted(build: &Build, claims: &[(Listing, Vec<u16>)]) -> usize {
         .iter()
         .map(|(listing, record)| build.verify(listing, record));
     verdicts.filter(Result::is_ok).count()
+}
+
+#[cfg(test)]
+mod tests {
+    use super::grown;
+    use crate::listing::Listing;
+
+    #[test]
+    fn a_build_that_knows_no_marks_can_be_asked_about_grown_records() {
+        let claims = grown();
+        assert!(claims.len() > 100);
+        let listings = claims.into_iter();
+        let mut listings = listings.map(|claim| Listing::new(claim.table, claim.query));
+        assert!(listings.all(|listing| listing.base().is_some()));
+    }
 }
