@@ -1,7 +1,7 @@
 -- What a family covers, and what it lies inside: how both pass on to the families that are made of it. The premises are what the
 -- contracts of src/lib.rt tell.
 use mathlib.Core.Path.{_≡_, refl, sym, ap, _∙_}
-use mathlib.Core.Bool.{Bool, true, false}
+use mathlib.Core.Bool.{Bool, true, false, not}
 use Prim.Native.Nat.{ℕ, _<_}
 use lib.Bits.{bitOr, or-lt}
 use lib.Dec.{eqb}
@@ -9,8 +9,8 @@ use borrow.Author.Tests.{eq-eqb, eqb-true}
 use Rattle.sets.specs.Logic.{_and_, _or_, anyBelow}
 use Rattle.sets.specs.Sets.{part}
 use Rattle.sets.proofs.Tests.{and-both, and-first, and-second, any-reached, any-shows, false-true, or-either, or-first, or-second}
-use Rattle.sets.proofs.Tests.{same-test}
-use Rattle.sets.proofs.Members.{part-antisym, part-or, part-or-left, part-or-right, part-refl, part-trans}
+use Rattle.sets.proofs.Tests.{refuted, same-test}
+use Rattle.sets.proofs.Members.{part-antisym, part-or, part-or-left, part-or-right, part-refl, part-trans, part-zero}
 use Rattle.families.specs.Families.{FamilyOf, Inside, Within, allSets, completes, covers, inFamily, joins, leaves, raises}
 use Rattle.families.specs.declared.Family.{Family}
 
@@ -55,6 +55,46 @@ pub covers-more : (f g : Family) → Within f g → (X : ℕ) → covers f X ≡
 covers-more f g among X there =
     let (Y, l, own, more) = covers-shows f X there in
     covers-reached g X Y l (among Y l own) more
+
+-- no set covers nothing, and any set the empty one
+pub covers-nothing : (f : Family) → FamilyOf (λ X. false) f → (X : ℕ) → covers f X ≡ false
+covers-nothing f is X =
+    refuted _ (λ there. let (Y, l, own, more) = covers-shows f X there in false-true (sym (is Y l) ∙ own))
+
+pub covers-empty : (f : Family) {none : Bool} → none ≡ not (anyBelow (inFamily f) allSets) → not none ≡ covers f 0
+covers-empty f {none} told = ap not told ∙ same-test _ _ on back
+  where
+    twice : (b : Bool) → not (not b) ≡ b
+    twice true = refl
+    twice false = refl
+
+    on : not (not (anyBelow (inFamily f) allSets)) ≡ true → covers f 0 ≡ true
+    on h =
+        let (Y, l, own) = any-shows (inFamily f) allSets (sym (twice _) ∙ h) in
+        covers-reached f 0 Y l own (part-zero Y)
+
+    back : covers f 0 ≡ true → not (not (anyBelow (inFamily f) allSets)) ≡ true
+    back h =
+        let (Y, l, own, more) = covers-shows f 0 h in
+        twice _ ∙ any-reached (inFamily f) allSets Y l own
+
+-- a set that includes X is itself with X
+pub covers-raised : (f g : Family) (X : ℕ) → FamilyOf (raises f X) g → {r : Bool}
+    → r ≡ anyBelow (λ Y. inFamily f Y and inFamily g Y) allSets → r ≡ covers f X
+unfolding raises
+covers-raised f g X is told = told ∙ same-test _ _ on back
+  where
+    on : anyBelow (λ Y. inFamily f Y and inFamily g Y) allSets ≡ true → covers f X ≡ true
+    on h =
+        let (Y, l, own, raised) = any-in f (inFamily g) h in
+        let (Z, m, was, both) = any-in f (λ Z. eqb (bitOr X Z) Y) (sym (is Y l) ∙ raised) in
+        covers-reached f X Y l own (rw (eqb-true (bitOr X Z) Y both) at (part-or-left X Z))
+
+    back : covers f X ≡ true → anyBelow (λ Y. inFamily f Y and inFamily g Y) allSets ≡ true
+    back h =
+        let (Y, l, own, more) = covers-shows f X h in
+        let same = part-antisym (bitOr X Y) Y (part-or X Y Y more (part-refl Y)) (part-or-right X Y) in
+        in-any f (inFamily g) Y l own (is Y l ∙ in-any f (λ Z. eqb (bitOr X Z) Y) Y l own (eq-eqb (bitOr X Y) Y same))
 
 pub covers-only : (f : Family) (M : ℕ) → M < allSets → FamilyOf (eqb M) f → (X : ℕ) → covers f X ≡ part X M
 covers-only f M few is X = same-test _ _ on back

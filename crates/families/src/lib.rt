@@ -111,6 +111,17 @@ impl Family {
         false
     }
 
+    // Some set of the family includes this one: with this one it is still in the family.
+    pub fn covers(self, set: AutomatonSet) -> bool
+        requires { ⌜ set < allSets ⌝ }
+        ensures { λ r. ⌜ r ≡ Families.covers self set ⌝ }
+    {
+        if set == 0 {
+            return !self.is_none();
+        }
+        self.meets(self.raised(set))
+    }
+
     // The unions of a set of the family and a set of the other.
     pub fn joined(self, other: Family) -> Family
         ensures { λ r. ⌜ FamilyOf (joins self other) r ⌝ }
