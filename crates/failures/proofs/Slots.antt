@@ -16,8 +16,7 @@ use Rattle.table.specs.Limits.{mostAutomata, mostCredentials}
 use Rattle.automata.specs.declared.StateSets.{StateSets}
 use Rattle.members.specs.declared.above.Above.{Above}
 use Rattle.members.proofs.Reading.{below-next}
-use Rattle.failures.specs.Failures.{Kept, Recalled, familyCell, memoryCells, metCell, slotCell}
-use Rattle.failures.specs.Failures.{slotCells, slots, stateCell}
+use Rattle.failures.specs.Failures.{Kept, Recalled, SlotIn, familyCell, metCell, slotCell, slotCells, stateCell}
 use Rattle.failures.specs.Cells.{CoveredAt, StatesAt, Written}
 
 -- a cell by two ways to count it
@@ -119,10 +118,10 @@ written-next from count values old new at v so-far here there is =
     }
 
 -- the three first cells
-pub head-written : (memory : List ℕ) (k levels person place : ℕ) → length memory ≡ memoryCells → k < slots
+pub head-written : (memory : List ℕ) (k levels person place : ℕ) → SlotIn memory k
     → Written (slotCells * k) 3 (levels ∷ person ∷ place ∷ []) memory
     (set (set (set memory (slotCells * k) levels) (slotCell k 1) person) (slotCell k 2) place)
-head-written memory k levels person place room there =
+head-written memory k levels person place inside =
     let from = slotCells * k in
     let values = levels ∷ person ∷ place ∷ [] in
     let none = written-none from values memory in

@@ -1,8 +1,8 @@
--- A memory of goals that were asked, as a search keeps it: slots of forty cells each. A slot has the levels that were left (cell
--- 0), the places of principal and role (cells 1 and 2), the state sets (eight cells from cell 4 on), the pairs of the branch that
--- stood in the way: for each place of a role the principals (twenty cells from cell 12 on), and a family of sets of automata
--- (eight cells from cell 32 on): the goal can meet no set that the family does not cover, and fails where it has none. What it is
--- to meet a set is for the search to say (crate search, specs/Failing.antt).
+-- A memory of goals that were asked, as a search keeps it: slots of forty cells each, at least one. A slot has the levels that were
+-- left (cell 0), the places of principal and role (cells 1 and 2), the state sets (eight cells from cell 4 on), the pairs of the
+-- branch that stood in the way: for each place of a role the principals (twenty cells from cell 12 on), and a family of sets of
+-- automata (eight cells from cell 32 on): the goal can meet no set that the family does not cover, and fails where it has none. What
+-- it is to meet a set is for the search to say (crate search, specs/Failing.antt).
 use Prim.Native.Nat.{ℕ, _+_, _*_, _<_, _≤_}
 use mathlib.Core.Path.{_≡_}
 use mathlib.Core.List.{List}
@@ -20,14 +20,15 @@ use Rattle.automata.specs.declared.StateSets.{StateSets}
 use Rattle.members.specs.Above.{pairAbove}
 use Rattle.members.specs.declared.above.Above.{Above}
 
-abbrev pub slots : ℕ
-slots = 128
-
 abbrev pub slotCells : ℕ
 slotCells = 40
 
+-- a memory of 128 slots, where much is searched, and one of 8, where little is
 abbrev pub memoryCells : ℕ
-memoryCells = slotCells * slots
+memoryCells = slotCells * 128
+
+abbrev pub fewCells : ℕ
+fewCells = slotCells * 8
 
 abbrev pub slotCell : ℕ → ℕ → ℕ
 slotCell k x = slotCells * k + x
@@ -40,6 +41,15 @@ metCell k r = slotCell k (12 + r)
 
 abbrev pub familyCell : ℕ → ℕ → ℕ
 familyCell k j = slotCell k (32 + j)
+
+-- slot k lies inside the memory
+abbrev pub SlotIn : List ℕ → ℕ → Type 0
+SlotIn memory k = slotCell (k + 1) 0 ≤ length memory
+
+-- the slots that lie inside are the first `count`
+pub record SlotsIn (memory : List ℕ) (count : ℕ) : Type 0 where
+  pub inside : (k : ℕ) → k < count → SlotIn memory k
+  pub all : (k : ℕ) → SlotIn memory k → k < count
 
 -- what slot k holds
 pub record Holds (memory : List ℕ) (k person place levels : ℕ) (s : StateSets) (met : Above) (found : Family) : Type 0 where

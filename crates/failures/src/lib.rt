@@ -4,21 +4,19 @@
 use automata::StateSets;
 use families::Family;
 use members::Above;
+use sets::CredentialSet;
 use table::layout;
 ghost use mathlib.Core.Path.{_≡_};
 ghost use mathlib.Core.Bool.{true};
 ghost use Prim.Native.Nat.{_<_, _≤_};
-ghost use lib.ListN.{length};
 ghost use Rattle.families.specs.Families.{familyWords};
 ghost use Rattle.table.specs.Limits.{mostAutomata, mostCredentials, mostDepth};
-ghost use Rattle.failures.specs.Failures.{FamilyAt, Joined, Kept, MetAt, Recalled, Spared};
-ghost use Rattle.failures.specs.Failures.{familyCell, memoryCells, metCell, slots, stateCell};
+ghost use Rattle.failures.specs.Failures.{FamilyAt, Joined, Kept, MetAt, Recalled, SlotIn, SlotsIn, Spared};
+ghost use Rattle.failures.specs.Failures.{familyCell, metCell, stateCell};
 ghost use Rattle.failures.specs.Cells.{CoveredAt, StatesAt, Written};
 
-// Slots of forty cells each.
-const SLOTS: usize = 128;
-
-const SLOT_CELLS: usize = 40;
+// A memory is slots of forty cells each, at least one.
+pub const SLOT_CELLS: usize = 40;
 
 const FIRST_STATE: usize = 4;
 
@@ -26,19 +24,55 @@ const FIRST_MET: usize = 12;
 
 const FIRST_WORD: usize = 32;
 
+// A memory of 128 slots is lent where much is searched, and one of 8 where little is.
+const SLOTS: usize = 128;
+
+const FEW_SLOTS: usize = 8;
+
 pub const CELLS: usize = SLOT_CELLS * SLOTS;
+
+pub const FEW_CELLS: usize = SLOT_CELLS * FEW_SLOTS;
+
+// A set with no more members is small.
+const FEW_MEMBERS: usize = 8;
 
 const ROLES: usize = layout::MOST_CREDENTIALS as usize;
 
-// The sum by which a goal finds its slot takes in one state set after another, times this, and stays below 2^21.
+// The sum by which a goal finds its slot takes in one state set after another, times this, and stays below 2^21: three digits to
+// the base of `SPREAD`, which are brought together at the end.
 const FACTOR: usize = 37;
 
-const SUMS: usize = SLOTS * SLOTS * SLOTS;
+const SPREAD: usize = 128;
 
-// The slot of a goal that is asked from these state sets; goals that share one put each other out.
-pub fn slot(person: usize, place: usize, states: StateSets) -> usize
+const SUMS: usize = SPREAD * SPREAD * SPREAD;
+
+// Whether the set has at most eight members. It only decides how much memory is lent, so no fact rests on it.
+pub fn is_small(set: CredentialSet) -> bool {
+    let mut rest = set;
+    let mut i = 0;
+    while i < FEW_MEMBERS {
+        if rest == 0 {
+            return true;
+        }
+        // the set without its lowest member
+        rest = rest & (rest - 1);
+        i += 1;
+    }
+    rest == 0
+}
+
+// How many whole slots the memory has.
+pub fn slot_count(memory: &[u32]) -> usize
+    ensures { λ r. ⌜ SlotsIn (now (memory .entry)) r ⌝ }
+{
+    memory.len() / SLOT_CELLS
+}
+
+// The slot, of so many, of a goal that is asked from these state sets; goals that share one put each other out.
+pub fn slot(person: usize, place: usize, states: StateSets, count: usize) -> usize
     requires { ⌜ (person < mostCredentials) × (place < mostCredentials) ⌝ }
-    ensures { λ r. ⌜ r < slots ⌝ }
+    requires { ⌜ 0 < count ⌝ }
+    ensures { λ r. ⌜ r < count ⌝ }
 {
     let mut sum = person * ROLES + place;
     let mut j = 0;
@@ -46,8 +80,8 @@ pub fn slot(person: usize, place: usize, states: StateSets) -> usize
         sum = (sum * FACTOR + states.sets[j] as usize) % SUMS;
         j += 1;
     }
-    // the upper states of a set count only in the upper digits
-    (sum + sum / SLOTS + sum / SLOTS / SLOTS) % SLOTS
+    // the upper states of a set count only in the upper digits; the mask spreads evenly where the slots are a power of 2
+    (sum + sum / SPREAD + sum / SPREAD / SPREAD) & (count - 1)
 }
 
 // Slot k tells what the goal can meet below this branch, with so many levels left.
@@ -60,7 +94,7 @@ pub fn recalls(
     states: StateSets,
     above: Above,
 ) -> bool
-    requires { ⌜ (length (now memory) ≡ memoryCells) × (k < slots) ⌝ }
+    requires { ⌜ SlotIn (now memory) k ⌝ }
     ensures { λ r. ⌜ (r ≡ true → Recalled (now (memory .entry)) k person place levels states above) ⌝ }
 {
     let at = SLOT_CELLS * k;
@@ -88,7 +122,7 @@ fn wide(x: u32) -> usize
 
 // Slot k has these state sets.
 fn same_states(memory: &[u32], k: usize, states: StateSets) -> bool
-    requires { ⌜ (length (now memory) ≡ memoryCells) × (k < slots) ⌝ }
+    requires { ⌜ SlotIn (now memory) k ⌝ }
     ensures { λ r. ⌜ (r ≡ true → StatesAt (now (memory .entry)) k states) ⌝ }
 {
     let from = SLOT_CELLS * k + FIRST_STATE;
@@ -104,7 +138,7 @@ fn same_states(memory: &[u32], k: usize, states: StateSets) -> bool
 
 // Each pair that stood in the way in slot k stands on this branch.
 fn is_covered(memory: &[u32], k: usize, above: Above) -> bool
-    requires { ⌜ (length (now memory) ≡ memoryCells) × (k < slots) ⌝ }
+    requires { ⌜ SlotIn (now memory) k ⌝ }
     ensures { λ r. ⌜ (r ≡ true → CoveredAt (now (memory .entry)) k above) ⌝ }
 {
     let from = SLOT_CELLS * k + FIRST_MET;
@@ -121,7 +155,7 @@ fn is_covered(memory: &[u32], k: usize, above: Above) -> bool
 
 // The pairs that stood in the way, as slot k has them.
 pub fn met_at(memory: &[u32], k: usize) -> Above
-    requires { ⌜ (length (now memory) ≡ memoryCells) × (k < slots) ⌝ }
+    requires { ⌜ SlotIn (now memory) k ⌝ }
     ensures { λ r. ⌜ MetAt (now (memory .entry)) k r ⌝ }
 {
     let from = SLOT_CELLS * k + FIRST_MET;
@@ -136,7 +170,7 @@ pub fn met_at(memory: &[u32], k: usize) -> Above
 
 // The family of slot k.
 pub fn family_at(memory: &[u32], k: usize) -> Family
-    requires { ⌜ (length (now memory) ≡ memoryCells) × (k < slots) ⌝ }
+    requires { ⌜ SlotIn (now memory) k ⌝ }
     ensures { λ r. ⌜ FamilyAt (now (memory .entry)) k r ⌝ }
 {
     let from = SLOT_CELLS * k + FIRST_WORD;
@@ -160,7 +194,7 @@ pub fn keep(
     met: Above,
     found: Family,
 )
-    requires { ⌜ (length (now memory) ≡ memoryCells) × (k < slots) ⌝ }
+    requires { ⌜ SlotIn (now memory) k ⌝ }
     requires { ⌜ (person < mostCredentials) × ((place < mostCredentials) × (levels ≤ mostDepth)) ⌝ }
     ensures { λ r. ⌜ Kept k person place levels states met found (now (memory .entry)) (now (memory .exit)) ⌝ }
 {
@@ -175,7 +209,7 @@ pub fn keep(
 
 // Writes the state sets into slot k.
 fn put_states(memory: &mut [u32], k: usize, states: StateSets)
-    requires { ⌜ (length (now memory) ≡ memoryCells) × (k < slots) ⌝ }
+    requires { ⌜ SlotIn (now memory) k ⌝ }
     ensures { λ r. ⌜ Written (stateCell k 0) mostAutomata (states .sets) (now (memory .entry)) (now (memory .exit)) ⌝ }
 {
     let from = SLOT_CELLS * k + FIRST_STATE;
@@ -188,7 +222,7 @@ fn put_states(memory: &mut [u32], k: usize, states: StateSets)
 
 // Writes the pairs that stood in the way into slot k.
 fn put_met(memory: &mut [u32], k: usize, met: Above)
-    requires { ⌜ (length (now memory) ≡ memoryCells) × (k < slots) ⌝ }
+    requires { ⌜ SlotIn (now memory) k ⌝ }
     ensures { λ r. ⌜ Written (metCell k 0) mostCredentials (met .persons) (now (memory .entry)) (now (memory .exit)) ⌝ }
 {
     let from = SLOT_CELLS * k + FIRST_MET;
@@ -201,7 +235,7 @@ fn put_met(memory: &mut [u32], k: usize, met: Above)
 
 // Writes the family into slot k.
 fn put_family(memory: &mut [u32], k: usize, found: Family)
-    requires { ⌜ (length (now memory) ≡ memoryCells) × (k < slots) ⌝ }
+    requires { ⌜ SlotIn (now memory) k ⌝ }
     ensures { λ r. ⌜ Written (familyCell k 0) familyWords (found .words) (now (memory .entry)) (now (memory .exit)) ⌝ }
 {
     let from = SLOT_CELLS * k + FIRST_WORD;

@@ -49,14 +49,14 @@ put-states-requires c κs = search needs
 put-met-requires : tie.Need-put-met-requires
 put-met-requires c κs =
     let pre = c .before .before .before .before .before .before .pre .0 in
-    (c .before .before .before .put-states .ensures .room ∙ simp length-set (pre .0), pre .1)
+    rw (c .before .before .before .put-states .ensures .room) (simp length-set pre)
 
 put-family-requires : tie.Need-put-family-requires
 put-family-requires c κs =
     let met = c .before .before .before in
     let states = met .before .before .before .before in
     let pre = states .before .before .before .pre .0 in
-    (met .put-met .ensures .room ∙ states .put-states .ensures .room ∙ simp length-set (pre .0), pre .1)
+    rw (met .put-met .ensures .room, states .put-states .ensures .room) (simp length-set pre)
 
 same-length : tie.Need-same-length
 same-length c =
@@ -71,7 +71,7 @@ returns c =
     let met = family .before .before .before .before in
     let states = met .before .before .before .before in
     let pre = states .before .before .before .pre .0 in
-    kept _ _ _ _ _ _ _ _ _ _ _ _ (head-written _ _ _ _ _ (pre .0) (pre .1)) (states .put-states .ensures)
+    kept _ _ _ _ _ _ _ _ _ _ _ _ (head-written _ _ _ _ _ pre) (states .put-states .ensures)
     (met .put-met .ensures) (family .put-family .ensures)
 
 pub keep-spec : {M : Type 1} → statement M

@@ -1,8 +1,9 @@
--- `failures::slot` meets its contract: a remainder modulo the number of slots; the sum before it stays small. Assumes nothing.
-use Prim.Native.Nat.{ℕ, _+_, _-_, _*_, _≤_, _<_}
+-- `failures::slot` meets its contract: a mask that is below the number of slots; the sum before it stays small. Assumes nothing.
+use Prim.Native.Nat.{ℕ, _+_, _-_, _*_, _/_, _≤_, _<_}
 use mir.Syntax.{w16, w64}
 use mir.Val.{Fits}
 use native.Mathlib.Omega.{arith}
+use lib.Bits.{bitAnd, and-le-r}
 use Rattle.table.specs.Limits.{mostAutomata}
 use borrow.Author.Needs.{needs}
 use Rattle.failures.proofs.slot.Statement.{statement}
@@ -12,11 +13,15 @@ use Rattle.failures.proofs.slot.Tie as tie
 sum-fits : (sum set : ℕ) → sum < 2097152 → Fits w16 set → Fits w64 (sum * 37 + set)
 sum-fits sum set small few = record { fits = omega (arith, few .fits) }
 
+-- what a mask leaves
+masked : (x count : ℕ) → 0 < count → bitAnd x (count - 1) < count
+masked x count some = omega (arith, and-le-r x (count - 1))
+
 abbrev Inv-loop : tie.InvT-loop
-Inv-loop person place states sum₀ j₀ sum j = (j ≤ mostAutomata) × (sum < 2097152)
+Inv-loop person place states count sum₀ j₀ sum j = (j ≤ mostAutomata) × (sum < 2097152)
 
 abbrev μ-loop : tie.MeasureT-loop
-μ-loop person place states sum₀ j₀ sum j = mostAutomata - j
+μ-loop person place states count sum₀ j₀ sum j = mostAutomata - j
 
 mul-sum : tie.Need-mul-sum Inv-loop μ-loop
 mul-sum c = search needs
@@ -57,8 +62,13 @@ add-result c = search needs
 add-result-2 : tie.Need-add-result-2 Inv-loop μ-loop
 add-result-2 c = search needs
 
+sub-result : tie.Need-sub-result Inv-loop μ-loop
+sub-result c = search needs
+
 returns : tie.Need-returns Inv-loop μ-loop
-returns c = search needs
+returns c =
+    let sum = c .before .loop .sum in
+    masked (sum + sum / 128 + sum / 128 / 128) _ (c .before .before .pre .1)
 
 pub slot-spec : {M : Type 1} → statement M
 slot-spec =
@@ -79,4 +89,5 @@ slot-spec =
     loop-again
     add-result
     add-result-2
+    sub-result
     returns)
