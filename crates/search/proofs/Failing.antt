@@ -23,8 +23,7 @@ use Rattle.families.specs.Families.{allSets, covers}
 use Rattle.families.specs.declared.Family.{Family}
 use Rattle.families.proofs.Words.{same-sets}
 use Rattle.families.proofs.Covering.{covers-more}
-use Rattle.failures.specs.Failures.{FamilyAt, Holds, Joined, Kept, MetAt, Recalled, Spared, memoryCells, slotCell}
-use Rattle.failures.specs.Failures.{slotCells, slots}
+use Rattle.failures.specs.Failures.{FamilyAt, Holds, Joined, Kept, MetAt, Recalled, SlotIn, Spared, slotCell, slotCells}
 use Rattle.members.specs.Members.{Blank}
 use Rattle.search.specs.Search.{goalAt, provesAt}
 use Rattle.search.specs.Failing.{Bounds, Covers, Failed, Fails, Remembered, Wide}
@@ -135,7 +134,7 @@ module _ (t : List ℕ) (S A O : ℕ) where
       (proves-later t S A O levels more few above s (goalAt t person place) X (and-second _ _ on))))
 
   -- the memory has nothing yet: with no level left every goal fails
-  pub remembered-none : O < allSets → (memory : List ℕ) → length memory ≡ memoryCells → Blank memory → Remembered t S A O memory
+  pub remembered-none : O < allSets → (memory : List ℕ) → SlotIn memory 0 → Blank memory → Remembered t S A O memory
   remembered-none few memory room blank =
       record {
         few = few;
@@ -151,7 +150,7 @@ module _ (t : List ℕ) (S A O : ℕ) where
     unfolding pairAbove
     recalled-covered p r few on = part-member _ _ p (recalled .covered r few) (rw (met-at r few) at on)
 
-    pub recalled-bounds : k < slots → length (s .sets) ≡ mostAutomata → (found : Family) → FamilyAt memory k found
+    pub recalled-bounds : SlotIn memory k → length (s .sets) ≡ mostAutomata → (found : Family) → FamilyAt memory k found
         → Bounds O (asks levels s person place) found met
     recalled-bounds l eight found family-at X owed missed b wide covers =
         fewer-fail levels _ (recalled .enough) b s person place X
@@ -170,9 +169,8 @@ module _ (t : List ℕ) (S A O : ℕ) where
 
   -- a slot is written with a goal and what it can meet
   module _ {before after : List ℕ} {k person place levels : ℕ} {s : StateSets} {met : Above} {found : Family}
-      (remembered : Remembered t S A O before) (inside : k < slots)
-      (kept-at : Kept k person place levels s met found before after) (eight : length (s .sets) ≡ mostAutomata)
-      (bounds : Bounds O (asks levels s person place) found met) where
+      (remembered : Remembered t S A O before) (kept-at : Kept k person place levels s met found before after)
+      (eight : length (s .sets) ≡ mostAutomata) (bounds : Bounds O (asks levels s person place) found met) where
     -- the slot itself
     module _ (person′ place′ levels′ : ℕ) (s′ : StateSets) (met′ : Above) (found′ : Family)
         (eight′ : length (s′ .sets) ≡ mostAutomata) (holds : Holds after k person′ place′ levels′ s′ met′ found′) where
@@ -227,9 +225,9 @@ module _ (t : List ℕ) (S A O : ℕ) where
         cell x l = kept-at .others (slotCell k′ x) (apart x l (decLt k′ k))
 
     pub remembered-more : Remembered t S A O after
-    remembered-more = record { few = remembered .few; room = kept-at .room ∙ remembered .room; each = each }
+    remembered-more = record { few = remembered .few; room = rw (kept-at .room) (remembered .room); each = each }
       where
-        each : (k′ person′ place′ levels′ : ℕ) (s′ : StateSets) (met′ : Above) (found′ : Family) → k′ < slots
+        each : (k′ person′ place′ levels′ : ℕ) (s′ : StateSets) (met′ : Above) (found′ : Family) → SlotIn after k′
             → length (s′ .sets) ≡ mostAutomata → Holds after k′ person′ place′ levels′ s′ met′ found′
             → Bounds O (asks levels′ s′ person′ place′) found′ met′
         each k′ person′ place′ levels′ s′ met′ found′ l eight′ holds = go (ℕ-discrete k′ k)
@@ -237,5 +235,5 @@ module _ (t : List ℕ) (S A O : ℕ) where
             go : Dec (k′ ≡ k) → Bounds O (asks levels′ s′ person′ place′) found′ met′
             go (yes e) = here-bounds person′ place′ levels′ s′ met′ found′ eight′ (rw e at holds)
             go (no other) =
-                remembered .each k′ person′ place′ levels′ s′ met′ found′ l eight′
+                remembered .each k′ person′ place′ levels′ s′ met′ found′ (rw (kept-at .room) at l) eight′
                 (other-slot k′ person′ place′ levels′ s′ met′ found′ other holds)

@@ -16,6 +16,4 @@ pub mod Answering
 pub mod Starting
 pub mod Deriving
 pub mod Searching
-pub mod Admitting
-pub mod Deciding
 pub mod Promised

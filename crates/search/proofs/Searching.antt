@@ -23,7 +23,7 @@ use Rattle.table.specs.declared.Role.{Role}
 use Rattle.table.specs.declared.Goal.{Goal}
 use Rattle.table.specs.declared.Query.{Query}
 use Rattle.sets.proofs.Tests.{and-both, and-first, and-second, and-true, any-reached, any-shows, false-true}
-use Rattle.sets.proofs.Tests.{or-either, or-false, or-first, or-second, refuted}
+use Rattle.sets.proofs.Tests.{or-either, or-false, or-first, or-second, refuted, same-test}
 use Rattle.sets.specs.Sets.{inSet, meets, part, setOf}
 use Rattle.automata.specs.Automata.{accepts, acceptsFrom, starting}
 use Rattle.automata.specs.Together.{acceptingSet, startingSets}
@@ -412,12 +412,13 @@ module _ (t : List ℕ) (wf : WellFormed t) (S A O : ℕ) where
       (met-shared t X own (words t w si) (rw (node-words t wf g c m goals applies w ch si) at met))
 
 module _ (t : List ℕ) (wf : WellFormed t) (q : Query) where
-  pub provable-exact : (S A O : ℕ) → (provable t q S A O ≡ true) ↔ Provable t q S A O
-  unfolding provable
-  provable-exact S A O = (
+  -- with O owed, a part X of it can be met exactly where a derivation meets X
+  proved-exact : (S A O X : ℕ) → X ≤ O
+      → (proves t S A O (q .depth) nothingAbove (startingSets t) (goalOf q) X ≡ true) ↔ Provable t q S A X
+  proved-exact S A O X few = (
     (λ h.
         let found =
-        proves-shown t wf S A O (q .depth) [] nothingAbove (on-none t) [] (startingSets t) starts (goalOf q) O (omega arith) h in
+        proves-shown t wf S A O (q .depth) [] nothingAbove (on-none t) [] (startingSets t) starts (goalOf q) X few h in
         record {
           forest = found .forest;
           derives = found .derives;
@@ -426,17 +427,27 @@ module _ (t : List ℕ) (wf : WellFormed t) (q : Query) where
           owed = found .owed;
         }),
     (λ h.
-        shares-alone (proves t S A O (q .depth) nothingAbove (startingSets t)) O (less O) (goalOf q) O
+        shares-alone (proves t S A O (q .depth) nothingAbove (startingSets t)) O less (goalOf q) X
         (derived-proves t wf S A O (h .derives) (h .usesOnly) nothingAbove (on-none t) [] (startingSets t) starts (h .accepted)
-        O (omega arith) (h .owed))),
+        X few (h .owed))),
   )
     where
       starts : Led t (bitOr A O) (startingSets t) []
       starts asked = sym (sets-after-none t)
 
-      less : (O Y Y′ : ℕ) (g : Goal) → part Y′ Y ≡ true → proves t S A O (q .depth) nothingAbove (startingSets t) g Y ≡ true
+      less : (Y Y′ : ℕ) (g : Goal) → part Y′ Y ≡ true → proves t S A O (q .depth) nothingAbove (startingSets t) g Y ≡ true
           → proves t S A O (q .depth) nothingAbove (startingSets t) g Y′ ≡ true
-      less O Y Y′ g = proves-less t S A O (q .depth) nothingAbove (startingSets t) g Y Y′
+      less Y Y′ g = proves-less t S A O (q .depth) nothingAbove (startingSets t) g Y Y′
+
+  pub provable-exact : (S A O : ℕ) → (provable t q S A O ≡ true) ↔ Provable t q S A O
+  unfolding provable
+  provable-exact S A O = proved-exact S A O O (omega arith)
+
+  pub provable-part : (S A O X : ℕ) → part X O ≡ true
+      → proves t S A O (q .depth) nothingAbove (startingSets t) (goalOf q) X ≡ provable t q S A X
+  provable-part S A O X among =
+      let (on, back) = proved-exact S A O X (part-le X O among) in
+      same-test _ _ (λ h. provable-exact S A X .1 (on h)) (λ h. back (provable-exact S A X .0 h))
 
   pub provable-by : (S A O : ℕ) {f : Forest} → Derives t (q .depth) [] (goalOf q ∷ []) f → UsesOnly f S
       → AllAccept t A (words t [] f) → SomeAccept t O (words t [] f)

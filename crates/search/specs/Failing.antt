@@ -18,7 +18,7 @@ use Rattle.members.specs.Above.{pairAbove}
 use Rattle.members.specs.declared.above.Above.{Above}
 use Rattle.members.specs.Trying.{provesBy}
 use Rattle.members.specs.Members.{lesser, rowCell}
-use Rattle.failures.specs.Failures.{Holds, memoryCells, slots}
+use Rattle.failures.specs.Failures.{Holds, SlotIn}
 use Rattle.search.specs.Asking.{Pair}
 use Rattle.search.specs.declared.asking.Asked.{Asked}
 use Rattle.search.specs.Search.{ends, goalAt, proves, provesAt, provesWith, shares}
@@ -61,11 +61,12 @@ pub record Sought (O : ℕ) (test : ℕ → Above → Bool) (above : Above) (wan
   pub covered : Covers met above
   pub bounds : isPart wanted found ≡ false → Bounds O test found met
 
--- each slot of the memory has a goal, and a family that has all that it can meet where what it has met stands on the branch
+-- the memory has room for a slot, and each of its slots has a goal, and a family that has all that it can meet where what it has met
+-- stands on the branch
 pub record Remembered (t : List ℕ) (S A O : ℕ) (memory : List ℕ) : Type 0 where
   pub few : O < allSets
-  pub room : length memory ≡ memoryCells
-  pub each : (k person place levels : ℕ) (s : StateSets) (met : Above) (found : Family) → k < slots
+  pub room : SlotIn memory 0
+  pub each : (k person place levels : ℕ) (s : StateSets) (met : Above) (found : Family) → SlotIn memory k
       → length (s .sets) ≡ mostAutomata → Holds memory k person place levels s met found
       → Bounds O (λ X above. provesAt t S A O levels above s person place X) found met
 

@@ -2,4 +2,3 @@ pub mod Asking
 pub mod Search
 pub mod Failing
 pub mod Promised
-pub mod Admits

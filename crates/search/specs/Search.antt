@@ -10,6 +10,8 @@ use lib.ListN.{getD, length}
 use lib.Bits.{bitOr}
 use lib.Dec.{eqb, ltb}
 use Rattle.sets.specs.Logic.{_and_, anyBelow, pick}
+use Rattle.families.specs.Families.{covers}
+use Rattle.families.specs.declared.Family.{Family}
 use Rattle.table.specs.Limits.{mostDepth}
 use Rattle.table.specs.Layout.{credential, credentials, principal}
 use Rattle.table.specs.Holding.{WellFormed}
@@ -97,6 +99,10 @@ proves t S A O (suc levels) above s g X =
 
 unfoldable pub provable : List ℕ → Query → ℕ → ℕ → ℕ → Bool
 provable t q S A O = proves t S A O (q .depth) nothingAbove (startingSets t) (goalOf q) O
+
+-- what is found of the query where O is owed: a part of O is covered exactly where it can be met
+abbrev pub TellsMet : List ℕ → Query → ℕ → ℕ → ℕ → Family → Type 0
+TellsMet t q S A O found = (X : ℕ) → part X O ≡ true → covers found X ≡ provable t q S A X
 
 -- the goal whose principal and role stand at these places
 abbrev pub goalAt : List ℕ → ℕ → ℕ → Goal

@@ -11,7 +11,6 @@ use sets::AutomatonSet;
 use sets::CredentialSet;
 use sets::StateSet;
 use table::Number;
-use table::SIMPLE_MEMBERSHIP;
 use table::layout;
 ghost use mathlib.Core.Path.{_≡_};
 ghost use Prim.Native.Nat.{suc, _<_, _≤_};
@@ -30,10 +29,10 @@ ghost use Rattle.members.specs.Members.{Indexed, Placed, askedCell, lesser, row
 ghost use Rattle.members.specs.Levels.{askedMembers};
 ghost use Rattle.search.specs.Search;
 ghost use Rattle.search.specs.Search.{Searched, Stands, Tried, askedBefore, usable};
-ghost use Rattle.search.specs.Failing.{Left, Told, Trimmed, goalTest, mayBeProved, ownTest};
+ghost use Rattle.search.specs.Failing.{Left, Remembered, Told, Trimmed, goalTest, mayBeProved, ownTest};
 
 // What can be met where the principal at `person` is proved to be in the role at `place`, with so many levels left, by some allowed
-// credential, and the pairs `above` stand on the branch.
+// credential, and the pairs `above` stand on the branch. The memory may have what searches on the same terms have kept.
 pub fn goal_search(
     table: &[Number],
     index: &[u8],
@@ -45,14 +44,15 @@ pub fn goal_search(
     levels: usize,
     states: StateSets,
     above: Above,
+    memory: &mut [u32],
 ) -> Family
     requires { ⌜ Searched (now table) (now index) (now arcs) (now rows) (terms .allowed) levels (terms .last) ⌝ }
     requires { ⌜ Stands (now table) person place ⌝ }
-    requires { ⌜ terms .owed < allSets ⌝ }
+    requires { ⌜ Remembered (now table) (terms .allowed) (terms .constraints) (terms .owed) (now memory) ⌝ }
     ensures { λ r. ⌜ Told (terms .owed) (goalTest (now (table .entry)) (terms .allowed) (terms .constraints) (terms .owed)
-        levels states person place) above r ⌝ }
+        levels states person place) above r
+        × Remembered (now (table .entry)) (terms .allowed) (terms .constraints) (terms .owed) (now (memory .exit)) ⌝ }
 {
-    let mut memory = [0; failures::CELLS];
     let answer = seeking::seek_goal(
         table,
         index,
@@ -64,13 +64,12 @@ pub fn goal_search(
         levels,
         states,
         above,
-        &mut memory,
+        memory,
     );
     answer.found
 }
 
-// What can be met where credential i + 1 proves the goal, with some middle; so many levels are left for what it asks. One that asks
-// nothing needs no memory.
+// What can be met where credential i + 1 proves the goal, with some middle; so many levels are left for what it asks.
 pub fn credential_search(
     table: &[Number],
     index: &[u8],
@@ -82,18 +81,15 @@ pub fn credential_search(
     levels: usize,
     states: StateSets,
     above: Above,
+    memory: &mut [u32],
 ) -> Family
     requires { ⌜ Searched (now table) (now index) (now arcs) (now rows) (terms .allowed) levels (terms .last) ⌝ }
     requires { ⌜ Tried (now table) person i ⌝ }
-    requires { ⌜ terms .owed < allSets ⌝ }
+    requires { ⌜ Remembered (now table) (terms .allowed) (terms .constraints) (terms .owed) (now memory) ⌝ }
     ensures { λ r. ⌜ Told (terms .owed) (ownTest (now (table .entry)) (terms .allowed) (terms .constraints) (terms .owed)
-        levels states person i) above r ⌝ }
+        levels states person i) above r
+        × Remembered (now (table .entry)) (terms .allowed) (terms .constraints) (terms .owed) (now (memory .exit)) ⌝ }
 {
-    let credential = layout::credential(table, i + 1);
-    if credential.kind == SIMPLE_MEMBERSHIP {
-        return ends_word(table, index, arcs, terms, person, i, states);
-    }
-    let mut memory = [0; failures::CELLS];
     let answer = seeking::seek_through(
         table,
         index,
@@ -105,7 +101,7 @@ pub fn credential_search(
         levels,
         states,
         above,
-        &mut memory,
+        memory,
     );
     answer.found
 }

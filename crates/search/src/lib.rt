@@ -1,17 +1,16 @@
-// The search: whether the credentials of a set prove a membership when every word must be accepted by each of some automata and
-// some word by each of some others, and whether some accepted record uses only credentials of a set (docs/DEFINITION.md, "The
-// list"). It knows of derivations what `derivation` promises: which goals a credential asks, and what may not repeat on a branch.
-// specs/Search.antt and specs/Admits.antt say what the answers mean, specs/Failing.antt what is remembered on the way.
-mod admission; // admission.rt: whether some accepted record uses only credentials of a set
+// The search: which sets of automata can be met, each by some word, where the credentials of a set prove a membership and every
+// word must be accepted by each of some other automata (docs/DEFINITION.md, "The list"). It knows of derivations what
+// `derivation` promises: which goals a credential asks, and what may not repeat on a branch. specs/Search.antt says what the
+// answers mean, specs/Failing.antt what is remembered on the way.
 mod asking; // asking.rt: the goals that a credential asks
 mod goals; // goals.rt: whether a goal or a credential is proved, and the search's tests
 mod seeking; // seeking.rt: a goal through a credential, and a credential through the goals of its premises
 
-pub use admission::admits;
 pub use asking::Asked;
 pub use asking::link_asked;
 pub use asking::roles_asked;
 use automata::StateSets;
+use families::Family;
 pub use goals::credential_search;
 pub use goals::goal_search;
 pub use goals::is_middle;
@@ -28,9 +27,13 @@ use table::layout;
 ghost use mathlib.Core.Path.{_≡_};
 ghost use Prim.Native.Nat.{_<_};
 ghost use Rattle.families.specs.Families.{allSets};
-ghost use Rattle.members.specs.Members.{Members};
-ghost use Rattle.search.specs.Search;
-ghost use Rattle.search.specs.Search.{Prepared};
+ghost use Rattle.automata.specs.Together.{startingSets};
+ghost use Rattle.members.specs.Above.{nothingAbove};
+ghost use Rattle.table.specs.Holding.{WellFormed};
+ghost use Rattle.table.specs.Checks.{Valid};
+ghost use Rattle.members.specs.Members.{Aimed, Indexed, Members};
+ghost use Rattle.search.specs.Search.{Prepared, Searched, Stands, TellsMet, provable};
+ghost use Rattle.search.specs.Failing.{Remembered, Told, goalTest};
 
 // What a search does not change on its way: the credentials that may be used, credential i counting 2^(i-1); the automata that must
 // accept every word, and those that are owed, each of which must accept some word, automaton k counting 2^(k-1); and the last row of
@@ -42,22 +45,19 @@ pub struct Terms {
     pub last: usize,
 }
 
-// Whether some derivation of the queried membership uses only allowed credentials, each of its words is accepted by each of the
-// automata `constraints`, and some of its words by each of those that are owed. The index is that of the table and the query (`members::index`), the arcs are an index of the
-// table's edges (crate automata), and the rows up to the last are the table of members of the allowed credentials
-// (`members::fill`), which tells it by itself where no automaton is imposed and none owed.
-fn provable(
+// Whether some derivation of the queried membership uses only allowed credentials, where no automaton is imposed and none owed: the
+// table of members tells it by itself.
+pub fn is_member(
     table: &[Number],
     query: Query,
     index: &[u8],
-    arcs: &[StateSet],
     rows: &[CredentialSet],
     terms: Terms,
 ) -> bool
-    requires { ⌜ Prepared (now table) query (now index) (now arcs) ⌝ }
+    requires { ⌜ WellFormed (now table) × Valid query ⌝ }
+    requires { ⌜ Indexed (now table) (now index) × Aimed (now table) query (now index) ⌝ }
     requires { ⌜ Members (now table) (terms .allowed) (query .depth) (terms .last) (now rows) ⌝ }
-    requires { ⌜ terms .owed < allSets ⌝ }
-    ensures { λ r. ⌜ r ≡ Search.provable (now (table .entry)) query (terms .allowed) (terms .constraints) (terms .owed) ⌝ }
+    ensures { λ r. ⌜ r ≡ provable (now (table .entry)) query (terms .allowed) 0 0 ⌝ }
 {
     let person = members::goal_person(index);
     if layout::credentials(table) <= person {
@@ -65,13 +65,83 @@ fn provable(
     }
     let place = members::goal_role(index);
     let levels = layout::wide(query.depth);
+    goals::may_be_proved(table, rows, terms.last, person, place, levels)
+}
+
+// Which sets of the owed automata can be met by derivations of the queried membership that use only allowed credentials and each
+// word of which is accepted by each of the automata `constraints`. The index is that of the table and the query
+// (`members::index`), the arcs are an index of the table's edges (crate automata), and the rows up to the last are the table of
+// members of the allowed credentials (`members::fill`). Where few credentials are allowed a small memory will do, which is
+// cleared sooner.
+pub fn query_search(
+    table: &[Number],
+    query: Query,
+    index: &[u8],
+    arcs: &[StateSet],
+    rows: &[CredentialSet],
+    terms: Terms,
+) -> Family
+    requires { ⌜ Prepared (now table) query (now index) (now arcs) ⌝ }
+    requires { ⌜ Members (now table) (terms .allowed) (query .depth) (terms .last) (now rows) ⌝ }
+    requires { ⌜ terms .owed < allSets ⌝ }
+    ensures { λ r. ⌜ TellsMet (now (table .entry)) query (terms .allowed) (terms .constraints) (terms .owed) r ⌝ }
+{
+    let person = members::goal_person(index);
+    if layout::credentials(table) <= person {
+        return Family::none();
+    }
+    let place = members::goal_role(index);
+    let levels = layout::wide(query.depth);
     if !goals::may_be_proved(table, rows, terms.last, person, place, levels) {
-        return false;
+        return Family::none();
     }
-    if terms.constraints | terms.owed == 0 {
-        return true;
+    if failures::is_small(terms.allowed) {
+        let mut memory = [0; failures::FEW_CELLS];
+        return from_start(
+            table,
+            index,
+            arcs,
+            rows,
+            terms,
+            person,
+            place,
+            levels,
+            &mut memory,
+        );
     }
-    let found = goals::goal_search(
+    let mut memory = [0; failures::CELLS];
+    from_start(
+        table,
+        index,
+        arcs,
+        rows,
+        terms,
+        person,
+        place,
+        levels,
+        &mut memory,
+    )
+}
+
+// What can be met where the principal at `person` is proved to be in the role at `place`, from the start of all words on.
+fn from_start(
+    table: &[Number],
+    index: &[u8],
+    arcs: &[StateSet],
+    rows: &[CredentialSet],
+    terms: Terms,
+    person: usize,
+    place: usize,
+    levels: usize,
+    memory: &mut [u32],
+) -> Family
+    requires { ⌜ Searched (now table) (now index) (now arcs) (now rows) (terms .allowed) levels (terms .last) ⌝ }
+    requires { ⌜ Stands (now table) person place ⌝ }
+    requires { ⌜ Remembered (now table) (terms .allowed) (terms .constraints) (terms .owed) (now memory) ⌝ }
+    ensures { λ r. ⌜ Told (terms .owed) (goalTest (now (table .entry)) (terms .allowed) (terms .constraints) (terms .owed)
+        levels (startingSets (now (table .entry))) person place) nothingAbove r ⌝ }
+{
+    goals::goal_search(
         table,
         index,
         arcs,
@@ -82,6 +152,6 @@ fn provable(
         levels,
         StateSets::start(table),
         Above::nothing(),
-    );
-    found.has(terms.owed)
+        memory,
+    )
 }

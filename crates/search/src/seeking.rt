@@ -29,7 +29,7 @@ ghost use Rattle.families.specs.Families.{FamilyOf};
 ghost use Rattle.table.specs.Limits.{mostParts};
 ghost use Rattle.table.specs.Layout.{credential, credentials};
 ghost use Rattle.members.specs.Above.{nothingAbove, pairAbove};
-ghost use Rattle.failures.specs.Failures.{slots};
+ghost use Rattle.failures.specs.Failures.{SlotIn};
 ghost use Rattle.search.specs.Asking.{Fits, askedPairs, pair};
 ghost use Rattle.search.specs.Search.{AllStand, Searched, Stands, Tried, stepped};
 ghost use Rattle.search.specs.Failing.{Bounds, Covers, Judged, Open, Remembered, Sought, anyTest, goalTest, ownTest};
@@ -71,7 +71,7 @@ pub fn seek_goal(
         let itself = Above::nothing();
         return failed(itself.with(person, place));
     }
-    let slot = failures::slot(person, place, states);
+    let slot = failures::slot(person, place, states, failures::slot_count(memory));
     if !failures::recalls(memory, slot, person, place, levels, states, above) {
         return seek_wanted(
             table,
@@ -133,7 +133,7 @@ fn seek_wanted(
 ) -> Answer
     requires { ⌜ Searched (now table) (now index) (now arcs) (now rows) (terms .allowed) levels (terms .last) ⌝ }
     requires { ⌜ Stands (now table) person place × Open (now table) levels person place ⌝ }
-    requires { ⌜ (pairAbove above person place ≡ false) × (slot < slots) ⌝ }
+    requires { ⌜ (pairAbove above person place ≡ false) × SlotIn (now memory) slot ⌝ }
     requires { ⌜ Covers met above × Bounds (terms .owed) (goalTest (now table) (terms .allowed) (terms .constraints) (terms .owed)
         levels states person place) wanted met ⌝ }
     requires { ⌜ Remembered (now table) (terms .allowed) (terms .constraints) (terms .owed) (now memory) ⌝ }

@@ -1,20 +1,20 @@
 -- The search meets its contracts, by the levels left: each loop knows what the credentials or middles that it has tried can meet, and
 -- which pairs stood in the way of all else; or, over the goals of a credential, what those behind can meet together; and that the
--- memory has only what is so. Assumes nothing.
+-- memory is as long as it was, and has only what is so. Assumes nothing.
 use Prim.Native.Nat.{ℕ, suc, _*_, _+_, _-_, _<_, _≤_}
-use mathlib.Core.Bool.{true, false}
-use mathlib.Core.List.{List}
+use mathlib.Core.Bool.{false}
 use mathlib.Core.Logic.{inl, inr, ⊎-elim}
 use mathlib.Core.Path.{_≡_, _∙_, refl, sym}
 use native.Mathlib.Omega.{arith}
 use lib.ListN.{length, length-set}
-use borrow.Author.Tests.{not-false, not-true}
+use borrow.Author.Tests.{not-false}
 use denote.Ref.{now}
 use borrow.Author.Needs.{needs}
-use borrow.Fn.Kinds.{In, Out, PK}
+use borrow.Fn.Kinds.{In, Out}
 use borrow.Fn.PlainCycle.{Measures, is, falls, and}
 use Rattle.sets.specs.Logic.{anyBelow}
 use Rattle.table.specs.Limits.{mostAutomata, mostCredentials, mostParts}
+use Rattle.failures.specs.Failures.{SlotIn}
 use Rattle.search.specs.Asking.{pairsFrom}
 use Rattle.search.specs.Search.{provesAt}
 use Rattle.search.specs.Failing.{Judged, LaterJudged, Remembered, sharedTest}
@@ -69,6 +69,7 @@ use Rattle.failures.proofs.keep.Reads as keep-reads
 use Rattle.failures.proofs.met_at.Reads as met-at-reads
 use Rattle.failures.proofs.recalls.Reads as recalls-reads
 use Rattle.failures.proofs.slot.Reads as slot-reads
+use Rattle.failures.proofs.slot_count.Reads as slot-count-reads
 use Rattle.failures.proofs.without.Reads as without-reads
 use Rattle.families.proofs.Family.has.Reads as Family-has-reads
 use Rattle.families.proofs.Family.is_none.Reads as is-none-reads
@@ -217,7 +218,7 @@ abbrev seek-below-claims : ℕ → seek-below-lts.Claims
 seek-below-claims t = (stepped-reads.Asked, stepped-reads.Learnt, any-dead-reads.Asked, any-dead-reads.Learnt, nothing-reads.Asked, nothing-reads.Learnt, failed-reads.Asked, failed-reads.Learnt, left-owed-reads.Asked, left-owed-reads.Learnt, credentials-reads.Asked, credentials-reads.Learnt, none-reads.Asked, none-reads.Learnt, may-use-reads.Asked, may-use-reads.Learnt, seek-through-below t, seek-through.Post, or-reads.Asked, or-reads.Learnt, is-enough-reads.Asked, is-enough-reads.Learnt, answered-reads.Asked, answered-reads.Learnt, joined-reads.Asked, joined-reads.Learnt)
 
 abbrev seek-goal-claims : ℕ → seek-goal-lts.Claims
-seek-goal-claims t = (may-be-proved-reads.Asked, may-be-proved-reads.Learnt, nothing-reads.Asked, nothing-reads.Learnt, failed-reads.Asked, failed-reads.Learnt, above-Above-has-reads.Asked, above-Above-has-reads.Learnt, with-reads.Asked, with-reads.Learnt, slot-reads.Asked, slot-reads.Learnt, recalls-reads.Asked, recalls-reads.Learnt, only-reads.Asked, only-reads.Learnt, seek-wanted-below t, seek-wanted.Post, family-at-reads.Asked, family-at-reads.Learnt, met-at-reads.Asked, met-at-reads.Learnt, is-none-reads.Asked, is-none-reads.Learnt)
+seek-goal-claims t = (may-be-proved-reads.Asked, may-be-proved-reads.Learnt, nothing-reads.Asked, nothing-reads.Learnt, failed-reads.Asked, failed-reads.Learnt, above-Above-has-reads.Asked, above-Above-has-reads.Learnt, with-reads.Asked, with-reads.Learnt, slot-count-reads.Asked, slot-count-reads.Learnt, slot-reads.Asked, slot-reads.Learnt, recalls-reads.Asked, recalls-reads.Learnt, only-reads.Asked, only-reads.Learnt, seek-wanted-below t, seek-wanted.Post, family-at-reads.Asked, family-at-reads.Learnt, met-at-reads.Asked, met-at-reads.Learnt, is-none-reads.Asked, is-none-reads.Learnt)
 
 abbrev seek-link-claims : ℕ → seek-link-lts.Claims
 seek-link-claims t = (link-asked-reads.Asked, link-asked-reads.Learnt, seek-shared-below t, seek-shared.Post, seek-goal-below t, seek-goal.Post, is-none-reads.Asked, is-none-reads.Learnt, failed-reads.Asked, failed-reads.Learnt)
@@ -294,7 +295,7 @@ seek-asked-returns-2 t c = search needs
 abbrev seek-below-Inv-loop : seek-below-lts.InvT-loop
 seek-below-Inv-loop table index arcs rows terms wanted person place levels above memory₀ below most n found₀ met₀ i₀ memory found met i =
     (i ≤ n) × (Judged (terms .owed) (triedTest table (terms .allowed) (terms .constraints) (terms .owed) levels (below .states) person place i) above found met
-    × Remembered table (terms .allowed) (terms .constraints) (terms .owed) memory)
+    × ((length memory ≡ length memory₀) × Remembered table (terms .allowed) (terms .constraints) (terms .owed) memory))
 
 abbrev seek-below-μ-loop : seek-below-lts.MeasureT-loop
 seek-below-μ-loop table index arcs rows terms wanted person place levels above memory₀ below most n found₀ met₀ i₀ memory found met i =
@@ -350,7 +351,7 @@ seek-below-loop-holds : seek-below-needs seek-below-lts.Need-loop-holds
 seek-below-loop-holds t c =
     let (searched, ((stands, there), remembered)) = c .before .before .before .before .before .before .before .before .before .before .before .before .before .pre .1 in (
       omega arith,
-      (tried-none (searched .indexed) stands there _ _ _ _ _ (c .before .none .ensures) (c .nothing2 .ensures), remembered),
+      (tried-none (searched .indexed) stands there _ _ _ _ _ (c .before .none .ensures) (c .nothing2 .ensures), (refl, remembered)),
     )
 
 seek-below-may-use-requires : seek-below-needs seek-below-lts.Need-may-use-requires
@@ -371,7 +372,7 @@ seek-below-seek-through-requires t c κs =
             who = stands .there;
             named = stands .named;
           },
-          c .before .before .before .before .loop .inv .1 .1,
+          c .before .before .before .before .loop .inv .1 .1 .1,
         ),
       ),
     )
@@ -390,7 +391,7 @@ seek-below-answered-requires t c κs = search needs
 
 seek-below-same-length : seek-below-needs seek-below-lts.Need-same-length
 seek-below-same-length t c =
-    c .before .before .before .before .before .before .before .seek-through .ensures .1 .room ∙ sym (c .before .before .before .before .before .before .before .before .before .before .before .before .before .before .before .before .before .before .before .before .before .before .before .before .before .before .pre .1 .1 .1 .room)
+    c .before .before .before .before .before .before .memory .given ∙ c .before .before .before .before .before .before .before .before .before .before .before .before .loop .inv .1 .1 .0
 
 seek-below-returns-2 : seek-below-needs seek-below-lts.Need-returns-2
 seek-below-returns-2 t c =
@@ -431,7 +432,7 @@ seek-below-loop-again t c =
             rw (way .10, way .11)
                 (tried-next (searched .indexed) stands there _ _ _ _ _ _ (omega (arith, next, all)) may-use (way .0 .taken)
                 (way .5 .ensures) (way .8 .ensures) so-far (way .2 .ensures .0)),
-            rw (way .9) (way .2 .ensures .1),
+            rw (way .9) (way .3 .given ∙ before .0, way .2 .ensures .1),
           ))
           (λ way. (
             rw (way .2, way .3)
@@ -447,13 +448,13 @@ seek-below-answered-requires-2 t c κs = search needs
 
 seek-below-same-length-2 : seek-below-needs seek-below-lts.Need-same-length-2
 seek-below-same-length-2 t c =
-    c .before .before .loop .inv .1 .1 .room ∙ sym (c .before .before .before .before .before .before .before .before .before .before .before .before .before .before .before .before .pre .1 .1 .1 .room)
+    c .before .before .loop .inv .1 .1 .0
 
 seek-below-returns-3 : seek-below-needs seek-below-lts.Need-returns-3
 seek-below-returns-3 t c =
     let (searched, ((stands, there), remembered)) = c .before .before .before .before .before .before .before .before .before .before .before .before .before .before .before .before .pre .1 in
     let (found-is, met-is) = c .answered2 .ensures in
-    let (so-far, now-remembered) = c .before .before .loop .inv .1 in (
+    let (so-far, (same, now-remembered)) = c .before .before .loop .inv .1 in (
       rw (found-is, met-is) (sought-moved _ _ _ _ _ _ _ _ (c .before .before .before .before .before .before .before .before .before .stepped .ensures)
           (sought-judged (tried-all (searched .indexed) stands there _ _ _ _ _ _ (omega (arith, c .before .loop-test .left, c .before .before .loop .inv .0, c .before .before .before .before .before .credentials .ensures .same)) so-far))),
       now-remembered,
@@ -474,6 +475,10 @@ seek-goal-needs need = (t : ℕ) → seek-goal-place need t
 module _ (t : ℕ) (at : seek-goal-place seek-goal-lts.Start t) where
   seek-goal-eight : length (at .args .states .sets) ≡ mostAutomata
   seek-goal-eight = search needs
+
+module _ (t : ℕ) (at : seek-goal-place seek-goal-lts.After-slot t) where
+  seek-goal-inside : SlotIn (now (at .before .before .before .before .before .before .before .before .before .before .before .before .args .memory)) (at .slot .result)
+  seek-goal-inside = at .before .slot-count .ensures .inside _ (at .slot .ensures)
 
 seek-goal-may-be-proved-requires : seek-goal-needs seek-goal-lts.Need-may-be-proved-requires
 seek-goal-may-be-proved-requires t c κs = search needs
@@ -520,14 +525,17 @@ seek-goal-returns-2 t c =
       remembered,
     )
 
+seek-goal-slot-count-requires : seek-goal-needs seek-goal-lts.Need-slot-count-requires
+seek-goal-slot-count-requires t c κs = search needs
+
 seek-goal-slot-requires : seek-goal-needs seek-goal-lts.Need-slot-requires
 seek-goal-slot-requires t c κs =
-    let (searched, (stands, remembered)) = c .before .before .before .before .before .before .before .before .before .pre .1 in
-    let may = opened searched stands (c .before .before .before .may-be-proved .ensures) (c .before .before .if1 .left) in
-    (may .few-persons, may .few-places)
+    let (searched, (stands, remembered)) = c .before .before .before .before .before .before .before .before .before .before .before .pre .1 in
+    let may = opened searched stands (c .before .before .before .before .before .may-be-proved .ensures) (c .before .before .before .before .if1 .left) in
+    ((may .few-persons, may .few-places), c .slot-count .ensures .all 0 (remembered .room))
 
 seek-goal-recalls-requires : seek-goal-needs seek-goal-lts.Need-recalls-requires
-seek-goal-recalls-requires t c κs = search needs
+seek-goal-recalls-requires t c κs = seek-goal-inside t (c .before)
 
 seek-goal-only-requires : seek-goal-needs seek-goal-lts.Need-only-requires
 seek-goal-only-requires t c κs = search needs
@@ -537,15 +545,15 @@ seek-goal-nothing-requires-3 t c κs = search needs
 
 seek-goal-seek-wanted-requires : seek-goal-needs seek-goal-lts.Need-seek-wanted-requires
 seek-goal-seek-wanted-requires t c κs =
-    let (searched, (stands, remembered)) = c .before .before .before .before .before .before .before .before .before .before .before .before .before .before .before .before .pre .1 in
-    let may = opened searched stands (c .before .before .before .before .before .before .before .before .before .before .may-be-proved .ensures) (c .before .before .before .before .before .before .before .before .before .if1 .left) in (
-      omega (arith, c .before .before .before .before .before .before .before .before .before .before .before .before .before .before .before .before .pre .0),
+    let (searched, (stands, remembered)) = c .before .before .before .before .before .before .before .before .before .before .before .before .before .before .before .before .before .before .pre .1 in
+    let may = opened searched stands (c .before .before .before .before .before .before .before .before .before .before .before .before .may-be-proved .ensures) (c .before .before .before .before .before .before .before .before .before .before .before .if1 .left) in (
+      omega (arith, c .before .before .before .before .before .before .before .before .before .before .before .before .before .before .before .before .before .before .pre .0),
       (
         searched,
         (
           (stands, may),
           (
-            (sym (c .before .before .before .before .before .before .before .before .has .ensures) ∙ c .before .before .before .before .before .before .before .if2 .left, c .before .before .before .before .before .before .slot .ensures),
+            (sym (c .before .before .before .before .before .before .before .before .before .before .has .ensures) ∙ c .before .before .before .before .before .before .before .before .before .if2 .left, seek-goal-inside t (c .before .before .before .before .before .before)),
             (
               (rw (c .before .nothing3 .ensures) (covers-none _), only-bounds (remembered .few) _ _ _ (c .before .before .only .ensures)),
               remembered,
@@ -562,10 +570,10 @@ seek-goal-returns-3 : seek-goal-needs seek-goal-lts.Need-returns-3
 seek-goal-returns-3 t c = search needs
 
 seek-goal-family-at-requires : seek-goal-needs seek-goal-lts.Need-family-at-requires
-seek-goal-family-at-requires t c κs = search needs
+seek-goal-family-at-requires t c κs = seek-goal-inside t (c .before .before .before .before)
 
 seek-goal-met-at-requires : seek-goal-needs seek-goal-lts.Need-met-at-requires
-seek-goal-met-at-requires t c κs = search needs
+seek-goal-met-at-requires t c κs = seek-goal-inside t (c .before .before .before .before .before .before)
 
 seek-goal-is-none-requires : seek-goal-needs seek-goal-lts.Need-is-none-requires
 seek-goal-is-none-requires t c κs = search needs
@@ -578,10 +586,10 @@ seek-goal-same-length-2 t c = search needs
 
 seek-goal-returns-4 : seek-goal-needs seek-goal-lts.Need-returns-4
 seek-goal-returns-4 t c =
-    let (searched, (stands, remembered)) = c .before .before .before .before .before .before .before .before .before .before .before .before .before .before .before .before .before .before .before .before .pre .1 in
+    let (searched, (stands, remembered)) = c .before .before .before .before .before .before .before .before .before .before .before .before .before .before .before .before .before .before .before .before .before .before .pre .1 in
     let recalled = c .before .before .before .before .before .before .before .before .recalls .ensures (not-false _ (c .before .before .before .before .before .before .before .if3 .left)) in
     let none = no-sets _ _ (c .before .before .is-none .ensures) (c .before .if4 .taken) in
-    let bounds = recalled-bounds _ _ _ _ remembered recalled _ (c .before .before .before .met-at .ensures) (c .before .before .before .before .before .before .before .before .before .before .slot .ensures) (seek-goal-eight t (c .before .before .before .before .before .before .before .before .before .before .before .before .before .before .before .before .before .before .before .before)) _ (c .before .before .before .before .before .family-at .ensures) in
+    let bounds = recalled-bounds _ _ _ _ remembered recalled _ (c .before .before .before .met-at .ensures) (seek-goal-inside t (c .before .before .before .before .before .before .before .before .before .before)) (seek-goal-eight t (c .before .before .before .before .before .before .before .before .before .before .before .before .before .before .before .before .before .before .before .before .before .before)) _ (c .before .before .before .before .before .family-at .ensures) in
     let covered = recalled-covered _ _ _ _ remembered recalled _ (c .before .before .before .met-at .ensures) in (
       rw (c .failed3 .ensures .1) (judged-failed (c .failed3 .ensures .0) covered (λ X owed. bounds X owed (none-covered _ none X))),
       remembered,
@@ -589,20 +597,20 @@ seek-goal-returns-4 t c =
 
 seek-goal-seek-wanted-requires-2 : seek-goal-needs seek-goal-lts.Need-seek-wanted-requires-2
 seek-goal-seek-wanted-requires-2 t c κs =
-    let (searched, (stands, remembered)) = c .before .before .before .before .before .before .before .before .before .before .before .before .before .before .before .before .before .before .before .before .pre .1 in
-    let may = opened searched stands (c .before .before .before .before .before .before .before .before .before .before .before .before .before .before .may-be-proved .ensures) (c .before .before .before .before .before .before .before .before .before .before .before .before .before .if1 .left) in
+    let (searched, (stands, remembered)) = c .before .before .before .before .before .before .before .before .before .before .before .before .before .before .before .before .before .before .before .before .before .before .pre .1 in
+    let may = opened searched stands (c .before .before .before .before .before .before .before .before .before .before .before .before .before .before .before .before .may-be-proved .ensures) (c .before .before .before .before .before .before .before .before .before .before .before .before .before .before .before .if1 .left) in
     let recalled = c .before .before .before .before .before .before .before .before .recalls .ensures (not-false _ (c .before .before .before .before .before .before .before .if3 .left)) in (
-      omega (arith, c .before .before .before .before .before .before .before .before .before .before .before .before .before .before .before .before .before .before .before .before .pre .0),
+      omega (arith, c .before .before .before .before .before .before .before .before .before .before .before .before .before .before .before .before .before .before .before .before .before .before .pre .0),
       (
         searched,
         (
           (stands, may),
           (
-            (sym (c .before .before .before .before .before .before .before .before .before .before .before .before .has .ensures) ∙ c .before .before .before .before .before .before .before .before .before .before .before .if2 .left, c .before .before .before .before .before .before .before .before .before .before .slot .ensures),
+            (sym (c .before .before .before .before .before .before .before .before .before .before .before .before .before .before .has .ensures) ∙ c .before .before .before .before .before .before .before .before .before .before .before .before .before .if2 .left, seek-goal-inside t (c .before .before .before .before .before .before .before .before .before .before)),
             (
               (
                 recalled-covered _ _ _ _ remembered recalled _ (c .before .before .before .met-at .ensures),
-                recalled-bounds _ _ _ _ remembered recalled _ (c .before .before .before .met-at .ensures) (c .before .before .before .before .before .before .before .before .before .before .slot .ensures) (seek-goal-eight t (c .before .before .before .before .before .before .before .before .before .before .before .before .before .before .before .before .before .before .before .before)) _ (c .before .before .before .before .before .family-at .ensures),
+                recalled-bounds _ _ _ _ remembered recalled _ (c .before .before .before .met-at .ensures) (seek-goal-inside t (c .before .before .before .before .before .before .before .before .before .before)) (seek-goal-eight t (c .before .before .before .before .before .before .before .before .before .before .before .before .before .before .before .before .before .before .before .before .before .before)) _ (c .before .before .before .before .before .family-at .ensures),
               ),
               remembered,
             ),
@@ -684,7 +692,7 @@ seek-link-returns-3 t c =
 abbrev seek-linked-Inv-loop : seek-linked-lts.InvT-loop
 seek-linked-Inv-loop table index arcs rows terms person i levels states above memory₀ n row first found₀ met₀ j₀ memory found met j =
     (j ≤ n) × (Judged (terms .owed) (linkedTest table index (terms .allowed) (terms .constraints) (terms .owed) levels states person i j) above found met
-    × Remembered table (terms .allowed) (terms .constraints) (terms .owed) memory)
+    × ((length memory ≡ length memory₀) × Remembered table (terms .allowed) (terms .constraints) (terms .owed) memory))
 
 abbrev seek-linked-μ-loop : seek-linked-lts.MeasureT-loop
 seek-linked-μ-loop table index arcs rows terms person i levels states above memory₀ n row first found₀ met₀ j₀ memory found met j =
@@ -744,7 +752,7 @@ seek-linked-nothing-requires t c κs = search needs
 
 seek-linked-loop-holds : seek-linked-needs seek-linked-lts.Need-loop-holds
 seek-linked-loop-holds t c =
-    (omega arith, (links-none _ (now (c .before .before .before .before .before .before .before .before .before .before .args .index)) _ _ _ _ (c .before .before .before .before .before .before .before .before .before .before .args .person) (c .before .before .before .before .before .before .before .before .before .before .args .i) _ (c .before .none .ensures) (c .nothing .ensures), c .before .before .before .before .before .before .before .before .before .before .pre .1 .1 .1 .1))
+    (omega arith, (links-none _ (now (c .before .before .before .before .before .before .before .before .before .before .args .index)) _ _ _ _ (c .before .before .before .before .before .before .before .before .before .before .args .person) (c .before .before .before .before .before .before .before .before .before .before .args .i) _ (c .before .none .ensures) (c .nothing .ensures), (refl, c .before .before .before .before .before .before .before .before .before .before .pre .1 .1 .1 .1)))
 
 seek-linked-link-cell-requires : seek-linked-needs seek-linked-lts.Need-link-cell-requires
 seek-linked-link-cell-requires t c κs = search needs
@@ -776,7 +784,7 @@ seek-linked-seek-link-requires t c κs =
     let middle = seek-linked-middle t at in
     let on = c .before .if1 .taken in (
       omega (arith, measured),
-      (searched, ((stands-first middle on, stands-second middle on), at .before .before .before .loop .inv .1 .1)),
+      (searched, ((stands-first middle on, stands-second middle on), at .before .before .before .loop .inv .1 .1 .1)),
     )
 
 seek-linked-or-requires : seek-linked-needs seek-linked-lts.Need-or-requires
@@ -793,7 +801,7 @@ seek-linked-answered-requires t c κs = search needs
 
 seek-linked-same-length : seek-linked-needs seek-linked-lts.Need-same-length
 seek-linked-same-length t c =
-    c .before .before .before .before .before .before .before .seek-link .ensures .1 .room ∙ sym (c .before .before .before .before .before .before .before .before .before .before .before .before .before .before .before .before .before .before .before .before .before .before .before .before .pre .1 .1 .1 .1 .room)
+    c .before .before .before .before .before .before .memory .given ∙ c .before .before .before .before .before .before .before .before .before .before .before .before .before .loop .inv .1 .1 .0
 
 seek-linked-returns : seek-linked-needs seek-linked-lts.Need-returns
 seek-linked-returns t c =
@@ -830,7 +838,7 @@ seek-linked-loop-again t c =
           (λ way. (
             rw (way .10, way .11)
                 (link-next middle _ _ _ (way .0 .taken) (way .5 .ensures) (way .8 .ensures) so-far (way .2 .ensures .0)),
-            rw (way .9) (way .2 .ensures .1),
+            rw (way .9) (way .3 .given ∙ before .0, way .2 .ensures .1),
           ))
           (λ way. (rw (way .2, way .3) (link-skipped middle _ _ _ (way .0 .left) so-far), rw (way .1) before))
           (c .if1 .came),
@@ -841,7 +849,7 @@ seek-linked-answered-requires-2 t c κs = search needs
 
 seek-linked-same-length-2 : seek-linked-needs seek-linked-lts.Need-same-length-2
 seek-linked-same-length-2 t c =
-    c .before .before .loop .inv .1 .1 .room ∙ sym (c .before .before .before .before .before .before .before .before .before .before .before .before .before .pre .1 .1 .1 .1 .room)
+    c .before .before .loop .inv .1 .1 .0
 
 seek-linked-returns-2 : seek-linked-needs seek-linked-lts.Need-returns-2
 seek-linked-returns-2 t c =
@@ -849,7 +857,7 @@ seek-linked-returns-2 t c =
     let at-credentials = at-loop .before .before .before .before .before in
     let start = at-credentials .before .before .before .before .before .before in
     let (searched, (tried, (kind, remembered))) = start .pre .1 in
-    let (so-far, now-remembered) = at-loop .loop .inv .1 in
+    let (so-far, (same, now-remembered)) = at-loop .loop .inv .1 in
     let (found-is, met-is) = c .answered2 .ensures in (
       rw (found-is, met-is) (linked-all searched tried kind _ _ _ _ (omega
           (arith, c .before .loop-test .left, at-loop .loop .inv .0, at-credentials .credentials .ensures .same)) so-far),
@@ -859,7 +867,7 @@ seek-linked-returns-2 t c =
 abbrev seek-parts-Inv-loop : seek-parts-lts.InvT-loop
 seek-parts-Inv-loop table index arcs rows terms person i levels states above memory₀ k₀ memory k =
     (k ≤ 4) × ((anyBelow (partMissed index (λ p r. provesAt table (terms .allowed) (terms .constraints) (terms .owed) levels above states p r 0) person i) k ≡ false)
-    × Remembered table (terms .allowed) (terms .constraints) (terms .owed) memory)
+    × ((length memory ≡ length memory₀) × Remembered table (terms .allowed) (terms .constraints) (terms .owed) memory))
 
 abbrev seek-parts-μ-loop : seek-parts-lts.MeasureT-loop
 seek-parts-μ-loop table index arcs rows terms person i levels states above memory₀ k₀ memory k = 4 - k
@@ -918,7 +926,7 @@ seek-parts-returns-2 t c =
 
 seek-parts-loop-holds : seek-parts-needs seek-parts-lts.Need-loop-holds
 seek-parts-loop-holds t c =
-    (omega arith, (none-below _, c .before .before .before .before .before .before .before .before .before .pre .1 .1 .1 .1))
+    (omega arith, (none-below _, (refl, c .before .before .before .before .before .before .before .before .before .pre .1 .1 .1 .1)))
 
 seek-parts-is-asked-before-requires : seek-parts-needs seek-parts-lts.Need-is-asked-before-requires
 seek-parts-is-asked-before-requires t c κs = search needs
@@ -930,7 +938,7 @@ seek-parts-seek-goal-requires : seek-parts-needs seek-parts-lts.Need-seek-goal-r
 seek-parts-seek-goal-requires t c κs =
     let (searched, (tried, (kind, remembered))) = c .before .before .before .before .before .before .before .before .before .before .before .before .before .before .before .pre .1 in
     let stands = stands-part searched tried kind _ (c .before .before .before .before .loop-test .taken) _ (c .before .asked-cell .ensures .0) in
-    (omega (arith, c .before .before .before .before .before .before .before .before .before .before .before .before .before .before .before .pre .0), (searched, (stands, c .before .before .before .before .before .loop .inv .1 .1)))
+    (omega (arith, c .before .before .before .before .before .before .before .before .before .before .before .before .before .before .before .pre .0), (searched, (stands, c .before .before .before .before .before .loop .inv .1 .1 .1)))
 
 seek-parts-is-none-requires : seek-parts-needs seek-parts-lts.Need-is-none-requires
 seek-parts-is-none-requires t c κs = search needs
@@ -940,7 +948,7 @@ seek-parts-failed-requires-2 t c κs = search needs
 
 seek-parts-same-length-2 : seek-parts-needs seek-parts-lts.Need-same-length-2
 seek-parts-same-length-2 t c =
-    c .before .before .before .before .before .seek-goal .ensures .1 .room ∙ sym (c .before .before .before .before .before .before .before .before .before .before .before .before .before .before .before .before .before .before .before .before .before .pre .1 .1 .1 .1 .room)
+    c .before .before .before .before .memory2 .given ∙ c .before .before .before .before .before .before .before .before .before .before .before .loop .inv .1 .1 .0
 
 seek-parts-returns-3 : seek-parts-needs seek-parts-lts.Need-returns-3
 seek-parts-returns-3 t c =
@@ -971,7 +979,7 @@ seek-parts-loop-again t c =
           (λ way. (
             part-proved searched tried kind _ _ unowed _ _ _ _ (way .1 .ensures .0)
                 (zero-passes unowed (way .3 .ensures .0) (way .6 .ensures) (way .7 .left)) so-far,
-            rw (way .8) (way .3 .ensures .1),
+            rw (way .8) (way .4 .given ∙ before .0, way .3 .ensures .1),
           ))
           (λ way. (
             part-repeated searched tried kind _ _ unowed _ _ _ so-far (passed (c .before .is-asked-before .ensures) (way .0 .left)),
@@ -990,7 +998,7 @@ seek-parts-returns-4 : seek-parts-needs seek-parts-lts.Need-returns-4
 seek-parts-returns-4 t c =
     let (searched, (tried, (kind, remembered))) = c .before .before .before .before .before .before .before .before .before .before .before .before .pre .1 in
     let unowed = none-owed (c .before .before .before .if2 .left) in
-    let (none-missed, now-remembered) = c .before .before .loop .inv .1 in (
+    let (none-missed, (same, now-remembered)) = c .before .before .loop .inv .1 in (
       zero-proved unowed (c .proved .ensures .0) (c .proved .ensures .1)
           (all-proved searched tried kind _ _ unowed _ _ _ (omega (arith, c .before .loop-test .left, c .before .before .loop .inv .0)) none-missed),
       now-remembered,
@@ -1002,7 +1010,7 @@ seek-shared-Inv-loop table index arcs rows terms asked levels states above memor
     × ((Judged (terms .owed) (sharedTest table (terms .allowed) (terms .constraints) (terms .owed) levels states
     (pairsFrom (asked .persons) (asked .places) (asked .len - k) k)) above found met
     × LaterJudged table (terms .allowed) (terms .constraints) (terms .owed) levels states asked k above each met)
-    × Remembered table (terms .allowed) (terms .constraints) (terms .owed) memory)
+    × ((length memory ≡ length memory₀) × Remembered table (terms .allowed) (terms .constraints) (terms .owed) memory))
 
 abbrev seek-shared-μ-loop : seek-shared-lts.MeasureT-loop
 seek-shared-μ-loop table index arcs rows terms asked levels states above memory₀ each₀ found₀ met₀ k₀ memory each found met k =
@@ -1038,7 +1046,7 @@ seek-shared-loop-holds t c =
           shared-end _ _ _ _ _ _ _ _ _ (c .before .only .ensures) (c .nothing .ensures),
           λ j from there. absurd (omega arith),
         ),
-        remembered,
+        (refl, remembered),
       ),
     )
 
@@ -1048,7 +1056,7 @@ seek-shared-sub-k t c = search needs
 seek-shared-seek-asked-requires : seek-shared-needs seek-shared-lts.Need-seek-asked-requires
 seek-shared-seek-asked-requires t c κs =
     let (searched, ((fits, stand), remembered)) = c .before .before .before .before .before .before .before .before .before .before .before .pre .1 in
-    let ((few, room), ((so-far, later), now-remembered)) = c .before .before .loop .inv in
+    let ((few, room), ((so-far, later), (same, now-remembered))) = c .before .before .loop .inv in
     let next : suc (c .before .before .loop .k - 1) ≡ c .before .before .loop .k = omega (arith, c .before .loop-test .taken) in
     (omega (arith, c .before .before .before .before .before .before .before .before .before .before .before .pre .0), (searched, ((fits, stand), ((omega (arith, c .before .loop-test .taken), room), (rw next later, now-remembered)))))
 
@@ -1060,7 +1068,7 @@ seek-shared-failed-requires t c κs = search needs
 
 seek-shared-same-length : seek-shared-needs seek-shared-lts.Need-same-length
 seek-shared-same-length t c =
-    c .before .before .before .before .before .before .seek-asked .ensures .1 .room ∙ sym (c .before .before .before .before .before .before .before .before .before .before .before .before .before .before .before .before .before .before .pre .1 .1 .1 .room)
+    c .before .before .before .before .before .memory .given ∙ c .before .before .before .before .before .before .before .before .before .loop .inv .1 .1 .0
 
 seek-shared-returns : seek-shared-needs seek-shared-lts.Need-returns
 seek-shared-returns t c =
@@ -1114,7 +1122,7 @@ seek-shared-loop-again t c =
           later-next _ _ _ _ _ _ (c .before .before .before .before .before .before .before .before .before .before .before .before .before .before .before .before .before .before .before .before .args .asked) (at-loop .loop .k - 1) (at-loop .loop .each) (omega (arith, more, room, fits .few)) (c .before .before .joined .ensures)
               (one .covered) (so-far .covered) one (rw next later),
         ),
-        now-remembered,
+        (c .before .before .before .before .before .before .before .memory .given ∙ before .0, now-remembered),
       ),
     )
 
@@ -1127,7 +1135,7 @@ seek-shared-same-length-2 t c = search needs
 seek-shared-returns-2 : seek-shared-needs seek-shared-lts.Need-returns-2
 seek-shared-returns-2 t c =
     let at-loop = c .before .before in
-    let ((few, room), ((so-far, later), now-remembered)) = at-loop .loop .inv in
+    let ((few, room), ((so-far, later), (same, now-remembered))) = at-loop .loop .inv in
     let (found-is, met-is) = c .answered .ensures in
     let none : at-loop .loop .k ≡ 0 = omega (arith, c .before .loop-test .left) in
     (rw (found-is, met-is) (asked-all _ _ _ _ _ _ _ _ none so-far), now-remembered)
@@ -1282,7 +1290,7 @@ seek-wanted-without-requires t c κs =
 seek-wanted-keep-requires : seek-wanted-needs seek-wanted-lts.Need-keep-requires
 seek-wanted-keep-requires t c κs =
     let (searched, ((stands, may), ((new, inside), rest))) = c .before .before .before .before .before .before .before .before .before .before .before .before .before .before .before .pre .1 in
-    ((c .before .before .before .before .before .before .before .seek-below .ensures .1 .room, inside), (may .few-persons, (may .few-places, searched .shallow)))
+    (rw (c .before .before .before .before .before .before .memory .given) inside, (may .few-persons, (may .few-places, searched .shallow)))
 
 seek-wanted-answered-requires-2 : seek-wanted-needs seek-wanted-lts.Need-answered-requires-2
 seek-wanted-answered-requires-2 t c κs = search needs
@@ -1298,7 +1306,7 @@ seek-wanted-returns-2 t c =
     let less = goal-less _ _ _ _ _ _ _ _ stands may new (rw (c .before .before .before .before .before .before .before .before .before .before .before .before .before .with .ensures) at sought) (seek-wanted-wide t (c .before .before .before .before .before .before .before .before .before .before .before .before .before .before .before .before .before .before .before)) _ (c .before .before .before .before .before .without .ensures)
     (c .before .before .before .before .before .before .before .is-part .ensures) (c .before .before .before .before .before .before .if1 .left) in (
       rw (found-is, met-is) less,
-      remembered-more _ _ _ _ now-remembered inside (c .before .before .before .keep .ensures) (seek-wanted-eight t (c .before .before .before .before .before .before .before .before .before .before .before .before .before .before .before .before .before .before .before)) (less .bounds),
+      remembered-more _ _ _ _ now-remembered (c .before .before .before .keep .ensures) (seek-wanted-eight t (c .before .before .before .before .before .before .before .before .before .before .before .before .before .before .before .before .before .before .before)) (less .bounds),
     )
 
 pub +seek-asked+seek-below+seek-goal+seek-link+seek-linked+seek-parts+seek-shared+seek-through+seek-wanted-spec :
@@ -1368,6 +1376,7 @@ pub +seek-asked+seek-below+seek-goal+seek-link+seek-linked+seek-parts+seek-share
     (seek-goal-with-requires t)
     (seek-goal-failed-requires-2 t)
     (seek-goal-returns-2 t)
+    (seek-goal-slot-count-requires t)
     (seek-goal-slot-requires t)
     (seek-goal-recalls-requires t)
     (seek-goal-only-requires t)
