@@ -1,0 +1,57 @@
+-- What the functions of src/lib.rt ask and promise each other while they decide one automaton after the other.
+use Prim.Native.Nat.{ℕ, _-_, _^_, _<_, _≤_}
+use mathlib.Core.Path.{_≡_}
+use mathlib.Core.List.{List}
+use mathlib.Core.Bool.{Bool, true, not}
+use lib.Bits.{bitOr}
+use Rattle.sets.specs.Logic.{_and_}
+use Rattle.sets.specs.Sets.{inSet, setOf}
+use Rattle.families.specs.Families.{allSets, covers}
+use Rattle.families.specs.declared.Family.{Family}
+use Rattle.table.specs.Layout.{automata}
+use Rattle.table.specs.declared.Query.{Query}
+use Rattle.derivation.specs.Attached.{automataOf, markedOf, owedOf}
+use Rattle.members.specs.Members.{Members}
+use Rattle.search.specs.declared.Terms.{Terms}
+use Rattle.search.specs.Search.{Prepared, TellsMet}
+
+-- all automata that a table may have
+abbrev pub allAutomata : ℕ
+allAutomata = 255
+
+-- the first k automata are to be decided, on the terms of a search: `marks` has those of the table that demand some word
+pub record Undecided (t : List ℕ) (q : Query) (index arcs rows : List ℕ) (terms : Terms) (marks k : ℕ) : Type 0 where
+  pub prepared : Prepared t q index arcs
+  pub members : Members t (terms .allowed) (q .depth) (terms .last) rows
+  pub marks-are : marks ≡ markedOf t allAutomata
+  pub there : k ≤ automata t
+  pub few : terms .owed < allSets
+
+-- what can be met of `asked`, which is all that is owed and all that the set may owe
+pub record Found (t : List ℕ) (q : Query) (terms : Terms) (asked : ℕ) (found : Family) : Type 0 where
+  pub asked-is : asked ≡ bitOr (terms .owed) (owedOf t (terms .allowed))
+  pub tells : TellsMet t q (terms .allowed) (terms .constraints) (bitOr (terms .owed) (owedOf t (terms .allowed))) found
+
+-- which automata the set bears, and what can be met of all that it may owe
+pub record Known (t : List ℕ) (q : Query) (terms : Terms) (borne : ℕ) (found : Family) : Type 0 where
+  pub bears : borne ≡ automataOf t (terms .allowed)
+  pub tells : TellsMet t q (terms .allowed) (terms .constraints) (bitOr (terms .owed) (owedOf t (terms .allowed))) found
+
+-- automaton k is there and some credential of the set bears it
+pub record Borne (t : List ℕ) (S k : ℕ) : Type 0 where
+  pub some : k ≡ 0 → ⊥
+  pub borne : inSet (automataOf t S) (k - 1) ≡ true
+
+-- the terms of a search with A imposed and O owed
+pub record Asks (terms : Terms) (A O : ℕ) (more : Terms) : Type 0 where
+  pub allowed-is : more .allowed ≡ terms .allowed
+  pub every-is : more .constraints ≡ A
+  pub owed-is : more .owed ≡ O
+  pub last-is : more .last ≡ terms .last
+
+-- automaton j + 1 is one of W, and by what is found it cannot be met together with O; and the first k of these
+unfoldable pub isLacking : Family → ℕ → ℕ → ℕ → Bool
+isLacking found O W j = inSet W j and not (covers found (bitOr O (2 ^ j)))
+
+unfoldable pub lackingOf : Family → ℕ → ℕ → ℕ → ℕ
+lackingOf found O W k = setOf (isLacking found O W) k
