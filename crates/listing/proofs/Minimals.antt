@@ -15,8 +15,8 @@ use Rattle.sets.proofs.Members.{part-le, part-trans}
 use Rattle.verifier.proofs.DemandTwo.{demand-two}
 use Rattle.cuts.proofs.Least.{least-least, least-passes, least-shown, least-within}
 use Rattle.sorted.proofs.Ascending.{one-list, those-numbers}
-use Rattle.search.specs.Admits.{admits}
-use Rattle.search.proofs.Admitting.{accepted-admits, accepted-fits, admits-accepted, admits-mono}
+use Rattle.admission.specs.Admits.{admits}
+use Rattle.admission.proofs.Admitting.{accepted-admits, accepted-fits, admits-accepted, admits-mono}
 use Rattle.listing.specs.Minimal.{isMinimal, minimalSets}
 use Rattle.listing.specs.Demands.{Admitted, Minimal, MinimalSets, Used}
 

@@ -19,7 +19,7 @@ use Rattle.members.specs.Places.{defines, isNaming, isPerson, least, personAt, 
 use Rattle.members.specs.Above.{isAbove, nothingAbove, pairAbove, withGoal, withPair}
 use Rattle.members.specs.Trying.{everyGoal, mayUse, provedPremises, provesBy}
 use Rattle.search.specs.Search.{ends, provable, proves, shares, stepped}
-use Rattle.search.specs.Admits.{admits, admitsBy, withEvery, withOwed, without}
+use Rattle.admission.specs.Admits.{admits, admitsBy, admitsTo, among, withEvery, withOwed, withoutAll}
 use Rattle.cuts.specs.Cuts.{isLeast}
 use Rattle.sorted.specs.Sorted.{laid, those}
 use Rattle.listing.specs.Minimal.{afterwards, bufferAfter, counted, listing, minimalSets}
@@ -28,7 +28,8 @@ use Rattle.listing.specs.Minimal.{afterwards, bufferAfter, counted, list
 unfoldable pub opened : Unit {0}
 unfolding records.opened part setOf acceptingSet each movedSets startingSets together automataOf automataUpTo defines isNaming
     isPerson least personAt roleAt isAbove nothingAbove pairAbove withGoal withPair everyGoal mayUse provedPremises provesBy
-    provable proves shares ends stepped admits admitsBy withEvery withOwed without isLeast laid those afterwards bufferAfter counted listing minimalSets
+    provable proves shares ends stepped admits admitsBy admitsTo among withEvery withOwed withoutAll isLeast laid those afterwards bufferAfter counted listing
+    minimalSets
 opened = tt
 
 pub data Row : Type 0 where

@@ -23,7 +23,7 @@ use Rattle.table.specs.Layout.{credentials}
 use Rattle.table.specs.Holding.{WellFormed}
 use Rattle.table.specs.Checks.{requestOutcome}
 use Rattle.table.specs.declared.Query.{Query}
-use Rattle.search.specs.Admits.{admits}
+use Rattle.admission.specs.Admits.{admits}
 use Rattle.listing.specs.Minimal.{Tells, afterwards, bufferAfter, isMinimal, minimalSets}
 use Rattle.regions.specs.Below.{Bears, Ended, Held, andLeast}
 use Rattle.listing.proofs.Counting.{listed-counted, more-counted, none-counted}

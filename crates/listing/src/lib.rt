@@ -1,5 +1,5 @@
 // The holder's end: every minimal set of credentials that proves the queried membership, ascending (docs/DEFINITION.md,
-// "The list"). It knows of derivations only which sets of credentials admit an accepted record (crate search), and leaves the
+// "The list"). It knows of derivations only which sets of credentials admit an accepted record (crate admission), and leaves the
 // search over sets to crate regions. specs/Minimal.antt says what the answer and the buffer are; specs/Demands.antt states that
 // this is the list that the definition means.
 use checks::QueryCheck;
@@ -17,7 +17,7 @@ ghost use Rattle.table.specs.Checks.{Valid, numberOf};
 ghost use Rattle.table.specs.Outcome.{Outcome};
 ghost use Rattle.search.specs.Search.{Prepared};
 ghost use Rattle.relevance.specs.Relevance.{Relevant};
-ghost use Rattle.search.specs.Admits.{admits};
+ghost use Rattle.admission.specs.Admits.{admits};
 ghost use Rattle.listing.specs.Minimal.{Tells, bufferAfter, listing, listingTold};
 
 // The count of minimal sets, which stand in the buffer's first cells.
@@ -57,7 +57,7 @@ fn list_checked(table: &[Number], query: Query, room: usize, sets: &mut [Credent
 {
     let index = members::index(table, query);
     let usable = relevance::relevant(table, query, &index);
-    if !search::admits(table, query, &index, &table[..0], usable) {
+    if !admission::admits(table, query, &index, &table[..0], usable) {
         return refused(Reason::NoMinimalSet);
     }
     if derivation::automata_of(table, usable) == 0 {

@@ -26,7 +26,7 @@ use Rattle.verifier.specs.Reading.{Reading, reader}
 use Rattle.verifier.specs.Reading.Reading.{read, stop}
 use Rattle.verifier.specs.Verdict.{verdict}
 use Rattle.sorted.specs.Sorted.{those}
-use Rattle.search.specs.Admits.{admits}
+use Rattle.admission.specs.Admits.{admits}
 use Rattle.listing.specs.Minimal.{minimalSets}
 use Rattle.listing.specs.Demands.{Minimal, Used}
 

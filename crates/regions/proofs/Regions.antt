@@ -28,8 +28,8 @@ use Rattle.sorted.proofs.Holding.{holds-same}
 use Rattle.table.specs.Layout.{credentials}
 use Rattle.table.specs.Holding.{WellFormed}
 use Rattle.table.specs.declared.Query.{Query}
-use Rattle.search.specs.Admits.{admits}
-use Rattle.search.proofs.Admitting.{admits-mono}
+use Rattle.admission.specs.Admits.{admits}
+use Rattle.admission.proofs.Admitting.{admits-mono}
 use Rattle.regions.specs.Below.{Decided, Ended, Grown, Held, Judged, Kept, andLeast}
 
 -- what the cuts alone tell

@@ -13,7 +13,7 @@ use Rattle.cuts.specs.Cuts.{Barren, Monotone, More, Ready, Searched, between, i
 use Rattle.sorted.specs.Sorted.{Holds, Inserted}
 use Rattle.table.specs.Layout.{credentials}
 use Rattle.table.specs.declared.Query.{Query}
-use Rattle.search.specs.Admits.{admits}
+use Rattle.admission.specs.Admits.{admits}
 
 -- whether a set passes depends on its members in `usable` alone
 abbrev pub Bears : (ℕ → Bool) → ℕ → Type 0

@@ -19,7 +19,7 @@ ghost use Rattle.cuts.specs.Cuts.{Cuts, Ready, isLeast};
 ghost use Rattle.table.specs.Layout.{credentials};
 ghost use Rattle.table.specs.Holding.{WellFormed};
 ghost use Rattle.search.specs.Search.{Prepared};
-ghost use Rattle.search.specs.Admits.{admits};
+ghost use Rattle.admission.specs.Admits.{admits};
 ghost use Rattle.regions.specs.Below.{Bears, Decided, Ended, Grown, Held, Judged, Kept, hasListed};
 
 // Finds the minimal sets of a region: those without one of its free credentials, then those with it.
@@ -120,7 +120,7 @@ fn decide(
     if among != 0 {
         return among;
     }
-    if search::admits(table, query, index, arcs, chosen) {
+    if admission::admits(table, query, index, arcs, chosen) {
         keep(
             table,
             query,
@@ -245,7 +245,7 @@ fn is_spare(
     if !sets::has(set, i) {
         return false;
     }
-    search::admits(table, query, index, arcs, set ^ (1 << i))
+    admission::admits(table, query, index, arcs, set ^ (1 << i))
 }
 
 // Grows a set that is not admitted, credential by credential, while it is not.
@@ -327,7 +327,7 @@ fn grown_by(
     if has_listed(sets, found, more) {
         return set;
     }
-    if search::admits(table, query, index, arcs, more & usable) {
+    if admission::admits(table, query, index, arcs, more & usable) {
         return set;
     }
     more

@@ -7,8 +7,8 @@ use Rattle.sets.proofs.Tests.{and-both, and-first, same-test}
 use Rattle.sets.proofs.Members.{inSet-and, part-shown}
 use Rattle.table.specs.Holding.{WellFormed}
 use Rattle.table.specs.declared.Query.{Query}
-use Rattle.search.specs.Admits.{admits}
-use Rattle.search.proofs.Admitting.{admits-exact, admits-mono}
+use Rattle.admission.specs.Admits.{admits}
+use Rattle.admission.proofs.Admitting.{admits-exact, admits-mono}
 use Rattle.relevance.specs.Relevance.{Relevant}
 
 module _ (t : List ℕ) (wf : WellFormed t) (q : Query) where

@@ -5,7 +5,7 @@ use Prim.Native.Nat.{_-_, _≤_}
 use native.Mathlib.Omega.{arith}
 use borrow.Author.Needs.{needs}
 use Rattle.table.specs.Layout.{credentials}
-use Rattle.search.specs.Admits.{admits}
+use Rattle.admission.specs.Admits.{admits}
 use Rattle.regions.specs.Below.{Grown}
 use Rattle.regions.proofs.Growing.{grown-on, grown-same}
 use Rattle.regions.proofs.grown.Statement.{statement}

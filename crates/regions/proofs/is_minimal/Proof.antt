@@ -8,7 +8,7 @@ use borrow.Author.Needs.{needs}
 use Rattle.sets.specs.Logic.{anyBelow}
 use Rattle.sets.proofs.Tests.{any-next}
 use Rattle.table.specs.Layout.{credentials}
-use Rattle.search.specs.Admits.{admits}
+use Rattle.admission.specs.Admits.{admits}
 use Rattle.regions.proofs.Regions.{admits-monotone}
 use Rattle.regions.proofs.Growing.{none-spare, spare, spare-more}
 use Rattle.regions.proofs.is_minimal.Statement.{statement}

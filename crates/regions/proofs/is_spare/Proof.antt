@@ -1,7 +1,7 @@
 -- `regions::is_spare` meets its contract. Assumes nothing.
 use native.Mathlib.Omega.{arith}
 use borrow.Author.Needs.{needs}
-use Rattle.search.specs.Admits.{admits}
+use Rattle.admission.specs.Admits.{admits}
 use Rattle.regions.proofs.Growing.{spare-in, spare-out}
 use Rattle.regions.proofs.is_spare.Statement.{statement}
 use Rattle.regions.proofs.is_spare.Tie as tie
