@@ -26,6 +26,7 @@ ghost use Rattle.table.specs.Holding.{WellFormed};
 ghost use Rattle.members.specs.Members.{Placed, askedCell, linkCell};
 ghost use Rattle.search.specs.Asking.{Fits, askedPairs, pair};
 ghost use Rattle.search.specs.Search.{Searched, Stands, goalAt};
+ghost use Rattle.search.specs.Failing.{Remembered};
 ghost use Rattle.choice.specs.Choice.{Chosen, LastUsable, Made, Wanted, leastCredential, provesWith, suitsAll};
 ghost use Rattle.choice.specs.Choice.{suitsWord};
 
@@ -50,15 +51,18 @@ pub fn choose(
     levels: usize,
     states: StateSets,
     above: Above,
+    memory: &mut [u32],
 ) -> Node
     requires { ⌜ Searched (now table) (now index) (now arcs) (now rows) (terms .allowed) levels (terms .last) ⌝ }
     requires { ⌜ Stands (now table) person place × (place < credentials (now table)) ⌝ }
     requires { ⌜ Wanted (terms .owed) wanted ⌝ }
+    requires { ⌜ Remembered (now table) (terms .allowed) (terms .constraints) (terms .owed) (now memory) ⌝ }
     requires { ⌜ anyBelow (provesWith (now table) (terms .allowed)
         (suitsAll (now table) terms wanted levels above states) (suitsWord (now table) terms wanted states)
         (goalAt (now table) person place)) (credentials (now table)) ≡ true ⌝ }
     ensures { λ r. ⌜ Chosen (now (table .entry)) (terms .allowed) (terms .constraints) (terms .owed) levels above states
-        (inFamily wanted) (goalAt (now (table .entry)) person place) r ⌝ }
+        (inFamily wanted) (goalAt (now (table .entry)) person place) r
+        × Remembered (now (table .entry)) (terms .allowed) (terms .constraints) (terms .owed) (now (memory .exit)) ⌝ }
 {
     let i = least_credential(
         table,
@@ -72,6 +76,7 @@ pub fn choose(
         levels,
         states,
         above,
+        memory,
     );
     let credential = layout::credential(table, i + 1);
     if credential.kind != LINKING_CONTAINMENT {
@@ -89,6 +94,7 @@ pub fn choose(
         levels,
         states,
         above,
+        memory,
     );
     linked(table, index, person, i, j)
 }
@@ -107,17 +113,20 @@ fn least_credential(
     levels: usize,
     states: StateSets,
     above: Above,
+    memory: &mut [u32],
 ) -> usize
     requires { ⌜ Searched (now table) (now index) (now arcs) (now rows) (terms .allowed) levels (terms .last) ⌝ }
     requires { ⌜ Stands (now table) person place × (place < credentials (now table)) ⌝ }
     requires { ⌜ Wanted (terms .owed) wanted ⌝ }
+    requires { ⌜ Remembered (now table) (terms .allowed) (terms .constraints) (terms .owed) (now memory) ⌝ }
     requires { ⌜ anyBelow (provesWith (now table) (terms .allowed)
         (suitsAll (now table) terms wanted levels above states) (suitsWord (now table) terms wanted states)
         (goalAt (now table) person place)) (credentials (now table)) ≡ true ⌝ }
-    ensures { λ r. ⌜ (r < credentials (now (table .entry)))
+    ensures { λ r. ⌜ ((r < credentials (now (table .entry)))
         × (suc r ≡ leastCredential (now (table .entry)) (terms .allowed)
         (suitsAll (now (table .entry)) terms wanted levels above states) (suitsWord (now (table .entry)) terms wanted states)
-        (goalAt (now (table .entry)) person place)) ⌝ }
+        (goalAt (now (table .entry)) person place)))
+        × Remembered (now (table .entry)) (terms .allowed) (terms .constraints) (terms .owed) (now (memory .exit)) ⌝ }
 {
     let last = last_usable(index, terms.allowed, place, layout::credentials(table));
     let mut i = 0;
@@ -134,6 +143,7 @@ fn least_credential(
                 levels,
                 states,
                 above,
+                memory,
             );
             if found.meets(wanted) {
                 return i;

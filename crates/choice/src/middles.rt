@@ -19,6 +19,7 @@ ghost use Rattle.members.specs.Members.{Indexed, tableCells};
 ghost use Rattle.members.specs.Places.{isPerson};
 ghost use Rattle.members.specs.Trying.{provesBy};
 ghost use Rattle.search.specs.Search.{Searched, Tried, goalAt};
+ghost use Rattle.search.specs.Failing.{Remembered};
 ghost use Rattle.choice.specs.Choice.{LeastMiddle, LeastNamed, Wanted, comesBefore, leads};
 ghost use Rattle.choice.specs.Choice.{listedMiddles, suitsAll, suitsWord};
 
@@ -36,16 +37,19 @@ pub fn least_middle(
     levels: usize,
     states: StateSets,
     above: Above,
+    memory: &mut [u32],
 ) -> usize
     requires { ⌜ Searched (now table) (now index) (now arcs) (now rows) (terms .allowed) levels (terms .last) ⌝ }
     requires { ⌜ Tried (now table) person i × (credential (now table) (suc i) .kind ≡ 3) ⌝ }
     requires { ⌜ Wanted (terms .owed) wanted ⌝ }
+    requires { ⌜ Remembered (now table) (terms .allowed) (terms .constraints) (terms .owed) (now memory) ⌝ }
     requires { ⌜ provesBy (now table)
         (suitsAll (now table) terms wanted levels above states) (suitsWord (now table) terms wanted states)
         (goalAt (now table) person i) (suc i) ≡ true ⌝ }
     ensures { λ r. ⌜ LeastMiddle (now (table .entry)) (leads (now (table .entry))
         (suitsAll (now (table .entry)) terms wanted levels above states) (suitsWord (now (table .entry)) terms wanted states)
-        (goalAt (now (table .entry)) person i) (suc i)) r ⌝ }
+        (goalAt (now (table .entry)) person i) (suc i)) r
+        × Remembered (now (table .entry)) (terms .allowed) (terms .constraints) (terms .owed) (now (memory .exit)) ⌝ }
 {
     let row = search::row_of(levels, terms.last);
     let mut left = listed_middles(table, index, rows, row, person, i);
@@ -64,6 +68,7 @@ pub fn least_middle(
             levels,
             states,
             above,
+            memory,
         ) {
             return j;
         }
@@ -150,14 +155,17 @@ fn leads_on(
     levels: usize,
     states: StateSets,
     above: Above,
+    memory: &mut [u32],
 ) -> bool
     requires { ⌜ Searched (now table) (now index) (now arcs) (now rows) (terms .allowed) levels (terms .last) ⌝ }
     requires { ⌜ Tried (now table) person i × (credential (now table) (suc i) .kind ≡ 3) ⌝ }
     requires { ⌜ (j < credentials (now table)) × (isPerson (now table) j ≡ true) ⌝ }
     requires { ⌜ Wanted (terms .owed) wanted ⌝ }
-    ensures { λ r. ⌜ r ≡ leads (now (table .entry))
+    requires { ⌜ Remembered (now table) (terms .allowed) (terms .constraints) (terms .owed) (now memory) ⌝ }
+    ensures { λ r. ⌜ (r ≡ leads (now (table .entry))
         (suitsAll (now (table .entry)) terms wanted levels above states) (suitsWord (now (table .entry)) terms wanted states)
-        (goalAt (now (table .entry)) person i) (suc i) j ⌝ }
+        (goalAt (now (table .entry)) person i) (suc i) j)
+        × Remembered (now (table .entry)) (terms .allowed) (terms .constraints) (terms .owed) (now (memory .exit)) ⌝ }
 {
     let one = search::goal_search(
         table,
@@ -170,6 +178,7 @@ fn leads_on(
         levels,
         states,
         above,
+        memory,
     );
     if one.is_none() {
         return false;
@@ -185,6 +194,7 @@ fn leads_on(
         levels,
         states,
         above,
+        memory,
     );
     let both = one.joined(two);
     both.meets(wanted)
