@@ -3,7 +3,7 @@
 use mathlib.Core.Path.{_≡_, refl, sym, ap, ap₂, _∙_}
 use mathlib.Core.List.{List, [], _∷_}
 use mathlib.Core.Bool.{true}
-use Prim.Native.Nat.{ℕ, _<_}
+use Prim.Native.Nat.{ℕ, _<_, _≤_}
 use native.Mathlib.Omega.{arith}
 use native.Mathlib.Decide.{decLt}
 use lib.ListN.{getD}
@@ -22,7 +22,8 @@ use Rattle.members.specs.Above.{nothingAbove}
 use Rattle.members.specs.Members.{Members, goalPerson, goalRole}
 use Rattle.members.proofs.Places.{person-stands, role-stands}
 use Rattle.search.specs.Search.{Prepared, Stands, goalAt, provable, proves, provesAt}
-use Rattle.search.proofs.Starting.{goal-found, goal-stands, goal-unnamed}
+use Rattle.search.proofs.Placing.{unnamed-unproved}
+use Rattle.search.proofs.Starting.{goal-found, goal-stands}
 use Rattle.choice.specs.Choice.{suits}
 use Rattle.writing.specs.First.{firstForest}
 use Rattle.writing.specs.Walked.{Walked}
@@ -34,12 +35,15 @@ module _ {t : List ℕ} {q : Query} {index arcs rows : List ℕ} {S last : ℕ} 
     {person place : ℕ}
     (who : person ≡ getD index goalPerson 0) (role-at : place ≡ getD index goalRole 0) where
   named : person < credentials t
+  unfolding provable
   named = go (decLt person (credentials t))
     where
       go : Dec (person < credentials t) → person < credentials t
       go (yes l) = l
       go (no beyond) =
-          absurd (false-true (goal-unnamed prepared who S A O (q .depth) refl members (omega arith) ∙ proved))
+          let out : credentials t ≤ person = omega arith in
+          let unnamed = rw (who ∙ prepared .aimed .goalsPerson) at out in
+          absurd (false-true (sym (unnamed-unproved t S A O members nothingAbove (startingSets t) (goalOf q) O unnamed) ∙ proved))
 
   pub begins-stands : Stands t person place
   begins-stands = goal-stands prepared who named role-at

@@ -31,7 +31,7 @@ use Rattle.members.specs.Above.{nothingAbove}
 use Rattle.members.proofs.Branching.{on-none}
 use Rattle.search.specs.Search.{SomeAccept, UsesOnly, provable, proves}
 use Rattle.search.proofs.Searching.{Led, provable-by}
-use Rattle.search.proofs.Admitting.{accepts-complies, part-used, used-part}
+use Rattle.admission.proofs.Admitting.{accepts-complies, part-used, used-part}
 use Rattle.listing.specs.Minimal.{isMinimal}
 use Rattle.listing.specs.Demands.{Minimal}
 use Rattle.listing.proofs.Minimals.{is-minimal-set}

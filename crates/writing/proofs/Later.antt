@@ -127,6 +127,31 @@ family-wants w = record { few = w .few; upward = w .upward; inside = w .inside }
 pub wants-family : {O : ℕ} {wanted : Family} → Wanted O (inFamily wanted) → choice.Wanted O wanted
 wants-family w = record { few = w .few; upward = w .upward; inside = w .inside }
 
+-- where nothing is owed there is nothing to share out: a goal may meet what is wanted
+pub here-none : (one : Goal → ℕ → Bool) (O : ℕ) (wanted : Family) → Wanted O (inFamily wanted) → (met : ℕ) → part met O ≡ true
+    → (rest : List Goal) → O ≡ 0 → shares one O rest 0 ≡ true
+    → Alike (inFamily wanted) (leaves one O (λ X. inFamily wanted (bitOr met X)) rest)
+here-none one O wanted wants met owed rest none nothing X l = same-test _ _ on back
+  where
+    left : Wanted O (λ Y. inFamily wanted (bitOr met Y))
+    left = wanted-after wants met owed
+
+    empty : (Y : ℕ) → Y ≤ O → part Y X ≡ true
+    empty Y m = let zero : Y ≡ 0 = omega arith in rw zero (part-zero X)
+
+    on : inFamily wanted X ≡ true → leaves one O (λ Y. inFamily wanted (bitOr met Y)) rest X ≡ true
+    on h =
+        let few = wants .inside X l h in
+        leaves-reached left one rest X 0 few (omega arith) nothing
+        (ap (λ x. inFamily wanted (bitOr met x)) (or-zero-r X)
+        ∙ wants .upward X (bitOr met X) (part-or-right met X) (part-or met X O owed few) h)
+
+    back : leaves one O (λ Y. inFamily wanted (bitOr met Y)) rest X ≡ true → inFamily wanted X ≡ true
+    back h =
+        let (few, Z, z, shared, has) = leaves-shows left one rest X h in
+        wants .upward (bitOr met (bitOr X Z)) X
+        (part-or met (bitOr X Z) X (empty met (part-le met O owed)) (part-or X Z X (part-refl X) (empty Z z))) few has
+
 -- what is left to a goal, where those behind it are `rest`
 module _ (one : Goal → ℕ → Bool) (O : ℕ) (wanted : Family) (wants : Wanted O (inFamily wanted)) (met : ℕ)
     (owed : part met O ≡ true)

@@ -19,12 +19,12 @@ use Rattle.table.proofs.Stages.{refused-then, then-on}
 use Rattle.automata.specs.Together.{startingSets}
 use Rattle.derivation.specs.Rules.{goalOf}
 use Rattle.derivation.specs.Forest.{written}
-use Rattle.derivation.specs.Attached.{automataOf, everyOf, markedOf, owedOf}
+use Rattle.derivation.specs.Attached.{automataOf, markedOf, owedOf}
 use Rattle.search.specs.Search.{provable}
 use Rattle.listing.specs.Minimal.{isMinimal}
 use Rattle.members.specs.Above.{nothingAbove}
 use Rattle.writing.specs.First.{firstForest, firstRecord}
-use Rattle.writing.specs.Walked.{Walked}
+use Rattle.writing.specs.Walked.{Settled, Walked}
 use Rattle.writing.specs.Writing.{Tells, filled, recordAfter, writing}
 use Rattle.writing.proofs.Settling.{every-rest, owed-few}
 use Rattle.writing.proofs.Firsts.{minimal-provable}
@@ -46,11 +46,7 @@ pub tells-instead : (t : List ℕ) (q : Query) (S : ℕ) (before : List ℕ) {af
     → after ≡ after′ → Tells t q S before after′ o′ → Tells t q S before after o
 tells-instead t q S before same held tells = rw (same, held) tells
 
--- the automata of the set by their marks, as the code holds them: those that are imposed, and those that are owed
-pub record Settled (t : List ℕ) (S A O : ℕ) : Type 0 where
-  pub imposed : A ≡ everyOf t S
-  pub owed : O ≡ owedOf t S
-
+-- the automata of the set, as the code finds them: the marked ones are owed, and the others are imposed
 pub settled-by : (t : List ℕ) → WellFormed t → (S : ℕ) {borne O : ℕ} → borne ≡ automataOf t S → O ≡ markedOf t borne
     → Settled t S (bitXor borne O) O
 unfolding owedOf

@@ -25,7 +25,7 @@ use Rattle.derivation.specs.Attached.{automataOf, everyOf, markedOf, owedOf}
 use Rattle.derivation.proofs.Attaching.{every-member, owed-member}
 use Rattle.derivation.proofs.Using.{automaton-shows}
 use Rattle.search.specs.Search.{AllAccept, SomeAccept}
-use Rattle.search.proofs.Admitting.{demanding, used-shows}
+use Rattle.admission.proofs.Admitting.{demanding, used-shows}
 
 -- automaton k + 1 is attached to a credential of the set and has this mark
 abbrev Marked : List ℕ → ℕ → ℕ → ℕ → Type 0

@@ -11,6 +11,7 @@ use Rattle.families.specs.declared.Family.{Family}
 use Rattle.table.specs.declared.Goal.{Goal}
 use Rattle.automata.specs.declared.StateSets.{StateSets}
 use Rattle.derivation.specs.Forest.{Forest, written}
+use Rattle.derivation.specs.Attached.{everyOf, owedOf}
 use Rattle.members.specs.declared.above.Above.{Above}
 use Rattle.search.specs.declared.Terms.{Terms}
 use Rattle.search.specs.declared.asking.Asked.{Asked}
@@ -42,6 +43,11 @@ goalsFrom t asked k = goalsAt t (pairsFrom (asked .persons) (asked .places) (ask
 -- what goals can meet together, below a branch
 abbrev pub laterTest : List ℕ → ℕ → ℕ → ℕ → ℕ → StateSets → List Goal → ℕ → Above → Bool
 laterTest t S A O levels s goals = λ X above. shares (proves t S A O levels above s) O goals X
+
+-- the automata of the set by their marks, as the terms hold them: those that are imposed, and those that are owed
+pub record Settled (t : List ℕ) (S A O : ℕ) : Type 0 where
+  pub imposed : A ≡ everyOf t S
+  pub owed : O ≡ owedOf t S
 
 -- on the terms of a search: the first forest of the goals such that they meet a set of the family
 abbrev pub firstOn : List ℕ → Terms → Family → ℕ → Above → StateSets → List Goal → Forest

@@ -18,8 +18,11 @@ ghost use lib.ListN.{length};
 ghost use Rattle.table.specs.Outcome.{Outcome};
 ghost use Rattle.table.specs.Holding.{WellFormed};
 ghost use Rattle.table.specs.Checks.{Valid, numberOf};
+ghost use Rattle.members.specs.Members.{Members};
 ghost use Rattle.search.specs.Search.{Prepared};
+ghost use Rattle.search.specs.Failing.{Remembered};
 ghost use Rattle.listing.specs.Minimal.{isMinimal};
+ghost use Rattle.writing.specs.Walked.{Settled};
 ghost use Rattle.writing.specs.Writing.{Tells, recordAfter, writing, writtenTold};
 
 // The record's length in numbers; it stands in the first cells.
@@ -87,14 +90,14 @@ fn is_listed(
     if set >> layout::credentials(table) != 0 {
         return false;
     }
-    if !search::admits(table, query, index, arcs, set) {
+    if !admission::admits(table, query, index, arcs, set) {
         return false;
     }
     regions::is_minimal(table, query, index, arcs, set)
 }
 
-// Row 16, or the record. The length is known before the first cell is written: the record is walked without cells first, up to
-// as many numbers as there are cells.
+// Row 16, or the record: first the terms of the set are settled. A small set gets a small memory, since clearing a large one
+// takes longer than writing a short record.
 fn write_listed(
     table: &[Number],
     query: Query,
@@ -117,21 +120,50 @@ fn write_listed(
         owed: owed,
         last: last,
     };
+    if failures::is_small(set) {
+        let mut memory = [0; failures::FEW_CELLS];
+        return write_settled(table, query, index, arcs, &rows, terms, &mut memory, rec);
+    }
+    let mut memory = [0; failures::CELLS];
+    write_settled(table, query, index, arcs, &rows, terms, &mut memory, rec)
+}
+
+// Row 16, or the record, on the terms of the set. The length is known before the first cell is written: the record is walked
+// without cells first, up to as many numbers as there are cells. Both walks search on the same terms, so that one memory serves
+// them.
+fn write_settled(
+    table: &[Number],
+    query: Query,
+    index: &[u8],
+    arcs: &[StateSet],
+    rows: &[CredentialSet],
+    terms: Terms,
+    memory: &mut [u32],
+    rec: &mut [Number],
+) -> Written
+    requires { ⌜ Prepared (now table) query (now index) (now arcs) ⌝ }
+    requires { ⌜ isMinimal (now table) query (terms .allowed) ≡ true ⌝ }
+    requires { ⌜ Members (now table) (terms .allowed) (query .depth) (terms .last) (now rows) ⌝ }
+    requires { ⌜ Settled (now table) (terms .allowed) (terms .constraints) (terms .owed) ⌝ }
+    requires { ⌜ Remembered (now table) (terms .allowed) (terms .constraints) (terms .owed) (now memory) ⌝ }
+    ensures { λ r. ⌜ Tells (now (table .entry)) query (terms .allowed) (now (rec .entry)) (now (rec .exit)) (writtenTold r) ⌝ }
+{
     let cells = rec.len();
     let len = walk::from_goal(
         table,
         query,
         index,
         arcs,
-        &rows,
+        rows,
         terms,
+        memory,
         cells,
         &mut rec[..0],
     );
     if cells < len {
         return refused(Reason::LongerRecord);
     }
-    walk::from_goal(table, query, index, arcs, &rows, terms, cells, rec);
+    walk::from_goal(table, query, index, arcs, rows, terms, memory, cells, rec);
     Written::Length(len)
 }
 

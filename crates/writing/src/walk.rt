@@ -19,7 +19,7 @@ ghost use Prim.Native.Nat.{_+_, _^_, _<_, _≤_};
 ghost use lib.Bits.{bitOr};
 ghost use lib.Dec.{eqb};
 ghost use Rattle.sets.specs.Sets.{part};
-ghost use Rattle.families.specs.Families.{FamilyOf, allSets, inFamily};
+ghost use Rattle.families.specs.Families.{FamilyOf, inFamily};
 ghost use Rattle.table.specs.Layout.{credentials};
 ghost use Rattle.automata.specs.Together.{startingSets};
 ghost use Rattle.derivation.specs.Rules.{goalOf};
@@ -27,7 +27,7 @@ ghost use Rattle.derivation.specs.Forest.{written};
 ghost use Rattle.members.specs.Above.{nothingAbove};
 ghost use Rattle.members.specs.Members.{Members};
 ghost use Rattle.search.specs.Search.{Prepared, Searched, Stands, goalAt, provable, proves};
-ghost use Rattle.search.specs.Failing.{Told};
+ghost use Rattle.search.specs.Failing.{Remembered, Told};
 ghost use Rattle.choice.specs.Choice.{Children, Wanted, suitsAll};
 ghost use Rattle.writing.specs.First.{firstForest, leaves};
 ghost use Rattle.writing.specs.Walked.{Walked, Walks, firstOn, goalsFrom, laterTest};
@@ -46,17 +46,19 @@ pub fn from_goal(
     arcs: &[StateSet],
     rows: &[CredentialSet],
     terms: Terms,
+    memory: &mut [u32],
     most: usize,
     rec: &mut [Number],
 ) -> usize
     requires { ⌜ Prepared (now table) query (now index) (now arcs) ⌝ }
     requires { ⌜ Members (now table) (terms .allowed) (query .depth) (terms .last) (now rows) ⌝ }
-    requires { ⌜ terms .owed < allSets ⌝ }
+    requires { ⌜ Remembered (now table) (terms .allowed) (terms .constraints) (terms .owed) (now memory) ⌝ }
     requires { ⌜ provable (now table) query (terms .allowed) (terms .constraints) (terms .owed) ≡ true ⌝ }
     requires { ⌜ most < 2 ^ 63 ⌝ }
     ensures { λ r. ⌜ Walked 0 most (written (firstForest (now (table .entry)) (terms .allowed) (terms .constraints) (terms .owed)
         (query .depth) nothingAbove (startingSets (now (table .entry))) (eqb (terms .owed)) (goalOf query ∷ [])))
-        (now (rec .entry)) (now (rec .exit)) r ⌝ }
+        (now (rec .entry)) (now (rec .exit)) r
+        × Remembered (now (table .entry)) (terms .allowed) (terms .constraints) (terms .owed) (now (memory .exit)) ⌝ }
 {
     let walked = walk(
         table,
@@ -70,6 +72,7 @@ pub fn from_goal(
         layout::wide(query.depth),
         StateSets::start(table),
         Above::nothing(),
+        memory,
         most,
         0,
         rec,
@@ -91,6 +94,7 @@ fn walk(
     levels: usize,
     states: StateSets,
     above: Above,
+    memory: &mut [u32],
     most: usize,
     at: usize,
     rec: &mut [Number],
@@ -98,11 +102,13 @@ fn walk(
     requires { ⌜ Searched (now table) (now index) (now arcs) (now rows) (terms .allowed) levels (terms .last) ⌝ }
     requires { ⌜ Stands (now table) person place × (place < credentials (now table)) ⌝ }
     requires { ⌜ Wanted (terms .owed) wanted ⌝ }
+    requires { ⌜ Remembered (now table) (terms .allowed) (terms .constraints) (terms .owed) (now memory) ⌝ }
     requires { ⌜ suitsAll (now table) terms wanted levels above states (goalAt (now table) person place ∷ []) ≡ true ⌝ }
     requires { ⌜ (at ≤ most) × (most < 2 ^ 63) ⌝ }
     ensures { λ r. ⌜ Walks (now (table .entry)) terms states
         (firstOn (now (table .entry)) terms wanted levels above states (goalAt (now (table .entry)) person place ∷ []))
-        at most (now (rec .entry)) (now (rec .exit)) r ⌝ }
+        at most (now (rec .entry)) (now (rec .exit)) r
+        × Remembered (now (table .entry)) (terms .allowed) (terms .constraints) (terms .owed) (now (memory .exit)) ⌝ }
 {
     let below = search::stepped(table, arcs, terms.constraints | terms.owed, place, states);
     let deeper = above.with(person, place);
@@ -118,6 +124,7 @@ fn walk(
         levels - 1,
         below.states,
         deeper,
+        memory,
     );
     put(node.credential, node.middle, at, rec);
     let next = at + 2;
@@ -141,6 +148,7 @@ fn walk(
         levels - 1,
         below.states,
         deeper,
+        memory,
         most,
         next,
         rec,
@@ -160,6 +168,7 @@ fn walk_asked(
     levels: usize,
     states: StateSets,
     above: Above,
+    memory: &mut [u32],
     most: usize,
     from: usize,
     rec: &mut [Number],
@@ -168,11 +177,13 @@ fn walk_asked(
     requires { ⌜ Children (now table) (terms .allowed) (terms .constraints) (terms .owed) levels above states
         (goalsFrom (now table) asked 0) asked ⌝ }
     requires { ⌜ Wanted (terms .owed) wanted ⌝ }
+    requires { ⌜ Remembered (now table) (terms .allowed) (terms .constraints) (terms .owed) (now memory) ⌝ }
     requires { ⌜ suitsAll (now table) terms wanted levels above states (goalsFrom (now table) asked 0) ≡ true ⌝ }
     requires { ⌜ (from ≤ most) × (most < 2 ^ 63) ⌝ }
     ensures { λ r. ⌜ Walks (now (table .entry)) terms states
         (firstOn (now (table .entry)) terms wanted levels above states (goalsFrom (now (table .entry)) asked 0))
-        from most (now (rec .entry)) (now (rec .exit)) r ⌝ }
+        from most (now (rec .entry)) (now (rec .exit)) r
+        × Remembered (now (table .entry)) (terms .allowed) (terms .constraints) (terms .owed) (now (memory .exit)) ⌝ }
 {
     let persons = asked.persons;
     let places = asked.places;
@@ -193,6 +204,7 @@ fn walk_asked(
             levels,
             states,
             above,
+            memory,
         );
         let walked = walk(
             table,
@@ -206,6 +218,7 @@ fn walk_asked(
             levels,
             states,
             above,
+            memory,
             most,
             next,
             rec,
@@ -223,8 +236,8 @@ fn walk_asked(
     }
 }
 
-// What the goal before the goals from `from` on may meet, where those before it have met `met`: where that is wanted already
-// there is nothing left to meet, and what the goals behind it can meet need not be known.
+// What the goal before the goals from `from` on may meet, where those before it have met `met`. Where nothing is owed there is
+// nothing to share out; where what has been met is wanted already, what the goals behind it can meet need not be known.
 fn wanted_here(
     table: &[Number],
     index: &[u8],
@@ -238,16 +251,22 @@ fn wanted_here(
     levels: usize,
     states: StateSets,
     above: Above,
+    memory: &mut [u32],
 ) -> Family
     requires { ⌜ Searched (now table) (now index) (now arcs) (now rows) (terms .allowed) levels (terms .last) ⌝ }
     requires { ⌜ Children (now table) (terms .allowed) (terms .constraints) (terms .owed) levels above states
         (goalsFrom (now table) asked 0) asked ⌝ }
     requires { ⌜ Wanted (terms .owed) wanted ⌝ }
+    requires { ⌜ Remembered (now table) (terms .allowed) (terms .constraints) (terms .owed) (now memory) ⌝ }
     requires { ⌜ (part met (terms .owed) ≡ true) × (from ≤ asked .len) ⌝ }
     ensures { λ r. ⌜ FamilyOf (leaves
         (proves (now (table .entry)) (terms .allowed) (terms .constraints) (terms .owed) levels above states) (terms .owed)
-        (λ X. inFamily wanted (bitOr met X)) (goalsFrom (now (table .entry)) asked from)) r ⌝ }
+        (λ X. inFamily wanted (bitOr met X)) (goalsFrom (now (table .entry)) asked from)) r
+        × Remembered (now (table .entry)) (terms .allowed) (terms .constraints) (terms .owed) (now (memory .exit)) ⌝ }
 {
+    if terms.owed == 0 {
+        return wanted;
+    }
     let now = Family::only(met);
     if wanted.has(met) {
         return wanted.left_by(now, terms.owed);
@@ -263,6 +282,7 @@ fn wanted_here(
         levels,
         states,
         above,
+        memory,
     );
     wanted.left_by(now.joined(later), terms.owed)
 }
@@ -279,13 +299,16 @@ fn met_from(
     levels: usize,
     states: StateSets,
     above: Above,
+    memory: &mut [u32],
 ) -> Family
     requires { ⌜ Searched (now table) (now index) (now arcs) (now rows) (terms .allowed) levels (terms .last) ⌝ }
     requires { ⌜ Children (now table) (terms .allowed) (terms .constraints) (terms .owed) levels above states
         (goalsFrom (now table) asked 0) asked ⌝ }
-    requires { ⌜ (terms .owed < allSets) × (from ≤ asked .len) ⌝ }
+    requires { ⌜ from ≤ asked .len ⌝ }
+    requires { ⌜ Remembered (now table) (terms .allowed) (terms .constraints) (terms .owed) (now memory) ⌝ }
     ensures { λ r. ⌜ Told (terms .owed) (laterTest (now (table .entry)) (terms .allowed) (terms .constraints) (terms .owed)
-        levels states (goalsFrom (now (table .entry)) asked from)) above r ⌝ }
+        levels states (goalsFrom (now (table .entry)) asked from)) above r
+        × Remembered (now (table .entry)) (terms .allowed) (terms .constraints) (terms .owed) (now (memory .exit)) ⌝ }
 {
     let persons = asked.persons;
     let places = asked.places;
@@ -304,6 +327,7 @@ fn met_from(
             levels,
             states,
             above,
+            memory,
         );
         met = one.joined(met);
     }

@@ -1,21 +1,19 @@
--- `writing::write_listed` meets its contract: the record is walked without cells, and written where it fits. Assumes nothing.
-use mathlib.Core.Path.{_≡_, refl, ap, _∙_}
-use mathlib.Core.Bool.{true}
+-- `writing::write_listed` meets its contract: the terms are those of the set, and a cleared memory, small or large, tells
+-- nothing. Assumes nothing.
+use mathlib.Core.Path.{refl}
 use mathlib.Core.List.{List}
-use Prim.Native.Nat.{ℕ, _^_, _<_}
+use Prim.Native.Nat.{ℕ}
 use native.Mathlib.Omega.{arith}
-use lib.ListN.{length, length-take}
 use lib.Bits.{bitXor}
 use denote.Ref.{now}
-use Rattle.families.specs.Families.{allSets}
 use Rattle.derivation.proofs.Above.{depth-fits, depth-some}
-use Rattle.table.specs.Checks.{numberOf}
-use Rattle.members.specs.Members.{tableCells}
+use Rattle.members.specs.Members.{Blank, Members, tableCells}
 use Rattle.members.proofs.Reading.{zeros}
-use Rattle.search.specs.Search.{provable}
-use Rattle.writing.specs.Writing.{writtenTold}
-use Rattle.writing.proofs.Passes.{Settled, counted-longer, counted-written, owed-fits, passed-by, proves-under, settled-by}
-use Rattle.writing.proofs.Passes.{tells-instead}
+use Rattle.failures.specs.Failures.{SlotIn, fewCells, memoryCells}
+use Rattle.search.specs.Failing.{Remembered}
+use Rattle.search.proofs.Failing.{remembered-none}
+use Rattle.writing.specs.Walked.{Settled}
+use Rattle.writing.proofs.Passes.{owed-fits, settled-by}
 use borrow.Author.Needs.{needs}
 use Rattle.writing.proofs.write_listed.Statement.{statement}
 use Rattle.writing.proofs.write_listed.Tie as tie
@@ -46,100 +44,70 @@ automata-of-requires c κs = search needs
 marked-requires : tie.Need-marked-requires
 marked-requires c κs = search needs
 
-slice-aggregate-from-goal : tie.Need-slice-aggregate-from-goal
-slice-aggregate-from-goal c = search needs
+is-small-requires : tie.Need-is-small-requires
+is-small-requires c κs = search needs
 
-slice-relend-prefix-from-goal : tie.Need-slice-relend-prefix-from-goal
-slice-relend-prefix-from-goal c = search needs
+slice-aggregate-write-settled : tie.Need-slice-aggregate-write-settled
+slice-aggregate-write-settled c = search needs
 
-slice-aggregate-from-goal-2 : tie.Need-slice-aggregate-from-goal-2
-slice-aggregate-from-goal-2 c = simp length-take (omega arith)
+slice-aggregate-write-settled-2 : tie.Need-slice-aggregate-write-settled-2
+slice-aggregate-write-settled-2 c = search needs
 
--- the place before the first walk, and the one where the call was asked
+-- the place where the terms are known, and the one where the call was asked
 abbrev Ready : Type 0
-Ready = tie.After-from-goal-arg
+Ready = tie.After-marked
 
 abbrev asked : Ready → tie.Start
-asked at = at .before .before .before .before .before .before .before .before .before .before .before .before
-
-abbrev cells : Ready → List ℕ
-cells at = now (asked at .args .rec)
-
--- a slice is no longer than this
-room : (at : Ready) → length (cells at) < 2 ^ 63
-room at = search needs
+asked at = at .before .before .before .before .before .before .before .before .before .before
 
 -- the automata of the set by their marks
 settled : (at : Ready) → let from = asked at .args in
-    Settled (now (from .table)) (from .set)
-    (bitXor (at .before .before .before .automata-of .result) (at .before .before .marked .result))
-    (at .before .before .marked .result)
-settled at =
-    settled-by _ (asked at .pre .0 .wellFormed) _ (at .before .before .before .automata-of .ensures)
-    (at .before .before .marked .ensures)
+    Settled (now (from .table)) (from .set) (bitXor (at .before .automata-of .result) (at .marked .result)) (at .marked .result)
+settled at = settled-by _ (asked at .pre .0 .wellFormed) _ (at .before .automata-of .ensures) (at .marked .ensures)
 
--- what each walk asks: the set proves the query under its automata
-abbrev Walkable : Ready → Type 0
-Walkable at =
-    let from = asked at .args in
-    let owed = at .before .before .marked .result in
-    (owed < allSets) × (provable (now (from .table)) (from .query) (from .set)
-    (bitXor (at .before .before .before .automata-of .result) owed) owed ≡ true)
+-- the members of the set, as they have been found
+filled : (at : Ready) → let from = asked at .args in
+    let fill = at .before .before .before .fill in
+    Members (now (from .table)) (from .set) (from .query .depth) (fill .result) (fill .last .1 .1 .1 .1 .0)
+filled at =
+    let fill = at .before .before .before in
+    rw (fill .before .before .wide .ensures .0) at (fill .fill .ensures)
 
-walkable : (at : Ready) → Walkable at
-walkable at =
+-- a cleared memory, of any length
+cleared : (at : Ready) (memory : List ℕ) → SlotIn memory 0 → Blank memory → let from = asked at .args in
+    Remembered (now (from .table)) (from .set) (bitXor (at .before .automata-of .result) (at .marked .result)) (at .marked .result)
+    memory
+cleared at = remembered-none _ _ _ _ (owed-fits (asked at .pre .0 .wellFormed) (settled at))
+
+write-settled-requires : tie.Need-write-settled-requires
+write-settled-requires c κs =
+    let at = c .before .before .before .before .before in
     let pre = asked at .pre in
-    let wf = pre .0 .wellFormed in
-    (owed-fits wf (settled at), proves-under wf (settled at) _ (pre .0 .valid) (pre .1))
-
-from-goal-requires : tie.Need-from-goal-requires
-from-goal-requires c κs =
-    let filled = c .before .before .before .before .before in (
-      asked c .pre .0,
-      (rw (filled .before .before .wide .ensures .0) at (filled .fill .ensures), (walkable c .0, (walkable c .1, room c))),
-    )
-
-refused-requires : tie.Need-refused-requires
-refused-requires c κs = search needs
+    (pre .0, (pre .1, (filled at, (settled at, cleared at _ (omega arith) (zeros fewCells)))))
 
 same-length : tie.Need-same-length
-same-length c =
-    let at = c .before .before .before .before .before in
-    ap length (passed-by (c .before .before .before .before .from-goal .ensures) (cells at))
+same-length c = search needs
 
 returns : tie.Need-returns
-unfolding numberOf
-returns c =
+returns c = search needs
+
+slice-aggregate-write-settled-3 : tie.Need-slice-aggregate-write-settled-3
+slice-aggregate-write-settled-3 c = search needs
+
+slice-aggregate-write-settled-4 : tie.Need-slice-aggregate-write-settled-4
+slice-aggregate-write-settled-4 c = search needs
+
+write-settled-requires-2 : tie.Need-write-settled-requires-2
+write-settled-requires-2 c κs =
     let at = c .before .before .before .before .before in
-    let counted = c .before .before .before .before .from-goal .ensures in
-    tells-instead _ _ _ _ (c .refused .ensures) (passed-by counted (cells at))
-    (counted-longer _ (settled at) _ (asked at .pre .1) refl counted (c .before .if1 .taken))
-
-slice-aggregate-from-goal-3 : tie.Need-slice-aggregate-from-goal-3
-slice-aggregate-from-goal-3 c = search needs
-
-from-goal-requires-2 : tie.Need-from-goal-requires-2
-from-goal-requires-2 c κs =
-    let at = c .before .before .before .before .before .before in
-    let filled = at .before .before .before .before .before in (
-      asked at .pre .0,
-      (rw (filled .before .before .wide .ensures .0) at (filled .fill .ensures), (walkable at .0, (walkable at .1, room at))),
-    )
+    let pre = asked at .pre in
+    (pre .0, (pre .1, (filled at, (settled at, cleared at _ (omega arith) (zeros memoryCells)))))
 
 same-length-2 : tie.Need-same-length-2
-same-length-2 c =
-    let at = c .before .before .before .before .before .before .before .before .before in
-    let counted = c .before .before .before .before .before .before .before .before .from-goal .ensures in
-    c .before .before .from-goal2 .ensures .size ∙ ap length (passed-by counted (cells at))
+same-length-2 c = search needs
 
 returns-2 : tie.Need-returns-2
-unfolding writtenTold
-returns-2 c =
-    let at = c .before .before .before .before .before .before .before .before .before in
-    let counted = c .before .before .before .before .before .before .before .before .from-goal .ensures in
-    counted-written _ (settled at) _ (asked at .pre .1) refl counted
-    (c .before .before .before .before .before .if1 .left)
-    (rw (passed-by counted (cells at)) at (c .before .before .from-goal2 .ensures))
+returns-2 c = search needs
 
 pub write-listed-spec : {M : Type 1} → statement M
 write-listed-spec =
@@ -150,14 +118,14 @@ write-listed-spec =
     fill-requires
     automata-of-requires
     marked-requires
-    slice-aggregate-from-goal
-    slice-relend-prefix-from-goal
-    slice-aggregate-from-goal-2
-    from-goal-requires
-    refused-requires
+    is-small-requires
+    slice-aggregate-write-settled
+    slice-aggregate-write-settled-2
+    write-settled-requires
     same-length
     returns
-    slice-aggregate-from-goal-3
-    from-goal-requires-2
+    slice-aggregate-write-settled-3
+    slice-aggregate-write-settled-4
+    write-settled-requires-2
     same-length-2
     returns-2)

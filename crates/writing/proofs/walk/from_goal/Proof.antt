@@ -30,17 +30,18 @@ abbrev Ready : Type 0
 Ready = tie.After-start
 
 abbrev asked : Ready → tie.Start
-asked at = at .before .before .before .before .before .before .before .before .before .before
+asked at = at .before .before .before .before .before .before .before .before .before .before .before
 
 walk-requires : tie.Need-walk-requires
 walk-requires c κs =
-    let at = c .before .before in
+    let at = c .before .before .before in
     let pre = asked at .pre in
     let who = at .before .before .before .goal-person .ensures .0 in
     let place = at .before .before .goal-role .ensures .0 in
     let only = at .before .before .before .before .only .ensures in
     let levels = at .before .wide .ensures .0 in
-    let few = pre .1 .1 .0 in
+    let remembered = pre .1 .1 .0 in
+    let few = remembered .few in
     let proved = pre .1 .1 .1 .0 in (
       goal-searched (pre .0) levels (pre .1 .0),
       (
@@ -48,9 +49,12 @@ walk-requires c κs =
         (
           wants-family (begins-wanted (pre .0) (pre .1 .0) _ _ few proved who place _ only),
           (
-            rw (c .before .nothing .ensures)
-                (begins-suits (pre .0) (pre .1 .0) _ _ few proved who place _ only _ _ levels (at .start .ensures)),
-            (omega arith, pre .1 .1 .1 .1),
+            remembered,
+            (
+              rw (c .before .before .nothing .ensures)
+                  (begins-suits (pre .0) (pre .1 .0) _ _ few proved who place _ only _ _ levels (at .start .ensures)),
+              (omega arith, pre .1 .1 .1 .1),
+            ),
           ),
         ),
       ),
@@ -59,16 +63,22 @@ walk-requires c κs =
 same-length : tie.Need-same-length
 same-length c = search needs
 
+same-length-2 : tie.Need-same-length-2
+same-length-2 c = search needs
+
 returns : tie.Need-returns
 returns c =
-    let at = c .before .before .before .before .before in
+    let walk = c .before .before .before .before in
+    let (walked, remembered) = walk .walk .ensures in
+    let at = walk .before .before .before .before in
     let pre = asked at .pre in
     let who = at .before .before .before .goal-person .ensures .0 in
-    let place = at .before .before .goal-role .ensures .0 in
-    begins-walked (pre .0) (pre .1 .0) _ _ (pre .1 .1 .0) (pre .1 .1 .1 .0) who place _
-    (at .before .before .before .before .only .ensures)
-    _ _ (at .before .wide .ensures .0) (at .start .ensures) _ _ _ _
-    (rw (c .before .before .before .before .nothing .ensures) at (c .before .before .walk .ensures .walked))
+    let place = at .before .before .goal-role .ensures .0 in (
+      begins-walked (pre .0) (pre .1 .0) _ _ (pre .1 .1 .0 .few) (pre .1 .1 .1 .0) who place _
+          (at .before .before .before .before .only .ensures) _ _ (at .before .wide .ensures .0) (at .start .ensures) _ _ _ _
+          (rw (walk .before .before .before .nothing .ensures) at (walked .walked)),
+      remembered,
+    )
 
 pub from-goal-spec : {M : Type 1} → statement M
 from-goal-spec =
@@ -82,4 +92,5 @@ from-goal-spec =
     nothing-requires
     walk-requires
     same-length
+    same-length-2
     returns)
