@@ -10,8 +10,8 @@ use bwlchareg::{list, verify, write, Query, Refusal};
 /// The stacks that the calls below must do with, in bytes; Rust gives a thread
 /// 2 MiB where nobody says otherwise.
 const VERIFYING: usize = 32 * 1024;
-const LISTING: usize = 192 * 1024;
-const WRITING: usize = 384 * 1024;
+const LISTING: usize = 160 * 1024;
+const WRITING: usize = 128 * 1024;
 /// Cells for the longest list below, and for the longest record that is written
 /// whole: sixteen levels of two premises.
 const CELLS: usize = 512;
