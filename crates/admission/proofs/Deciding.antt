@@ -32,7 +32,7 @@ use Rattle.derivation.proofs.Using.{automaton-shows}
 use Rattle.members.specs.Members.{Members}
 use Rattle.search.specs.Search.{Prepared, TellsMet, provable}
 use Rattle.search.proofs.Sharing.{part-none}
-use Rattle.search.specs.declared.Terms.{Terms}
+use Rattle.goals.specs.declared.Terms.{Terms}
 use Rattle.admission.specs.Admits.{admitsBy, admitsTo, among, withEvery, withOwed, withoutAll}
 use Rattle.admission.specs.Deciding.{Asks, Borne, Found, Known, Undecided, allAutomata, isLacking, lackingOf}
 use Rattle.admission.proofs.Admitting.{admits-without, among-reached, without-part, without-shows}

@@ -12,7 +12,7 @@ use Rattle.table.specs.Layout.{automata}
 use Rattle.table.specs.declared.Query.{Query}
 use Rattle.derivation.specs.Attached.{automataOf, markedOf, owedOf}
 use Rattle.members.specs.Members.{Members}
-use Rattle.search.specs.declared.Terms.{Terms}
+use Rattle.goals.specs.declared.Terms.{Terms}
 use Rattle.search.specs.Search.{Prepared, TellsMet}
 
 -- all automata that a table may have

@@ -4,7 +4,7 @@
 // owed some word, by its mark. One search tells of all automata that may be owed which of them can be met together; those that
 // cannot be met at all are done without at once. specs/Admits.antt says what the answer means.
 use families::Family;
-use search::Terms;
+use goals::Terms;
 use sets::AutomatonSet;
 use sets::CredentialSet;
 use sets::StateSet;

@@ -18,6 +18,7 @@ ghost use Rattle.verifier.specs.Verdict.{verdict};
 ghost use Rattle.listing.specs.Minimal.{bufferAfter, listing};
 ghost use Rattle.writing.specs.Writing.{recordAfter, writing};
 ghost use Rattle.bwlchareg.specs.Answer.{answered};
+ghost use Rattle.bwlchareg.specs.Version.{version};
 
 // Rows 1 to 7 and 17: whether the table is accepted.
 #[no_mangle]
@@ -114,6 +115,14 @@ pub extern "C" fn bwlchareg_write(
         Written::Length(len) => accept(len as u64, value),
         Written::Refused(why) => refuse(why, value),
     }
+}
+
+// The version of the interface; CHANGELOG.md says what stays as it is within one.
+#[no_mangle]
+pub extern "C" fn bwlchareg_version() -> u32
+    ensures { λ r. ⌜ r ≡ version ⌝ }
+{
+    700
 }
 
 // A query's four numbers, in the definition's order.

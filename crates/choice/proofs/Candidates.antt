@@ -13,7 +13,8 @@ use Rattle.derivation.specs.Rules.{goal}
 use Rattle.members.specs.Members.{Indexed}
 use Rattle.members.specs.Trying.{provesBy}
 use Rattle.members.proofs.Places.{least-found}
-use Rattle.search.specs.Search.{Stands, Tried, goalAt, provesWith, usable}
+use Rattle.goals.specs.Goals.{usable}
+use Rattle.search.specs.Search.{Stands, Tried, goalAt, provesWith}
 use Rattle.search.proofs.Trying.{next-tried, next-unused, usable-is, usable-role}
 use Rattle.choice.specs.Choice.{LastUsable, leastCredential}
 

@@ -23,10 +23,11 @@ use Rattle.members.specs.Trying.{provedPremises}
 use Rattle.members.specs.Members.{askedCell, linkCell, rowCell}
 use Rattle.members.specs.declared.above.Above.{Above}
 pub use Rattle.search.specs.Search.{provesWith}
-use Rattle.search.specs.declared.Terms.{Terms}
+use Rattle.goals.specs.declared.Terms.{Terms}
+use Rattle.goals.specs.Goals.{usable}
 use Rattle.search.specs.Asking.{Fits, Pair, askedPairs}
 use Rattle.search.specs.declared.asking.Asked.{Asked}
-use Rattle.search.specs.Search.{AllStand, ends, goalAt, proves, provesAt, shares, usable}
+use Rattle.search.specs.Search.{AllStand, ends, goalAt, proves, provesAt, shares}
 use Rattle.choice.specs.declared.Node.{Node}
 
 -- the goals can be proved such that together they meet a set that is wanted, where `one` says what each can meet

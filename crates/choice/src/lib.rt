@@ -5,9 +5,9 @@ mod middles; // middles.rt: the least middle of a credential of kind 3
 
 use automata::StateSets;
 use families::Family;
+use goals::Terms;
 use members::Above;
 use search::Asked;
-use search::Terms;
 use sets::CredentialSet;
 use sets::StateSet;
 use table::LINKING_CONTAINMENT;
@@ -131,7 +131,7 @@ fn least_credential(
     let last = last_usable(index, terms.allowed, place, layout::credentials(table));
     let mut i = 0;
     while i < last {
-        if search::may_use(index, terms.allowed, place, i) {
+        if goals::may_use(index, terms.allowed, place, i) {
             let found = search::credential_search(
                 table,
                 index,
@@ -163,7 +163,7 @@ fn last_usable(index: &[u8], allowed: CredentialSet, place: usize, n: usize) -> 
     let mut last = 0;
     let mut i = 0;
     while i < n {
-        if search::may_use(index, allowed, place, i) {
+        if goals::may_use(index, allowed, place, i) {
             last = i;
         }
         i += 1;

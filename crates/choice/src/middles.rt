@@ -2,8 +2,8 @@
 // order of their first simple memberships (crate members), and are compared here by their numbers.
 use automata::StateSets;
 use families::Family;
+use goals::Terms;
 use members::Above;
-use search::Terms;
 use sets::CredentialSet;
 use sets::StateSet;
 use table::Number;
@@ -51,7 +51,7 @@ pub fn least_middle(
         (goalAt (now (table .entry)) person i) (suc i)) r
         × Remembered (now (table .entry)) (terms .allowed) (terms .constraints) (terms .owed) (now (memory .exit)) ⌝ }
 {
-    let row = search::row_of(levels, terms.last);
+    let row = goals::row_of(levels, terms.last);
     let mut left = listed_middles(table, index, rows, row, person, i);
     while left & (left - 1) != 0 {
         let j = least_named(table, left);
@@ -99,7 +99,7 @@ fn listed_middles(
     let mut j = 0;
     while j < n {
         let second = members::link_cell(index, i, j);
-        if search::is_middle(table, index, rows, row, person, j, first, second) {
+        if goals::is_middle(table, index, rows, row, person, j, first, second) {
             found = sets::with(found, j);
         }
         j += 1;

@@ -18,7 +18,8 @@ use Rattle.verifier.proofs.Shop as records
 use Rattle.members.specs.Places.{defines, isNaming, isPerson, least, personAt, roleAt}
 use Rattle.members.specs.Above.{isAbove, nothingAbove, pairAbove, withGoal, withPair}
 use Rattle.members.specs.Trying.{everyGoal, mayUse, provedPremises, provesBy}
-use Rattle.search.specs.Search.{ends, provable, proves, shares, stepped}
+use Rattle.goals.specs.Goals.{stepped}
+use Rattle.search.specs.Search.{ends, provable, proves, shares}
 use Rattle.admission.specs.Admits.{admits, admitsBy, admitsTo, among, withEvery, withOwed, withoutAll}
 use Rattle.cuts.specs.Cuts.{isLeast}
 use Rattle.sorted.specs.Sorted.{laid, those}

@@ -9,8 +9,8 @@ use Rattle.table.specs.Shop.{annAsks, tableT}
 use Rattle.table.specs.declared.Query.{Query}
 use Rattle.table.proofs.Stages.{refused-accepted}
 use Rattle.derivation.specs.Words.{met}
-use Rattle.verifier.specs.Reading.{Reading}
-use Rattle.verifier.specs.Reading.Reading.{read, stop}
+use Rattle.reader.specs.Reading.{Reading}
+use Rattle.reader.specs.Reading.Reading.{read, stop}
 use Rattle.verifier.specs.Verdict.{judged, verdict}
 use Rattle.listing.specs.Minimal.{minimalSets}
 use Rattle.listing.proofs.Minimals.{is-minimal-set}

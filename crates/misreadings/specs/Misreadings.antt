@@ -22,8 +22,8 @@ use Rattle.derivation.specs.Rules.{goalOf}
 use Rattle.derivation.specs.Forest.{Forest, countFrom, usedSet}
 use Rattle.derivation.specs.Forest.Forest.{end, node}
 use Rattle.derivation.specs.Words.{isMet, met, usesAutomaton, words}
-use Rattle.verifier.specs.Reading.{Reading, reader}
-use Rattle.verifier.specs.Reading.Reading.{read, stop}
+use Rattle.reader.specs.Reading.{Reading, reader}
+use Rattle.reader.specs.Reading.Reading.{read, stop}
 use Rattle.verifier.specs.Verdict.{verdict}
 use Rattle.sorted.specs.Sorted.{those}
 use Rattle.admission.specs.Admits.{admits}

@@ -20,7 +20,7 @@ use Rattle.automata.specs.Automata.{leads}
 use Rattle.derivation.specs.Rules.{goalOf}
 use Rattle.derivation.specs.Forest.{Forest}
 use Rattle.derivation.specs.Words.{usesAutomaton, words}
-use Rattle.verifier.specs.Reading.{reader}
+use Rattle.reader.specs.Reading.{reader}
 use Rattle.verifier.specs.Verdict.{verdict}
 use Rattle.listing.specs.Demands.{Minimal}
 use Rattle.misreadings.specs.Misreadings.{judgedBy}

@@ -27,11 +27,12 @@ use Rattle.members.specs.Above.{nothingAbove}
 use Rattle.members.specs.declared.above.Above.{Above}
 use Rattle.members.specs.Members.{askedCell, rolesAsked}
 use Rattle.failures.specs.Failures.{Joined}
+use Rattle.goals.specs.Goals.{Trimmed}
 use Rattle.search.specs.Asking.{Fits, Pair, SameLater, askedPairs, pair, pairsFrom, rolePairs}
 use Rattle.search.specs.declared.asking.Asked.{Asked}
 use Rattle.search.specs.Search.{AllStand, Searched, Stands, Tried, ends, provesAt, shares}
 use Rattle.families.proofs.Covering.{covers-only}
-use Rattle.search.specs.Failing.{Bounds, Covers, Fails, Finds, Judged, LaterJudged, Trimmed, goalTest, noFamily, ownTest, sharedTest}
+use Rattle.search.specs.Failing.{Bounds, Covers, Fails, Finds, Judged, LaterJudged, goalTest, noFamily, ownTest, sharedTest}
 use Rattle.search.proofs.Pairs.{asked-end, asked-from}
 use Rattle.search.proofs.Owing.{ends-less, proves-less}
 use Rattle.search.proofs.Sharing.{part-none, shares-member, shares-reached}

@@ -31,14 +31,14 @@ use Rattle.members.specs.Levels.{askedMembers}
 use Rattle.members.specs.Members.{Indexed, askedCell, lesser}
 use Rattle.members.specs.Places.{isPerson}
 use Rattle.failures.specs.Failures.{Joined, Spared}
+use Rattle.goals.specs.Goals.{Left, mayBeProved, stepped, steppedOn, usable}
 use Rattle.search.specs.Asking.{Pair, pair}
-use Rattle.search.specs.Search.{Searched, Stands, Tried, ends, goalAt, proves, provesAt, provesWith, shares, stepped}
-use Rattle.search.specs.Search.{steppedOn, usable}
-use Rattle.search.specs.Failing.{Bounds, Covers, Fails, Finds, Judged, Left, Open, Sought, Wide, anyTest, goalTest}
-use Rattle.search.specs.Failing.{mayBeProved, ownTest, sharedTest}
+use Rattle.search.specs.Search.{Searched, Stands, Tried, ends, goalAt, proves, provesAt, provesWith, shares}
+use Rattle.search.specs.Failing.{Bounds, Covers, Fails, Finds, Judged, Open, Sought, Wide, anyTest, goalTest}
+use Rattle.search.specs.Failing.{ownTest, sharedTest}
 use Rattle.search.proofs.Failing.{covered-above, covers-none, failed-again, fails-above}
 use Rattle.search.proofs.Judging.{finds-or, finds-so, judged-enough, judged-never, judged-or, judged-same}
-use Rattle.search.proofs.Testing.{steps}
+use Rattle.goals.proofs.Testing.{steps}
 use Rattle.search.proofs.Placing.{level-none, middleTried, place-none, place-unlisted}
 use Rattle.search.proofs.Leaving.{dead-tried}
 use Rattle.search.proofs.Trying.{Middle, linked-skipped, linked-tried, next-tried, next-unused, place-again, place-step}

@@ -31,7 +31,8 @@ use Rattle.members.proofs.ByKind.{by-membership, some-role}
 use Rattle.members.proofs.Places.{person-named, person-stands, place-same, role-defined}
 use Rattle.members.proofs.Reading.{numbered}
 use Rattle.members.proofs.Stepping.{all-by-mono, every-mono, within-more, within-none, within-step}
-use Rattle.search.specs.Search.{ends, proves, shares, stepped}
+use Rattle.goals.specs.Goals.{stepped}
+use Rattle.search.specs.Search.{ends, proves, shares}
 use Rattle.search.proofs.Sharing.{shares-every}
 use Rattle.search.proofs.Owing.{proves-more}
 use Rattle.search.proofs.Placing.{proves-within}

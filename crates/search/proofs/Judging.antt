@@ -21,8 +21,9 @@ use Rattle.families.proofs.Covering.{inside-none, inside-only, inside-or, joins
 use Rattle.members.specs.Above.{nothingAbove}
 use Rattle.members.specs.declared.above.Above.{Above}
 use Rattle.failures.specs.Failures.{Joined}
+use Rattle.goals.specs.Goals.{Trimmed}
 use Rattle.search.specs.Search.{shares}
-use Rattle.search.specs.Failing.{Bounds, Covers, Fails, Finds, Judged, Sought, Told, Trimmed, Wide}
+use Rattle.search.specs.Failing.{Bounds, Covers, Fails, Finds, Judged, Sought, Told, Wide}
 use Rattle.search.proofs.Sharing.{shares-less, shares-reached, shares-shows}
 use Rattle.search.proofs.Failing.{covered-both, covers-none, fails-first, fails-second}
 

@@ -25,9 +25,10 @@ use Rattle.automata.specs.declared.StateSets.{StateSets}
 use Rattle.automata.proofs.Promised.{dead-exact}
 use Rattle.automata.proofs.Together.{empty-moved}
 use Rattle.members.specs.Trying.{provedPremises, provesBy}
+use Rattle.goals.specs.Goals.{stepped, steppedOn}
 use Rattle.search.specs.Promised.{NothingLost}
 use Rattle.members.specs.declared.above.Above.{Above}
-use Rattle.search.specs.Search.{ends, proves, provesWith, shares, stepped, steppedOn}
+use Rattle.search.specs.Search.{ends, proves, provesWith, shares}
 use Rattle.search.proofs.Sharing.{unshared}
 use Rattle.search.proofs.Searching.{demanded-asked}
 

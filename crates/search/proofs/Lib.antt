@@ -8,7 +8,6 @@ pub mod Placing
 pub mod Exact
 pub mod Failing
 pub mod Trying
-pub mod Testing
 pub mod Judging
 pub mod Leaving
 pub mod Below

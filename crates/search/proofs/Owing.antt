@@ -16,7 +16,8 @@ use Rattle.automata.specs.declared.StateSets.{StateSets}
 use Rattle.members.specs.Above.{withGoal}
 use Rattle.members.specs.declared.above.Above.{Above}
 use Rattle.members.proofs.Stepping.{all-by-mono}
-use Rattle.search.specs.Search.{ends, proves, shares, stepped}
+use Rattle.goals.specs.Goals.{stepped}
+use Rattle.search.specs.Search.{ends, proves, shares}
 use Rattle.search.proofs.Sharing.{shares-less, shares-mono}
 
 -- a word that meets more meets less

@@ -13,7 +13,7 @@ use native.Mathlib.Decide.{decLt}
 use lib.ListN.{getD, length}
 use lib.Bits.{bitOr}
 use lib.Dec.{eqb, ltb}
-use borrow.Author.Tests.{eq-eqb, eqb-true, le-ltb, lt-ltb, ltb-true, ne-eqb}
+use borrow.Author.Tests.{eq-eqb, eqb-true, le-ltb, lt-ltb, ne-eqb}
 use Rattle.sets.specs.Logic.{_and_, anyBelow, pick}
 use Rattle.sets.specs.Sets.{inSet, part}
 use Rattle.sets.proofs.Tests.{and-both, and-first, and-is, and-is-off, and-none, and-second, and-true, any-shows, failed}
@@ -37,8 +37,10 @@ use Rattle.members.proofs.Stepping.{all-by-mono, any-mono}
 use Rattle.members.proofs.ByKind.{any-same, by-goals, by-membership, by-parts, by-roles, each-part, middleGoals, middleRole}
 use Rattle.members.proofs.ByKind.{roles-few}
 use Rattle.members.specs.declared.above.Above.{Above}
+use Rattle.goals.specs.Goals.{stepped}
+use Rattle.goals.proofs.Testing.{row-within}
 use Rattle.search.specs.Asking.{Pair, pair, rolePairs}
-use Rattle.search.specs.Search.{Searched, Stands, Tried, ends, goalAt, proves, provesAt, shares, stepped}
+use Rattle.search.specs.Search.{Searched, Stands, Tried, ends, goalAt, proves, provesAt, shares}
 use Rattle.search.proofs.Owing.{proves-less}
 use Rattle.search.proofs.Sharing.{every-by, first-unshared, second-unshared, shares-each}
 
@@ -397,15 +399,6 @@ below-most wf i l = omega (arith, wf .sized .counted .fewCredentials)
 
 pub most : {t : List ℕ} → WellFormed t → (i : ℕ) → i ≤ credentials t → i ≤ 20
 most wf i l = omega (arith, wf .sized .counted .fewCredentials)
-
--- the row that tells of so many levels is one of the table's
-pub row-within : (levels last row : ℕ) → row ≡ lesser levels last → last ≤ 16 → row ≤ 16
-unfolding lesser pick
-row-within levels last row e few = rw e (go (ltb levels last) refl)
-  where
-    go : (b : Bool) → ltb levels last ≡ b → pick b levels last ≤ 16
-    go true less = omega (arith, ltb-true levels last less)
-    go false less = few
 
 pub row-fits : {t rows : List ℕ} {S levels last row : ℕ} → Members t S levels last rows → row ≡ lesser levels last → row ≤ 16
 row-fits {levels = levels} {last = last} {row = row} members e = row-within levels last row e (members .few)

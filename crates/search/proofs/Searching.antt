@@ -42,7 +42,8 @@ use Rattle.members.specs.declared.above.Above.{Above}
 use Rattle.members.specs.Trying.{mayUse, provedPremises, provesBy}
 use Rattle.members.proofs.Places.{role-defined}
 use Rattle.members.proofs.Branching.{HasPlace, OnBranch, on-next, on-none}
-use Rattle.search.specs.Search.{AllAccept, Provable, SomeAccept, UsesOnly, ends, provable, proves, shares, stepped}
+use Rattle.goals.specs.Goals.{stepped}
+use Rattle.search.specs.Search.{AllAccept, Provable, SomeAccept, UsesOnly, ends, provable, proves, shares}
 use Rattle.derivation.proofs.Applying.{applies-numbered, applies-role, asks-more, picked}
 use Rattle.derivation.proofs.Ruling.{asks-nothing}
 use Rattle.derivation.proofs.Using.{placed}

@@ -23,8 +23,9 @@ use Rattle.members.specs.Places.{personAt, roleAt}
 use Rattle.members.specs.Above.{nothingAbove}
 use Rattle.members.specs.Members.{Aimed, Indexed, Members, goalPerson, goalRole, listed}
 use Rattle.members.proofs.Places.{person-is, person-stands}
+use Rattle.goals.specs.Goals.{mayBeProved}
 use Rattle.search.specs.Search.{Prepared, Searched, Stands, TellsMet, proves, provable, provesAt}
-use Rattle.search.specs.Failing.{Told, goalTest, mayBeProved}
+use Rattle.search.specs.Failing.{Told, goalTest}
 use Rattle.search.proofs.Below.{goal-unlisted}
 use Rattle.search.proofs.Owing.{proves-less}
 use Rattle.search.proofs.Exact.{members-exact}

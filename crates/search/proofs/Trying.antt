@@ -9,7 +9,7 @@ use native.Mathlib.Numerals.{add-one, sub-one}
 use lib.ListN.{getD}
 use lib.Bits.{bitAnd, bitOr}
 use lib.Dec.{eqb}
-use borrow.Author.Tests.{eq-eqb, eqb-true, lt-ltb, ne-eqb}
+use borrow.Author.Tests.{eq-eqb, eqb-true, lt-ltb}
 use Rattle.sets.specs.Logic.{_and_, _or_, anyBelow}
 use Rattle.sets.specs.Sets.{inSet}
 use Rattle.sets.proofs.Tests.{and-both, and-is, and-is-off, and-second, any-all, any-next, any-not, any-reached, any-shows}
@@ -25,12 +25,12 @@ use Rattle.members.specs.Trying.{mayUse, provesBy}
 use Rattle.members.specs.Members.{Indexed, askedCell, lesser, linkCell, roleCell, rowCell}
 use Rattle.members.specs.Levels.{askedMask, askedMembers}
 use Rattle.members.proofs.Places.{is-person, place-same, same-place}
+use Rattle.goals.specs.Goals.{askedBefore, stepped, usable}
 use Rattle.search.proofs.Placing.{cell-parts, first-cell, linkedRole, middle-unlisted, middleTried, own-part, part-cell}
 use Rattle.search.proofs.Placing.{part-unlisted, partMissed, partRole, provesOwn, second-cell, stands-at}
 use Rattle.members.specs.declared.above.Above.{Above}
 use Rattle.search.specs.Asking.{Pair, pair}
-use Rattle.search.specs.Search.{Searched, Stands, Tried, askedBefore, ends, goalAt, proves, provesAt, provesWith, shares}
-use Rattle.search.specs.Search.{stepped, usable}
+use Rattle.search.specs.Search.{Searched, Stands, Tried, ends, goalAt, proves, provesAt, provesWith, shares}
 use Rattle.search.specs.Failing.{anyTest}
 
 -- levels are left: the goal is decided one level further down
@@ -107,24 +107,6 @@ module _ {t index : List ℕ} (indexed : Indexed t index) {person place : ℕ} (
         (and-is (sym usable-is ∙ sym told ∙ on)
         (ap (λ r. provesBy t all word (goal (principal (credential t (suc person) .first)) r) (suc i))
         (sym (usable-role (sym told ∙ on))))))
-
--- the search among the roles before role k
-pub asked-here : (index : List ℕ) (i k j : ℕ) → j < k → getD index (askedCell i j) 0 ≡ getD index (askedCell i k) 0
-    → true ≡ askedBefore index i k
-unfolding askedBefore
-asked-here index i k j l same = sym (any-reached _ k j l (eq-eqb _ _ same))
-
-pub asked-nowhere : (index : List ℕ) (i k j : ℕ) → j ≡ k
-    → anyBelow (λ j. eqb (getD index (askedCell i j) 0) (getD index (askedCell i k) 0)) j ≡ false → false ≡ askedBefore index i k
-unfolding askedBefore
-asked-nowhere index i k j e none = sym (any-all _ j k e none)
-
-pub asked-next : (index : List ℕ) (i k j : ℕ) {one other : ℕ}
-    → anyBelow (λ j. eqb (getD index (askedCell i j) 0) (getD index (askedCell i k) 0)) j ≡ false
-    → one ≡ getD index (askedCell i j) 0 → other ≡ getD index (askedCell i k) 0 → (one ≡ other → ⊥)
-    → anyBelow (λ j. eqb (getD index (askedCell i j) 0) (getD index (askedCell i k) 0)) (j + 1) ≡ false
-asked-next index i k j before here there differ =
-    any-next _ j before (ne-eqb _ _ (λ same. differ (here ∙ same ∙ sym there)))
 
 -- one of four tests fails
 missed : (p : ℕ → Bool) → ((p 0 and p 1) and (p 2 and p 3)) ≡ false → (k : ℕ) × (k < 4) × (p k ≡ false)

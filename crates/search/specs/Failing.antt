@@ -4,12 +4,11 @@
 use Prim.Native.Nat.{ℕ, suc, _<_, _≤_}
 use mathlib.Core.Path.{_≡_}
 use mathlib.Core.List.{List, []}
-use mathlib.Core.Bool.{Bool, true, false, not}
+use mathlib.Core.Bool.{Bool, true, false}
 use lib.ListN.{getD, length}
-use lib.Dec.{eqb, ltb}
-use Rattle.sets.specs.Logic.{_and_, anyBelow}
-use Rattle.sets.specs.Sets.{inSet, part}
-use Rattle.families.specs.Families.{Inside, Within, allSets, covers, inFamily, isPart}
+use Rattle.sets.specs.Logic.{anyBelow}
+use Rattle.sets.specs.Sets.{part}
+use Rattle.families.specs.Families.{Inside, allSets, covers, inFamily, isPart}
 use Rattle.families.specs.declared.Family.{Family}
 use Rattle.table.specs.Limits.{mostAutomata, mostCredentials}
 use Rattle.table.specs.Layout.{credentials}
@@ -17,7 +16,6 @@ use Rattle.automata.specs.declared.StateSets.{StateSets}
 use Rattle.members.specs.Above.{pairAbove}
 use Rattle.members.specs.declared.above.Above.{Above}
 use Rattle.members.specs.Trying.{provesBy}
-use Rattle.members.specs.Members.{lesser, rowCell}
 use Rattle.failures.specs.Failures.{Holds, SlotIn}
 use Rattle.search.specs.Asking.{Pair}
 use Rattle.search.specs.declared.asking.Asked.{Asked}
@@ -75,11 +73,6 @@ pub record Told (O : ℕ) (test : ℕ → Above → Bool) (above : Above) (found
   pub finds : Finds O test above found
   pub all : (X : ℕ) → part X O ≡ true → test X above ≡ true → covers found X ≡ true
 
--- the family, or O alone where the family has it
-pub record Trimmed (found : Family) (O : ℕ) (rest : Family) : Type 0 where
-  pub fewer : Within rest found
-  pub alike : Inside found O → (X : ℕ) → covers found X ≡ true → covers rest X ≡ true
-
 -- What is asked below a branch, with so many levels left, where the automata have come to the state sets s, and a set X is to be
 -- met: the principal at `person` in the role at `place`
 abbrev pub goalTest : List ℕ → ℕ → ℕ → ℕ → ℕ → StateSets → ℕ → ℕ → ℕ → Above → Bool
@@ -101,22 +94,12 @@ abbrev pub sharedTest : List ℕ → ℕ → ℕ → ℕ → ℕ → StateSets �
 sharedTest t S A O levels s pairs = λ X above.
     shares (λ (p : Pair) Y. provesAt t S A O levels above s (p .person) (p .place) Y) O pairs X
 
--- levels are left, the role is defined, and by the row of the levels the principal is in it
-unfoldable pub mayBeProved : List ℕ → List ℕ → ℕ → ℕ → ℕ → ℕ → Bool
-mayBeProved t rows last person place levels =
-    not (eqb levels 0) and ltb place (credentials t) and inSet (getD rows (rowCell (lesser levels last) place) 0) person
-
 -- a goal that may be sought: levels are left, and principal and role have places
 pub record Open (t : List ℕ) (levels person place : ℕ) : Type 0 where
   pub left : levels ≡ 0 → ⊥
   pub there : place < credentials t
   pub few-persons : person < mostCredentials
   pub few-places : place < mostCredentials
-
--- where an owed automaton is dead, only the others can be met: `most` has them
-pub record Left (O dead most : ℕ) : Type 0 where
-  pub few : most < allSets
-  pub lost : (k : ℕ) → inSet O k ≡ true → inSet most k ≡ false → inSet dead k ≡ true
 
 abbrev pub noFamily : Family
 noFamily = record { words = [] }

@@ -9,7 +9,7 @@ use mathlib.Core.Bool.{Bool, true, false, not}
 use lib.ListN.{getD, length}
 use lib.Bits.{bitOr}
 use lib.Dec.{eqb, ltb}
-use Rattle.sets.specs.Logic.{_and_, anyBelow, pick}
+use Rattle.sets.specs.Logic.{_and_, anyBelow}
 use Rattle.families.specs.Families.{covers}
 use Rattle.families.specs.declared.Family.{Family}
 use Rattle.table.specs.Limits.{mostDepth}
@@ -21,8 +21,7 @@ use Rattle.table.specs.declared.Goal.{Goal}
 use Rattle.table.specs.declared.Query.{Query}
 use Rattle.sets.specs.Sets.{inSet, part}
 use Rattle.automata.specs.Arcs.{Arcs}
-use Rattle.automata.specs.Together.{acceptingSet, deadSet, movedSets, startingSets}
-use Rattle.automata.specs.declared.Moved.{Moved}
+use Rattle.automata.specs.Together.{acceptingSet, startingSets}
 use Rattle.automata.specs.declared.StateSets.{StateSets}
 use Rattle.derivation.specs.Rules.{goal, goalOf}
 use Rattle.derivation.specs.Forest.{Derives, Forest, names}
@@ -31,7 +30,8 @@ use Rattle.members.specs.Places.{isPerson, roleAt}
 use Rattle.members.specs.Above.{isAbove, nothingAbove, withGoal}
 use Rattle.members.specs.declared.above.Above.{Above}
 use Rattle.members.specs.Trying.{mayUse, provesBy}
-use Rattle.members.specs.Members.{Aimed, Indexed, Members, askedCell, roleCell}
+use Rattle.members.specs.Members.{Aimed, Indexed, Members}
+use Rattle.goals.specs.Goals.{stepped}
 use Rattle.search.specs.Asking.{Pair, pair}
 
 -- a search is asked of an accepted table and a valid query, with their index and an index of arcs
@@ -62,14 +62,6 @@ pub record Provable (t : List ℕ) (q : Query) (S A O : ℕ) : Type 0 where
   pub usesOnly : UsesOnly forest S
   pub accepted : AllAccept t A (words t [] forest)
   pub owed : SomeAccept t O (words t [] forest)
-
--- the state sets one role on; where no automaton is asked for, which W has, nobody asks for them
-unfoldable pub stepped : List ℕ → ℕ → Role → StateSets → StateSets
-stepped t W r s = pick (eqb W 0) s (movedSets t r s)
-
--- with them the automata that are dead there; where no automaton is asked for none is told
-unfoldable pub steppedOn : List ℕ → ℕ → Role → StateSets → Moved
-steppedOn t W r s = record { states = stepped t W r s; dead = pick (eqb W 0) 0 (deadSet t (movedSets t r s)) }
 
 -- what is owed is shared out: each of X is met by one of the goals, where `one` says which of them can be proved such that some
 -- of its words meets each of a set. No more than O is owed
@@ -139,11 +131,3 @@ pub record Tried (t : List ℕ) (person i : ℕ) : Type 0 where
 abbrev pub AllStand : List ℕ → List Pair → Type 0
 AllStand t pairs =
     (k : ℕ) → k < length pairs → Stands t (getD pairs k (pair 0 0) .person) (getD pairs k (pair 0 0) .place)
-
--- by the index, credential i + 1 is in the set and defines the role at `place`
-unfoldable pub usable : List ℕ → ℕ → ℕ → ℕ → Bool
-usable index S place i = inSet S i and eqb (getD index (roleCell i) 0) place
-
--- by the index, role k that credential i + 1 asks is one of those before it
-unfoldable pub askedBefore : List ℕ → ℕ → ℕ → Bool
-askedBefore index i k = anyBelow (λ j. eqb (getD index (askedCell i j) 0) (getD index (askedCell i k) 0)) k

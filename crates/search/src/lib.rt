@@ -3,7 +3,6 @@
 // `derivation` promises: which goals a credential asks, and what may not repeat on a branch. specs/Search.antt says what the
 // answers mean, specs/Failing.antt what is remembered on the way.
 mod asking; // asking.rt: the goals that a credential asks
-mod goals; // goals.rt: whether a goal or a credential is proved, and the search's tests
 mod seeking; // seeking.rt: a goal through a credential, and a credential through the goals of its premises
 
 pub use asking::Asked;
@@ -11,14 +10,8 @@ pub use asking::link_asked;
 pub use asking::roles_asked;
 use automata::StateSets;
 use families::Family;
-pub use goals::credential_search;
-pub use goals::goal_search;
-pub use goals::is_middle;
-pub use goals::may_use;
-pub use goals::row_of;
-pub use goals::stepped;
+use goals::Terms;
 use members::Above;
-use sets::AutomatonSet;
 use sets::CredentialSet;
 use sets::StateSet;
 use table::Number;
@@ -32,18 +25,8 @@ ghost use Rattle.members.specs.Above.{nothingAbove};
 ghost use Rattle.table.specs.Holding.{WellFormed};
 ghost use Rattle.table.specs.Checks.{Valid};
 ghost use Rattle.members.specs.Members.{Aimed, Indexed, Members};
-ghost use Rattle.search.specs.Search.{Prepared, Searched, Stands, TellsMet, provable};
-ghost use Rattle.search.specs.Failing.{Remembered, Told, goalTest};
-
-// What a search does not change on its way: the credentials that may be used, credential i counting 2^(i-1); the automata that must
-// accept every word, and those that are owed, each of which must accept some word, automaton k counting 2^(k-1); and the last row of
-// the table of members.
-pub struct Terms {
-    pub allowed: CredentialSet,
-    pub constraints: AutomatonSet,
-    pub owed: AutomatonSet,
-    pub last: usize,
-}
+ghost use Rattle.search.specs.Search.{Prepared, Searched, Stands, TellsMet, Tried, provable};
+ghost use Rattle.search.specs.Failing.{Remembered, Told, goalTest, ownTest};
 
 // Whether some derivation of the queried membership uses only allowed credentials, where no automaton is imposed and none owed: the
 // table of members tells it by itself.
@@ -123,6 +106,81 @@ pub fn query_search(
     )
 }
 
+// What can be met where the principal at `person` is proved to be in the role at `place`, with so many levels left, by some allowed
+// credential, and the pairs `above` stand on the branch. The memory may have what searches on the same terms have kept.
+pub fn goal_search(
+    table: &[Number],
+    index: &[u8],
+    arcs: &[StateSet],
+    rows: &[CredentialSet],
+    terms: Terms,
+    person: usize,
+    place: usize,
+    levels: usize,
+    states: StateSets,
+    above: Above,
+    memory: &mut [u32],
+) -> Family
+    requires { ⌜ Searched (now table) (now index) (now arcs) (now rows) (terms .allowed) levels (terms .last) ⌝ }
+    requires { ⌜ Stands (now table) person place ⌝ }
+    requires { ⌜ Remembered (now table) (terms .allowed) (terms .constraints) (terms .owed) (now memory) ⌝ }
+    ensures { λ r. ⌜ Told (terms .owed) (goalTest (now (table .entry)) (terms .allowed) (terms .constraints) (terms .owed)
+        levels states person place) above r
+        × Remembered (now (table .entry)) (terms .allowed) (terms .constraints) (terms .owed) (now (memory .exit)) ⌝ }
+{
+    let answer = seeking::seek_goal(
+        table,
+        index,
+        arcs,
+        rows,
+        terms,
+        person,
+        place,
+        levels,
+        states,
+        above,
+        memory,
+    );
+    answer.found
+}
+
+// What can be met where credential i + 1 proves the goal, with some middle; so many levels are left for what it asks.
+pub fn credential_search(
+    table: &[Number],
+    index: &[u8],
+    arcs: &[StateSet],
+    rows: &[CredentialSet],
+    terms: Terms,
+    person: usize,
+    i: usize,
+    levels: usize,
+    states: StateSets,
+    above: Above,
+    memory: &mut [u32],
+) -> Family
+    requires { ⌜ Searched (now table) (now index) (now arcs) (now rows) (terms .allowed) levels (terms .last) ⌝ }
+    requires { ⌜ Tried (now table) person i ⌝ }
+    requires { ⌜ Remembered (now table) (terms .allowed) (terms .constraints) (terms .owed) (now memory) ⌝ }
+    ensures { λ r. ⌜ Told (terms .owed) (ownTest (now (table .entry)) (terms .allowed) (terms .constraints) (terms .owed)
+        levels states person i) above r
+        × Remembered (now (table .entry)) (terms .allowed) (terms .constraints) (terms .owed) (now (memory .exit)) ⌝ }
+{
+    let answer = seeking::seek_through(
+        table,
+        index,
+        arcs,
+        rows,
+        terms,
+        person,
+        i,
+        levels,
+        states,
+        above,
+        memory,
+    );
+    answer.found
+}
+
 // What can be met where the principal at `person` is proved to be in the role at `place`, from the start of all words on.
 fn from_start(
     table: &[Number],
@@ -141,7 +199,7 @@ fn from_start(
     ensures { λ r. ⌜ Told (terms .owed) (goalTest (now (table .entry)) (terms .allowed) (terms .constraints) (terms .owed)
         levels (startingSets (now (table .entry))) person place) nothingAbove r ⌝ }
 {
-    goals::goal_search(
+    goal_search(
         table,
         index,
         arcs,

@@ -2,12 +2,11 @@
 // down. It finds which sets of the owed automata can be met. Where nothing is owed that is the empty set, or none at all. What could
 // not be met is remembered with the pairs of the branch that stood in the way, so that it is not sought again where they stand
 // (crate failures).
-use crate::Terms;
 use crate::asking;
 use crate::asking::Asked;
-use crate::goals;
 use automata::StateSets;
 use families::Family;
+use goals::Terms;
 use members::Above;
 use sets::CredentialSet;
 use sets::StateSet;
@@ -30,8 +29,9 @@ ghost use Rattle.table.specs.Limits.{mostParts};
 ghost use Rattle.table.specs.Layout.{credential, credentials};
 ghost use Rattle.members.specs.Above.{nothingAbove, pairAbove};
 ghost use Rattle.failures.specs.Failures.{SlotIn};
+ghost use Rattle.goals.specs.Goals.{stepped};
 ghost use Rattle.search.specs.Asking.{Fits, askedPairs, pair};
-ghost use Rattle.search.specs.Search.{AllStand, Searched, Stands, Tried, stepped};
+ghost use Rattle.search.specs.Search.{AllStand, Searched, Stands, Tried};
 ghost use Rattle.search.specs.Failing.{Bounds, Covers, Judged, Open, Remembered, Sought, anyTest, goalTest, ownTest};
 ghost use Rattle.search.specs.Failing.{LaterJudged, sharedTest};
 

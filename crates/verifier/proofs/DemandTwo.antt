@@ -16,7 +16,7 @@ use Rattle.table.proofs.Stages.{refused-accepted, then-first, then-refused, the
 use Rattle.derivation.specs.Rules.{goalOf}
 use Rattle.derivation.specs.Forest.{Derives, Forest, written}
 use Rattle.derivation.specs.Words.{met}
-use Rattle.verifier.specs.Reading.{Reading}
+use Rattle.reader.specs.Reading.{Reading}
 use Rattle.derivation.specs.Accepted.{Accepted}
 use Rattle.verifier.specs.Verdict.{judged, verdict}
 use Rattle.verifier.specs.DemandTwo.{DemandTwo, EveryRefusal, FirstRefusal, OneDerivation, Refuses}

@@ -21,17 +21,18 @@ use Rattle.automata.specs.Together.{startingSets}
 use Rattle.automata.specs.declared.StateSets.{StateSets}
 use Rattle.derivation.specs.Rules.{goalOf}
 use Rattle.derivation.specs.Forest.{Forest, countFrom, usedFrom, usedSet}
-use Rattle.verifier.specs.Reading.{Reading}
-use Rattle.verifier.specs.Reading.Reading.{read, stop}
+use Rattle.reader.specs.Reading.{Reading}
+use Rattle.reader.specs.Reading.Reading.{read, stop}
 use Rattle.derivation.specs.Attached.{automataOf}
-use Rattle.verifier.specs.Tally.{ReadOn, allAutomata, everyFrom, keeps, numbersTold, someFrom, tally, tallyOn}
-use Rattle.verifier.specs.Tally.Told.{passed, stopped}
+use Rattle.reader.specs.Tally.{ReadOn, everyFrom, numbersTold, someFrom, tally, tallyOn}
+use Rattle.reader.specs.Tally.Told.{passed, stopped}
+use Rattle.verifier.specs.Kept.{allAutomata, keeps}
 use Rattle.verifier.specs.Verdict.{judged}
 use Rattle.verifier.specs.DemandTwo.{Stops}
 use Rattle.verifier.specs.DemandTwo.Stops.{short, unfit, deep, again, below, behind}
 use Rattle.verifier.proofs.DemandTwo.{first-refusal}
 use Rattle.verifier.proofs.Readings.{queried, reader-sound}
-use Rattle.verifier.proofs.Keeping.{count-next}
+use Rattle.reader.proofs.Keeping.{count-next}
 use Rattle.verifier.proofs.Judging.{words-judged}
 
 -- automaton k, which the code has read as m, is asked for in the set of its mark

@@ -25,7 +25,8 @@ use Rattle.automata.specs.Together.{acceptingSet, startingSets}
 use Rattle.derivation.specs.Forest.{Derives, Forest, usedSet}
 use Rattle.derivation.specs.Forest.Forest.{end, node}
 use Rattle.derivation.specs.Words.{acceptsAll, acceptsSome, isMet, met, words}
-use Rattle.verifier.specs.Tally.{allAutomata, everyFrom, keeps, keptFrom, someFrom}
+use Rattle.reader.specs.Tally.{everyFrom, keptFrom, someFrom}
+use Rattle.verifier.specs.Kept.{allAutomata, keeps}
 use Rattle.derivation.proofs.Running.{accepting-member, accepts-all-append, accepts-some-append}
 use Rattle.derivation.proofs.Running.{sets-after-next, sets-after-none, setsAfter}
 use Rattle.derivation.proofs.Using.{automata-used}

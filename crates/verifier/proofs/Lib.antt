@@ -1,8 +1,5 @@
 -- Laws that belong to no one function; crates above cite those marked `pub mod`.
-pub mod Entering
 pub mod Readings
-pub mod Keeping
-pub mod Onward
 pub mod Complying
 pub mod Judging
 pub mod DemandTwo

@@ -13,12 +13,13 @@ use Rattle.derivation.specs.Rules.{fresh, goalOf, premises}
 use Rattle.derivation.specs.Forest.{Derives, Forest, countFrom, written}
 use Rattle.derivation.specs.Forest.Forest.{end}
 use Rattle.derivation.specs.Forest.Derives.{done, step}
-use Rattle.verifier.specs.Reading.{Reading, admitted, entered, entry, followed, joined, readAll, reader}
-use Rattle.verifier.specs.Reading.Entry.{halt}
-use Rattle.verifier.specs.Reading.Reading.{read, stop}
+use Rattle.reader.specs.Reading.{Reading, admitted, entered, entry, followed, joined, reader}
+use Rattle.reader.specs.Reading.Entry.{halt}
+use Rattle.reader.specs.Reading.Reading.{read, stop}
 use Rattle.verifier.specs.DemandTwo.{Stops}
 use Rattle.verifier.specs.DemandTwo.Stops.{short, unfit, deep, again, below, behind}
-use Rattle.verifier.proofs.Entering.{entry-short}
+use Rattle.reader.proofs.FirstGoal.{reader-end, reader-floor, reader-node}
+use Rattle.reader.proofs.Entering.{entry-short}
 
 -- the reading of a whole record for a query: its goal is at level 1, node 1, with nothing above it
 abbrev pub queried : List ℕ → Query → List ℕ → Reading
@@ -26,25 +27,6 @@ queried t q rec = reader t (q .depth) [] (goalOf q ∷ []) rec 1
 
 read-stop : {rest : List ℕ} {f : Forest} {number position : ℕ} → read rest f ≡ stop number position → ⊥
 read-stop e = let z : _≡_ {A = ℕ} 0 1 = cc in omega arith
-
--- the reader by its first goal
-module _ (t : List ℕ) (branch : List Goal) (rec : List ℕ) (at : ℕ) where
-  pub reader-end : (levels : ℕ) → reader t levels branch [] rec at ≡ read rec end
-  unfolding reader readAll
-  reader-end zero = refl
-  reader-end (suc levels) = refl
-
-  reader-floor : (g : Goal) (later : List Goal)
-      → reader t zero branch (g ∷ later) rec at
-      ≡ entered at (λ goals more k. stop 13 k) (reader t zero branch later) (entry t false g rec)
-  unfolding reader readAll
-  reader-floor g later = refl
-
-  reader-node : (levels : ℕ) (g : Goal) (later : List Goal)
-      → reader t (suc levels) branch (g ∷ later) rec at
-      ≡ entered at (reader t levels (g ∷ branch)) (reader t (suc levels) branch later) (entry t (fresh branch g) g rec)
-  unfolding reader readAll
-  reader-node levels g later = refl
 
 -- how a reading ends: the goals derive and their record is read off, or it stops
 pub data Ends (t : List ℕ) (levels : ℕ) (branch goals : List Goal) (at : ℕ) : List ℕ → Reading → Type 0 where

@@ -13,7 +13,7 @@ use Rattle.automata.specs.Automata.{accepts, acceptsFrom, leads, matches, moved
 use Rattle.derivation.specs.Rules.{asks, fresh, premises, sameGoal}
 use Rattle.derivation.specs.Forest.{countFrom, usedFrom, usedSet}
 use Rattle.derivation.specs.Words.{acceptsAll, acceptsSome, isMet, met, usesAutomaton, words}
-use Rattle.verifier.specs.Reading.{admitted, entered, entry, followed, joined, readAll, reader}
+use Rattle.reader.specs.Reading.{admitted, entered, entry, followed, joined, readAll, reader}
 use Rattle.verifier.specs.Verdict.{judged, verdict}
 
 -- what a verdict computes with

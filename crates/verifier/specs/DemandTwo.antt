@@ -16,8 +16,8 @@ use Rattle.table.specs.declared.Query.{Query}
 use Rattle.derivation.specs.Rules.{fresh, goalOf, premises}
 use Rattle.derivation.specs.Forest.{Derives, Forest, countFrom, written}
 use Rattle.derivation.specs.Words.{met}
-use Rattle.verifier.specs.Reading.{reader}
-use Rattle.verifier.specs.Reading.Reading.{stop}
+use Rattle.reader.specs.Reading.{reader}
+use Rattle.reader.specs.Reading.Reading.{stop}
 use Rattle.derivation.specs.Accepted.{Accepted}
 use Rattle.verifier.specs.Verdict.{verdict}
 

@@ -1,5 +1,3 @@
-pub mod Reading
-pub mod Tally
-pub mod Steps
+pub mod Kept
 pub mod Verdict
 pub mod DemandTwo

@@ -10,8 +10,8 @@ use Rattle.table.specs.declared.Query.{Query}
 use Rattle.derivation.specs.Rules.{goalOf}
 use Rattle.derivation.specs.Forest.{countFrom, usedSet}
 use Rattle.derivation.specs.Words.{met}
-use Rattle.verifier.specs.Reading.{Reading, reader}
-use Rattle.verifier.specs.Reading.Reading.{read, stop}
+use Rattle.reader.specs.Reading.{Reading, reader}
+use Rattle.reader.specs.Reading.Reading.{read, stop}
 use Rattle.verifier.specs.declared.Verdict.{Verdict}
 use Rattle.verifier.specs.declared.Verdict.the-variants as verdict′
 

@@ -1,7 +1,6 @@
 // The verifier's end: whether a proof record derives the queried membership by the rules of RT0 and meets every
-// automaton attached to a credential that it uses (docs/DEFINITION.md, "Records" and "Words"). specs/Verdict.antt says what the
-// answer means; specs/DemandTwo.antt states that it is right.
-mod reader; // reader.rt: a record, node by node
+// automaton attached to a credential that it uses (docs/DEFINITION.md, "Records" and "Words"). Crate reader reads the record.
+// specs/Verdict.antt says what the answer means; specs/DemandTwo.antt states that it is right.
 mod words; // words.rt: row 14
 
 use automata::StateSets;
@@ -22,7 +21,7 @@ ghost use Rattle.table.specs.Holding.{WellFormed};
 ghost use Rattle.table.specs.Checks.{Valid, numberOf};
 ghost use Rattle.automata.specs.Arcs.{Arcs};
 ghost use Rattle.derivation.specs.Rules.{goalOf};
-ghost use Rattle.verifier.specs.Reading.{reader};
+ghost use Rattle.reader.specs.Reading.{reader};
 ghost use Rattle.verifier.specs.Verdict.{judged, verdict, verdictTold};
 
 // Accepted, with the used set: credential i counts 2^(i-1).

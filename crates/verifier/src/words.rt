@@ -17,7 +17,7 @@ ghost use Rattle.table.specs.Outcome.{Outcome, _andThen_, demandEach};
 ghost use Rattle.table.specs.Layout.{Numbered, automata};
 ghost use Rattle.table.specs.Holding.{WellFormed};
 ghost use Rattle.sets.specs.Sets.{inSet};
-ghost use Rattle.verifier.specs.Tally.{keeps};
+ghost use Rattle.verifier.specs.Kept.{keeps};
 ghost use Rattle.verifier.specs.Verdict.{verdictTold};
 
 // The set of all eight automata: automaton k counts 2^(k-1).

@@ -35,12 +35,12 @@ use Rattle.search.proofs.Naming.{middle-tried, tried-proves}
 use Rattle.search.proofs.Within.{only-below, only-here, only-later}
 use Rattle.search.proofs.Searching.{Led, derived-proves, led-on, nodeWords, node-accepted, words-split}
 use Rattle.choice.specs.Choice.{asked}
-use Rattle.writing.specs.First.{firstForest, metFrom}
-use Rattle.writing.proofs.Wanting.{Wanted, ends-reached, leaves-reached, suits-reached, wanted-after, wanted-here}
-use Rattle.writing.proofs.Meeting.{met-alone, met-few, met-node, met-shared, node-accepts, node-asks, node-few, nodeMet}
-use Rattle.writing.proofs.LeastNode.{least-credential-least, least-middle-least}
-use Rattle.writing.proofs.FirstNode.{first-end, first-node, firstAsked, firstBelow, firstCredential, firstMiddle}
-use Rattle.writing.proofs.FirstNode.{metHere, provedBelow, setsBelow, suitsBelow, wantsBehind, wantsHere, wordEnds}
+use Rattle.walking.specs.First.{firstForest, metFrom}
+use Rattle.walking.proofs.Wanting.{Wanted, ends-reached, leaves-reached, suits-reached, wanted-after, wanted-here}
+use Rattle.walking.proofs.Meeting.{met-alone, met-few, met-node, met-shared, node-accepts, node-asks, node-few, nodeMet}
+use Rattle.walking.proofs.LeastNode.{least-credential-least, least-middle-least}
+use Rattle.walking.proofs.FirstNode.{first-end, first-node, firstAsked, firstBelow, firstCredential, firstMiddle}
+use Rattle.walking.proofs.FirstNode.{metHere, provedBelow, setsBelow, suitsBelow, wantsBehind, wantsHere, wordEnds}
 use Rattle.writing.proofs.FirstShown.{NodeShows, first-shows, node-shown}
 use Rattle.writing.proofs.Ordering.{Order, order-next, order-then}
 use Rattle.writing.proofs.Ordering.Order.{same}

@@ -29,13 +29,13 @@ use Rattle.search.proofs.Within.{only-end, only-node}
 use Rattle.search.proofs.Owing.{proves-less}
 use Rattle.search.proofs.Searching.{Led, accept-both, has-place, led-on, nodeWords, node-words, one-word}
 use Rattle.choice.specs.Choice.{endsWell, suits}
-use Rattle.writing.specs.First.{firstForest}
-use Rattle.writing.proofs.Wanting.{Wanted, ends-shows, first-suits, wanted-after, wanted-here}
-use Rattle.writing.proofs.Meeting.{met-few}
-use Rattle.writing.proofs.FirstNode.{first-applies, first-end, first-new, first-node, first-own, first-proved, firstAsked}
-use Rattle.writing.proofs.FirstNode.{firstBelow, firstCredential, firstMiddle, metHere, pairsBelow, setsBelow}
-use Rattle.writing.proofs.FirstNode.{wantsBehind, wantsHere}
-use Rattle.writing.proofs.FirstMet.{behind-suits, level-none}
+use Rattle.walking.specs.First.{firstForest}
+use Rattle.walking.proofs.Wanting.{Wanted, ends-shows, first-suits, wanted-after, wanted-here}
+use Rattle.walking.proofs.Meeting.{met-few}
+use Rattle.walking.proofs.FirstNode.{first-applies, first-end, first-new, first-node, first-own, first-proved, firstAsked}
+use Rattle.walking.proofs.FirstNode.{firstBelow, firstCredential, firstMiddle, metHere, pairsBelow, setsBelow}
+use Rattle.walking.proofs.FirstNode.{wantsBehind, wantsHere}
+use Rattle.walking.proofs.FirstMet.{behind-suits, level-none}
 
 -- with so many levels left, below a branch whose roles are the word w: the forest derives the goals and uses only credentials
 -- of S, and each automaton of A accepts its words

@@ -37,12 +37,12 @@ use Rattle.listing.specs.Demands.{Minimal}
 use Rattle.listing.proofs.Minimals.{is-minimal-set}
 use Rattle.listing.proofs.Demanding.{accepted-holdable}
 use Rattle.choice.specs.Choice.{suits}
-use Rattle.writing.specs.First.{firstForest, firstRecord, metFrom}
+use Rattle.walking.specs.First.{firstForest, firstRecord, metFrom}
+use Rattle.walking.proofs.Wanting.{suits-alone, wanted-all}
+use Rattle.walking.proofs.Meeting.{met-accepts, met-exact, met-few}
+use Rattle.walking.proofs.FirstMet.{first-met}
 use Rattle.writing.specs.Writes.{First}
-use Rattle.writing.proofs.Wanting.{suits-alone, wanted-all}
-use Rattle.writing.proofs.Meeting.{met-accepts, met-exact, met-few}
 use Rattle.writing.proofs.Settling.{meets-every, meets-owed, owed-few, settled}
-use Rattle.writing.proofs.FirstMet.{first-met}
 use Rattle.writing.proofs.FirstShown.{Shows, first-shows}
 use Rattle.writing.proofs.FirstBefore.{first-order}
 use Rattle.writing.proofs.Ordering.{Order, apart-before, before-once}

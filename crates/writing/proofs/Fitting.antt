@@ -16,7 +16,7 @@ use Rattle.table.specs.Outcome.Outcome.{accepted, refused}
 use Rattle.table.specs.declared.Query.{Query}
 use Rattle.table.proofs.Stages.{demand-off, demand-on, refused-accepted}
 use Rattle.listing.specs.Minimal.{isMinimal}
-use Rattle.writing.specs.First.{firstRecord}
+use Rattle.walking.specs.First.{firstRecord}
 use Rattle.writing.specs.Writing.{Tells, filled, fitted}
 
 module _ {listed : Bool} (len cells : ℕ) where

@@ -23,13 +23,13 @@ use Rattle.derivation.specs.Attached.{automataOf, markedOf, owedOf}
 use Rattle.search.specs.Search.{provable}
 use Rattle.listing.specs.Minimal.{isMinimal}
 use Rattle.members.specs.Above.{nothingAbove}
-use Rattle.writing.specs.First.{firstForest, firstRecord}
-use Rattle.writing.specs.Walked.{Settled, Walked}
-use Rattle.writing.specs.Writing.{Tells, filled, recordAfter, writing}
+use Rattle.walking.specs.First.{firstForest, firstRecord}
+use Rattle.walking.specs.Walked.{Walked}
+use Rattle.walking.proofs.Walking.{over-laid}
+use Rattle.writing.specs.Writing.{Settled, Tells, filled, recordAfter, writing}
 use Rattle.writing.proofs.Settling.{every-rest, owed-few}
 use Rattle.writing.proofs.Firsts.{minimal-provable}
 use Rattle.writing.proofs.Fitting.{tells-longer, tells-written}
-use Rattle.writing.proofs.Walking.{over-laid}
 
 -- no cell before the others
 none-before : (xs ys : List ℕ) → length xs ≡ 0 → xs ++ ys ≡ ys

@@ -16,7 +16,7 @@ use Rattle.listing.specs.Minimal.{isMinimal}
 use Rattle.listing.specs.Demands.{Minimal}
 use Rattle.listing.proofs.Minimals.{is-minimal-set, minimal-set-is}
 use Rattle.listing.proofs.Demanding.{passes}
-use Rattle.writing.specs.First.{firstRecord}
+use Rattle.walking.specs.First.{firstRecord}
 use Rattle.writing.specs.Writing.{filled, fitted, recordAfter, writing}
 use Rattle.writing.specs.Writes.{First, Writes, WritesAny, WritesFirst}
 use Rattle.writing.proofs.Firsts.{first-holdable, first-is, one-first}

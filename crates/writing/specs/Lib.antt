@@ -1,4 +1,2 @@
-pub mod First
-pub mod Walked
 pub mod Writing
 pub mod Writes

@@ -11,8 +11,9 @@ use Rattle.table.specs.Outcome.{Outcome, _andThen_, demand}
 use Rattle.table.specs.Outcome.Outcome.{accepted, refused}
 use Rattle.table.specs.Checks.{requestOutcome, told}
 use Rattle.table.specs.declared.Query.{Query}
+use Rattle.derivation.specs.Attached.{everyOf, owedOf}
 use Rattle.listing.specs.Minimal.{isMinimal}
-use Rattle.writing.specs.First.{firstRecord}
+use Rattle.walking.specs.First.{firstRecord}
 use Rattle.writing.specs.declared.Written.{Written}
 use Rattle.writing.specs.declared.Written.the-variants as written′
 
@@ -31,6 +32,11 @@ filled (refused number position) rec cells = cells
 
 unfoldable pub recordAfter : List ℕ → Query → ℕ → List ℕ → List ℕ
 recordAfter t q S cells = filled (writing t q S (length cells)) (firstRecord t q S) cells
+
+-- the automata of the set by their marks, as the terms hold them: those that are imposed, and those that are owed
+pub record Settled (t : List ℕ) (S A O : ℕ) : Type 0 where
+  pub imposed : A ≡ everyOf t S
+  pub owed : O ≡ owedOf t S
 
 -- past rows 1 to 8: what is told, and what the cells hold afterwards
 abbrev pub Tells : List ℕ → Query → ℕ → List ℕ → List ℕ → Outcome → Type 0

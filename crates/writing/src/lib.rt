@@ -1,10 +1,9 @@
 // The holder's end, after the list: the first record of a listed set (docs/DEFINITION.md, "The first record"). It is walked
-// twice, once to count and once to write, so that a record that does not fit leaves every cell unchanged. specs/Writing.antt
-// says what the answer and the cells are; specs/Writes.antt states that this is the record that the definition means.
-mod walk; // walk.rt: the nodes of the record, in preorder
-
+// (crate walking) twice, once to count and once to write, so that a record that does not fit leaves every cell unchanged.
+// specs/Writing.antt says what the answer and the cells are; specs/Writes.antt states that this is the record that the
+// definition means.
 use checks::QueryCheck;
-use search::Terms;
+use goals::Terms;
 use sets::CredentialSet;
 use sets::StateSet;
 use table::Number;
@@ -22,8 +21,7 @@ ghost use Rattle.members.specs.Members.{Members};
 ghost use Rattle.search.specs.Search.{Prepared};
 ghost use Rattle.search.specs.Failing.{Remembered};
 ghost use Rattle.listing.specs.Minimal.{isMinimal};
-ghost use Rattle.writing.specs.Walked.{Settled};
-ghost use Rattle.writing.specs.Writing.{Tells, recordAfter, writing, writtenTold};
+ghost use Rattle.writing.specs.Writing.{Settled, Tells, recordAfter, writing, writtenTold};
 
 // The record's length in numbers; it stands in the first cells.
 pub enum Written {
@@ -149,7 +147,7 @@ fn write_settled(
     ensures { λ r. ⌜ Tells (now (table .entry)) query (terms .allowed) (now (rec .entry)) (now (rec .exit)) (writtenTold r) ⌝ }
 {
     let cells = rec.len();
-    let len = walk::from_goal(
+    let len = walking::from_goal(
         table,
         query,
         index,
@@ -163,7 +161,7 @@ fn write_settled(
     if cells < len {
         return refused(Reason::LongerRecord);
     }
-    walk::from_goal(table, query, index, arcs, rows, terms, memory, cells, rec);
+    walking::from_goal(table, query, index, arcs, rows, terms, memory, cells, rec);
     Written::Length(len)
 }
 

@@ -12,7 +12,7 @@ use Rattle.members.proofs.Reading.{zeros}
 use Rattle.failures.specs.Failures.{SlotIn, fewCells, memoryCells}
 use Rattle.search.specs.Failing.{Remembered}
 use Rattle.search.proofs.Failing.{remembered-none}
-use Rattle.writing.specs.Walked.{Settled}
+use Rattle.writing.specs.Writing.{Settled}
 use Rattle.writing.proofs.Passes.{owed-fits, settled-by}
 use borrow.Author.Needs.{needs}
 use Rattle.writing.proofs.write_listed.Statement.{statement}

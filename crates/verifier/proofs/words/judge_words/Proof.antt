@@ -12,7 +12,7 @@ use Rattle.table.specs.Outcome.{demandEach}
 use Rattle.table.specs.Outcome.Outcome.{accepted}
 use Rattle.table.proofs.Stages.{each-passes, each-stops, each-through, refused-then, then-on}
 use Rattle.sets.proofs.Tests.{failed, passed}
-use Rattle.verifier.specs.Tally.{keeps}
+use Rattle.verifier.specs.Kept.{keeps}
 use Rattle.verifier.specs.Verdict.{verdictTold}
 use Rattle.verifier.proofs.Judged.{kept-flag}
 use Rattle.verifier.proofs.words.judge_words.Statement.{statement}
