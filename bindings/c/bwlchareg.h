@@ -1,20 +1,30 @@
-/* Bwlchareg: a compliance checker for usage-constrained RT0 credentials.
+/* Bwlchareg: a compliance checker for usage-constrained RT0 credentials. For x86-64 Linux, as C99,
+ * C11 or C++.
  *
- * Link with target/staticlib/libbwlchareg.a (x86-64 Linux), which `rt staticlib bwlchareg` proves and writes. It needs nothing else but
- * memcpy and memset. What the numbers of a table, a query, a record and a set mean is in bindings/LAYOUT.md, and what is answered to
- * every input in docs/DEFINITION.md; bindings/c/example.c makes every call.
+ * In the repository, bindings/c/README.md says how to link, bindings/c/example.c makes every call,
+ * bindings/LAYOUT.md says what the numbers of a table, a query, a record and a set mean, and
+ * docs/DEFINITION.md how every input is answered.
  *
- * What holds of every call, for every input of every length, and is proved (crates/bwlchareg and the crates it is over):
+ * This holds of every call on a table, for every input of every length, and is proved
+ * (crates/bwlchareg and the crates under it):
  *
- *   - The call ends. It reads nothing but the numbers of the slices it is lent, and writes nothing but what is named here.
- *   - The result is 0, accepted, or the refusal's number in docs/DEFINITION.md, "Where each input is stopped".
- *     Checks go down that table, and within a row by ascending record number: the first that fails is told.
- *   - The last parameter gets the refusal's position; on 0 it gets the value that the call returns, or 0 where it has none.
+ *   - The call ends. It reads only the numbers of the slices that it is lent, and writes only what
+ *     is named here.
+ *   - The result is 0, accepted, or the number of a refusal. The checks are made in the order of the
+ *     table in docs/DEFINITION.md, "Where each input is stopped", and those of one row by ascending
+ *     record number; the first that fails is told.
+ *   - The last parameter gets the position of a refusal. On 0 it gets the call's value, or 0 where
+ *     the call has none.
  *
- * What the caller must see to, since nothing checks it: a pointer leads to as many numbers as its length says (it may be any
- * aligned address where the length is 0, but not null), and the last parameter overlaps none of them.
+ * This is left to the caller, and nothing checks it:
  *
- * A call keeps nothing for the next one and takes no memory but the stack, so calls may be made from several threads at once.
+ *   - A slice is a pointer and a length, in numbers. The pointer is aligned for its numbers and leads
+ *     to as many as the length says. An empty slice may be a null pointer.
+ *   - The last parameter is aligned and never null. Neither it nor a buffer overlaps anything else
+ *     that the call is lent.
+ *
+ * A call keeps nothing for the next one and takes no memory but the stack, so several threads may
+ * call at once.
  */
 #ifndef BWLCHAREG_H
 #define BWLCHAREG_H
@@ -26,85 +36,183 @@
 extern "C" {
 #endif
 
-/* The mark of an automaton, which is the third number of its record, says what it demands of a record's words: that it accepts
- * every one, or at least one. A table of the base layout has no marks; it is upgraded by BWLCHAREG_EVERY_WORD behind the two
- * numbers of each automaton, and then means what it meant. */
-enum { BWLCHAREG_EVERY_WORD = 0, BWLCHAREG_SOME_WORD = 1 };
+/* The version, also as 10000 * major + 100 * minor + patch. All versions 0.N.x have the same calls,
+ * layouts and refusals. Version 0.(N+1).0 may have others, and CHANGELOG.md then says which. */
+#define BWLCHAREG_VERSION "0.7.0"
+#define BWLCHAREG_VERSION_MAJOR 0
+#define BWLCHAREG_VERSION_MINOR 7
+#define BWLCHAREG_VERSION_PATCH 0
+#define BWLCHAREG_VERSION_NUMBER 700
 
-/* Whether a table is accepted: rows 1 to 7, then row 17.
- *
- *   1  fewer than 4 numbers                                                             position 0
- *   2  a head count over its limit                                                      position 0
- *   3  wrong length                                                                     position 0
- *   4  a credential's field outside what its kind allows                                the credential
- *   5  a part cell's field out of range, or next neither 0 nor a greater cell up to q   the cell
- *   6  a kind 4 chain not of 2 to 4 cells                                               the credential
- *   7  an edge's field out of range, or owner and name not as its label allows          the edge
- *  17  an automaton's mark neither 0 nor 1                                              the automaton
- */
+/* The version number of the library itself. Library and header fit each other if this, divided by
+ * 100, is BWLCHAREG_VERSION_NUMBER / 100. */
+uint32_t bwlchareg_version(void);
+
+/* Limits. The last two follow from the others: the length of the longest table, and how many sets
+ * there can be of which none is part of another. */
+enum {
+    BWLCHAREG_MAX_CREDENTIALS = 20,
+    BWLCHAREG_MAX_PART_CELLS = 63,
+    BWLCHAREG_MAX_AUTOMATA = 8,
+    BWLCHAREG_MAX_EDGES = 128,
+    BWLCHAREG_MAX_PRINCIPAL = 64, /* principals are 1 to 64, */
+    BWLCHAREG_MAX_NAME = 64,      /* role names too, */
+    BWLCHAREG_MAX_STATE = 15,     /* the states of an automaton 0 to 15 */
+    BWLCHAREG_MIN_PARTS = 2,
+    BWLCHAREG_MAX_PARTS = 4,
+    BWLCHAREG_MAX_DEPTH = 16,
+    BWLCHAREG_MAX_TABLE_LENGTH = 1105,
+    BWLCHAREG_MAX_SETS = 184756
+};
+
+/* How many numbers the head of a table, a record of each sort and a node of a proof record have. */
+enum {
+    BWLCHAREG_HEAD_LENGTH = 4,
+    BWLCHAREG_CREDENTIAL_LENGTH = 6,
+    BWLCHAREG_PART_CELL_LENGTH = 3,
+    BWLCHAREG_AUTOMATON_LENGTH = 3,
+    BWLCHAREG_EDGE_LENGTH = 6,
+    BWLCHAREG_NODE_LENGTH = 2
+};
+
+/* The kind of a credential. */
+enum {
+    BWLCHAREG_MEMBERSHIP = 1,  /* A.r <- D */
+    BWLCHAREG_CONTAINMENT = 2, /* A.r <- B.s */
+    BWLCHAREG_LINKING = 3,     /* A.r <- A.s.t */
+    BWLCHAREG_INTERSECTION = 4 /* A.r <- the roles of a chain of part cells */
+};
+
+/* The label of an edge: which roles it matches. */
+enum {
+    BWLCHAREG_THIS_ROLE = 1,
+    BWLCHAREG_EVERY_ROLE = 2,
+    BWLCHAREG_OTHER_ROLES = 3, /* every role but this one */
+    BWLCHAREG_ROLES_OF_OWNER = 4
+};
+
+/* The mark of an automaton: which words of a record it must accept. */
+enum {
+    BWLCHAREG_EVERY_WORD = 0,
+    BWLCHAREG_SOME_WORD = 1 /* at least one */
+};
+
+/* What a call returns. */
+enum {
+    BWLCHAREG_ACCEPTED = 0,
+    BWLCHAREG_REFUSED_SHORT_HEAD = 1,
+    BWLCHAREG_REFUSED_COUNT_OVER_LIMIT = 2,
+    BWLCHAREG_REFUSED_WRONG_LENGTH = 3,
+    BWLCHAREG_REFUSED_CREDENTIAL = 4,
+    BWLCHAREG_REFUSED_PART_CELL = 5,
+    BWLCHAREG_REFUSED_CHAIN = 6,
+    BWLCHAREG_REFUSED_EDGE = 7,
+    BWLCHAREG_REFUSED_QUERY = 8,
+    BWLCHAREG_REFUSED_NO_MINIMAL_SET = 9,
+    BWLCHAREG_REFUSED_LONGER_LIST = 10,
+    BWLCHAREG_REFUSED_RECORD_LENGTH = 11,
+    BWLCHAREG_REFUSED_NODE = 12,
+    BWLCHAREG_REFUSED_BRANCH = 13,
+    BWLCHAREG_REFUSED_WORD = 14,
+    BWLCHAREG_REFUSED_NOT_LISTED = 15,
+    BWLCHAREG_REFUSED_LONGER_RECORD = 16,
+    BWLCHAREG_REFUSED_MARK = 17
+};
+
+/* What a call returned, in words: those of the table in docs/DEFINITION.md. */
+static inline const char *bwlchareg_refusal_words(uint32_t number)
+{
+    switch (number) {
+    case 0: return "accepted";
+    case 1: return "the table has fewer than 4 numbers";
+    case 2: return "a count of the table's head is over its limit";
+    case 3: return "the table's length is not what its head says";
+    case 4: return "a field of the credential is outside what its kind allows";
+    case 5: return "the part cell's principal or name is out of range, or its next is neither 0 nor a later cell";
+    case 6: return "the chain of the kind 4 credential does not have 2 to 4 cells";
+    case 7: return "the edge's automaton, a state or the label is out of range, or owner and name are not as the label allows";
+    case 8: return "the query's principal, owner, name or depth limit is out of range";
+    case 9: return "no set of credentials proves the membership";
+    case 10: return "there are more minimal sets than cells";
+    case 11: return "fewer than two numbers remain for the node, or numbers remain after the tree";
+    case 12: return "the node's credential or middle does not fit its goal";
+    case 13: return "the node is deeper than the depth limit, or its principal and role are already on the branch";
+    case 14: return "the automaton is not met: with mark 0 it rejects a word, with mark 1 every word";
+    case 15: return "the set is not on the list";
+    case 16: return "the record has more numbers than there are cells";
+    case 17: return "the automaton's mark is neither 0 nor 1";
+    default: return "not a refusal of version " BWLCHAREG_VERSION;
+    }
+}
+
+/* What the position of a refusal counts, from 1, or "" where the position is 0. The fields of a query
+ * are 1 principal, 2 owner, 3 name, 4 depth limit. Nodes count in the order of the record; for numbers
+ * that remain after the tree the position is the number of nodes plus 1. */
+static inline const char *bwlchareg_position_words(uint32_t number)
+{
+    switch (number) {
+    case 4: case 6: return "the credential";
+    case 5: return "the part cell";
+    case 7: return "the edge";
+    case 8: return "the field";
+    case 11: case 12: case 13: return "the node";
+    case 14: case 17: return "the automaton";
+    default: return "";
+    }
+}
+
+/* Whether a table is accepted. Refuses with 1 to 7, then 17. */
 uint32_t bwlchareg_check(const uint16_t *table, size_t length, uint64_t *position);
 
-/* Whether a table is accepted and a query valid: rows 1 to 7 and 17, then row 8.
- *
- *   8  principal, owner, name or depth out of range                                     1 to 4, the first such
- *
- * Every call that takes a query makes these checks first.
- */
+/* Whether a table is accepted and a query valid. Refuses with 1 to 7, 17, then 8. The calls below
+ * make these checks first. */
 uint32_t bwlchareg_check_query(const uint16_t *table, size_t length,
                                uint16_t principal, uint16_t owner, uint16_t name, uint16_t depth,
                                uint64_t *position);
 
-/* Verifies a proof record: rows 1 to 7, 17 and 8, then the record node by node. On 0 the value is the used set: credential i
- * counts 2^(i-1).
+/* Verifies a proof record. On 0 the value is its used set: credential i counts 2^(i-1).
  *
- *  11  fewer than two numbers remain for a node; or numbers remain after the tree      the node, or the number of nodes + 1
- *  12  the credential is not 1 to n, does not define the goal's role, is kind 1 of
- *      another principal, or has a wrong middle                                        the node
- *  13  level above the depth limit, or pair of principal and role already on the
- *      branch                                                                          the node
- *  14  a used automaton is not met: of mark 0 it rejects some word, of mark 1 every
- *      word                                                                            the lowest such automaton, of either mark
+ * The record is read node by node: 11, 12 and 13 are tested in this order at a node before its
+ * children, then 11 for numbers that remain after the tree. Last comes 14, at the lowest automaton
+ * that is not met. On an accepted table and a valid query the result is 0 exactly if the record
+ * derives the queried membership by the rules of RT0, within the depth limit and with no pair of
+ * principal and role twice on a branch, and every automaton attached to a credential that it uses is
+ * met: one of mark 0 accepts every word of the record, one of mark 1 at least one.
  *
- * Nodes count from 1 in preorder; at each node 11, 12 and 13 are tested in that order before its children, numbers left over
- * after the last node, and 14 last. On an accepted table and a valid query the result is 0 exactly when the record derives the
- * queried membership by the rules of RT0, within the depth limit and with no pair of principal and role twice on a branch, and
- * every automaton attached to a credential that it uses is met: one of mark 0 accepts every word of the record, one of mark 1 at
- * least one. The stack is bounded by the depth limit, whatever the record's length.
+ * The stack is bounded by the depth limit, whatever the record's length.
  */
 uint32_t bwlchareg_verify(const uint16_t *table, size_t table_length,
                           uint16_t principal, uint16_t owner, uint16_t name, uint16_t depth,
                           const uint16_t *record, size_t record_length,
                           uint64_t *value);
 
-/* Lists all minimal sets: rows 1 to 7, 17 and 8, then 9 and 10. On 0 the value is the count, 1 to sets_length, and the first
- * cells of `sets`, as many as the count says, hold the sets in ascending order: credential i counts 2^(i-1).
+/* Lists all minimal sets. On 0 the value is their count, at least 1, and the first cells of `sets`
+ * hold them in ascending order: credential i counts 2^(i-1).
  *
- *   9  no minimal set, whatever the buffer's length                                     position 0
- *  10  more minimal sets than cells                                                     position 0
+ * A minimal set is the used set of a record that bwlchareg_verify accepts with this table and query,
+ * where no accepted record's used set is a proper part of it. The list has every minimal set once,
+ * and nothing else. Minimal does not mean fewest credentials.
  *
- * A minimal set is the used set of a record that bwlchareg_verify accepts with this table and query, where no accepted record's used
- * set is a proper part of it. The list has every minimal set once, and nothing else. Minimal does not mean fewest credentials.
- *
- * Cells beyond the count are unchanged. On 10 the buffer is filled with the first sets, ascending; on every other refusal no cell
- * changes, so the buffer is never scratch space. `sets` must overlap neither the table nor the last parameter.
+ * Refuses with 9 if there is none, whatever the buffer's length, and with 10 if there are more than
+ * cells; the buffer is then filled with the first of them. BWLCHAREG_MAX_SETS cells are always
+ * enough. All other cells stay as they are.
  */
 uint32_t bwlchareg_list(const uint16_t *table, size_t table_length,
                         uint16_t principal, uint16_t owner, uint16_t name, uint16_t depth,
                         uint32_t *sets, size_t sets_length,
                         uint64_t *value);
 
-/* Writes the first record of a minimal set: rows 1 to 7, 17 and 8, then 15 and 16. On 0 the value is the record's length in
- * numbers, 2 for each node, and the first cells of `record`, as many as the value says, hold the record.
+/* Writes the first record of a minimal set. On 0 the value is its length, two numbers for each node,
+ * and the first cells of `record` hold it.
  *
- *  15  the set is not on the list that bwlchareg_list makes for this table and query    position 0
- *  16  fewer cells than the record has numbers                                          position 0
+ * bwlchareg_verify accepts this record, with exactly this set, and every other record that it accepts
+ * and that uses only credentials of the set comes later: records are compared number by number, the
+ * smaller first.
  *
- * bwlchareg_verify accepts the record, with exactly this set, and every other record that it accepts and that uses only credentials
- * of the set comes later, compared number by number, the smaller first.
- *
- * Cells beyond the record are unchanged, and on a refusal no cell changes, so the buffer is never scratch space. A record may have
- * more than a thousand million nodes; once the set is found to be on the list, 16 takes about as many steps as there are cells,
- * times the work of a node. `record` must overlap neither the table nor the last parameter.
+ * Refuses with 15 if the set is not on the list of this table and query, and with 16 if the record
+ * has more numbers than there are cells. All other cells stay as they are, and on a refusal all do.
+ * A record may have more than a thousand million nodes; once the set is known to be on the list, 16
+ * takes about as many steps as there are cells, times the work of a node.
  */
 uint32_t bwlchareg_write(const uint16_t *table, size_t table_length,
                          uint16_t principal, uint16_t owner, uint16_t name, uint16_t depth,

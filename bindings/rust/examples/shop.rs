@@ -5,7 +5,9 @@
 
 use std::fmt::Debug;
 
-use bwlchareg::{check, check_query, layout, list, upgraded, verify, write, Query, Refusal};
+use bwlchareg::{
+    check, check_query, first_record, layout, minimal_sets, upgraded, verify, Query, Refusal,
+};
 
 /// Principals Shop 1, School 2, Ann 4; names discount 1, student 2, accredited 3.
 const T: [u16; 28] = [
@@ -40,6 +42,9 @@ const Q: Query = Query {
 /// Ann is in Shop.discount by credential 1, since School, the middle, is in
 /// Shop.accredited by credential 2 and Ann in School.student by credential 3.
 const R: [u16; 6] = [1, 2, 2, 0, 3, 0];
+
+/// The most numbers that a record is to have here.
+const MOST: usize = 1_000;
 
 fn tell<Value: Debug>(what: &str, answer: Result<Value, Refusal>) {
     match answer {
@@ -79,23 +84,23 @@ fn main() {
         verify(&T, Query { depth: 1, ..Q }, &R),
     );
 
-    tell("minimal sets of table T", sets(&T, Q));
-    tell("minimal sets of table U", sets(&U, Q));
+    tell("minimal sets of table T", minimal_sets(&T, Q));
+    tell("minimal sets of table U", minimal_sets(&U, Q));
     tell(
         "minimal sets of table T for School",
-        sets(&T, Query { principal: 2, ..Q }),
+        minimal_sets(&T, Query { principal: 2, ..Q }),
     );
 
-    for set in sets(&T, Q).expect("a list of table T") {
-        let record = record(&T, Q, set);
+    for set in minimal_sets(&T, Q).expect("a list of table T") {
+        let record = first_record(&T, Q, set, MOST);
         tell(&format!("record of set {set}, table T"), record.clone());
         let used = record.and_then(|record| verify(&T, Q, &record));
         tell("  that record with table T", used);
     }
-    tell("record of set 7, table U", record(&U, Q, 7));
+    tell("record of set 7, table U", first_record(&U, Q, 7, MOST));
     tell(
         "record of set 7, table T, five cells",
-        write(&T, Q, 7, &mut [0; 5]),
+        first_record(&T, Q, 7, 5),
     );
 
     // In the base layout an automaton has no mark.
@@ -103,18 +108,4 @@ fn main() {
     tell("table U in the base layout", check(&base));
     let same = upgraded(&base).map(|table| table == U);
     tell("  whether it is U when upgraded", same);
-}
-
-/// All minimal sets, if there are no more than ten.
-fn sets(table: &[u16], query: Query) -> Result<Vec<u32>, Refusal> {
-    let mut cells = [0; 10];
-    let count = list(table, query, &mut cells)?;
-    Ok(cells[..count].to_vec())
-}
-
-/// The first record of a set, if it has no more than ten numbers.
-fn record(table: &[u16], query: Query, set: u32) -> Result<Vec<u16>, Refusal> {
-    let mut cells = [0; 10];
-    let length = write(table, query, set, &mut cells)?;
-    Ok(cells[..length].to_vec())
 }

@@ -7,6 +7,8 @@ use crate::answer::Answer;
 use crate::Query;
 
 extern "C" {
+    fn bwlchareg_version() -> u32;
+
     fn bwlchareg_check(table: *const u16, length: usize, position: *mut u64) -> u32;
 
     fn bwlchareg_check_query(
@@ -55,6 +57,11 @@ extern "C" {
         record_length: usize,
         value: *mut u64,
     ) -> u32;
+}
+
+pub fn version() -> u32 {
+    // SAFETY: it takes nothing, and gives a number.
+    unsafe { bwlchareg_version() }
 }
 
 pub fn check(table: &[u16]) -> Answer {

@@ -18,7 +18,7 @@
 //! assert_eq!(table.len(), layout::length(&table));
 //! ```
 
-use std::ops::Range;
+use core::ops::Range;
 
 /// Numbers of the head, one for each sort of record.
 pub const HEAD: usize = 4;
@@ -41,13 +41,17 @@ pub const SOME_WORD: u16 = 1;
 /// The greatest counts that a head may have, in its order.
 pub const LIMITS: [usize; HEAD] = [20, 63, 8, 128];
 
+/// The most minimal sets that a list may have: of twenty credentials there are
+/// so many sets of ten, and never more sets of which none is a part of another.
+pub const MAX_SETS: usize = 184_756;
+
 /// The sizes of the four sorts, in the order of the head and of the table.
 const SIZES: [usize; HEAD] = [CREDENTIAL, CELL, AUTOMATON, EDGE];
 
 /// The head's counts: credentials, part cells, automata, edges. What a slice is
 /// too short for counts as 0.
 pub fn counts(table: &[u16]) -> [usize; HEAD] {
-    std::array::from_fn(|sort| table.get(sort).map_or(0, |&count| count.into()))
+    core::array::from_fn(|sort| table.get(sort).map_or(0, |&count| count.into()))
 }
 
 /// How long the table must be by its head.

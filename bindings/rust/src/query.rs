@@ -3,9 +3,8 @@
 /// What is asked of a table: is the principal in the role `owner.name`, by a
 /// derivation of at most `depth` levels?
 ///
-/// Any four numbers can be written; those out of range are refused with 8 by
-/// every call that takes a query, at the first such field: 1 for the principal,
-/// 2 for the owner, 3 for the name, 4 for the depth.
+/// Any four numbers can be written. Every call that takes a query refuses one that
+/// is out of range, with [`Reason::Query`](crate::Reason::Query).
 ///
 /// ```
 /// use bwlchareg::{check_query, Query};
@@ -15,12 +14,9 @@
 /// let empty = [0, 0, 0, 0]; // a table without records
 /// assert_eq!(check_query(&empty, query), Ok(()));
 ///
-/// // The same, as deep as a query can go, and one level deeper.
-/// let deep = Query { depth: 16, ..query };
-/// assert_eq!(check_query(&empty, deep), Ok(()));
+/// // One level deeper than a query can go.
 /// let refusal = check_query(&empty, Query { depth: 17, ..query }).unwrap_err();
-/// assert_eq!((refusal.number, refusal.position), (8, 4));
-/// assert_eq!(refusal.to_string(), "the query's depth is out of range");
+/// assert_eq!(refusal.to_string(), "the query's depth limit is out of range");
 /// ```
 #[derive(Clone, Copy, Debug, PartialEq, Eq, Hash)]
 pub struct Query {

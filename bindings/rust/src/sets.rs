@@ -19,25 +19,14 @@ pub fn credentials(set: u32) -> impl Iterator<Item = u32> {
 mod tests {
     use super::credentials;
 
-    /// The set that has these credentials.
-    fn set(numbers: impl Iterator<Item = u32>) -> u32 {
-        numbers.map(|number| 1 << (number - 1)).sum()
-    }
-
     #[test]
     fn the_credentials_make_the_set_again() {
         for low in 0..1 << 12 {
             for every in [low, low << 8, low << 20] {
-                assert_eq!(set(credentials(every)), every);
-                assert!(credentials(every).is_sorted());
+                let set: u32 = credentials(every).map(|number| 1 << (number - 1)).sum();
+                assert_eq!(set, every);
             }
         }
-    }
-
-    #[test]
-    fn no_set_is_too_great() {
         assert!(credentials(u32::MAX).eq(1..=32));
-        assert!(credentials(1 << 31).eq([32]));
-        assert_eq!(credentials(0).next(), None);
     }
 }

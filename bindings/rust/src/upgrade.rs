@@ -1,7 +1,9 @@
 //! Tables of the base layout, in which automata have no marks.
 
+use alloc::vec::Vec;
+
 use crate::layout::{self, AUTOMATON, EVERY_WORD, HEAD, LIMITS};
-use crate::Refusal;
+use crate::{Reason, Refusal};
 
 /// Numbers of an automaton in the base layout: its two sets of states.
 const BASE_AUTOMATON: usize = AUTOMATON - 1;
@@ -27,7 +29,7 @@ const BASE_AUTOMATON: usize = AUTOMATON - 1;
 /// # Examples
 ///
 /// ```
-/// use bwlchareg::upgraded;
+/// use bwlchareg::{upgraded, Reason};
 ///
 /// // An automaton that starts in state 0 and accepts in state 1, and its edge.
 /// let base = [0, 0, 1, 1, 1, 2, 1, 0, 2, 0, 0, 1];
@@ -36,24 +38,24 @@ const BASE_AUTOMATON: usize = AUTOMATON - 1;
 ///
 /// // It has today's layout now, and is not upgraded again.
 /// let refusal = upgraded(&table).unwrap_err();
-/// assert_eq!((refusal.number, refusal.position), (3, 0));
+/// assert_eq!(refusal.reason(), Some(Reason::WrongLength));
 /// # Ok::<(), bwlchareg::Refusal>(())
 /// ```
 pub fn upgraded(table: &[u16]) -> Result<Vec<u16>, Refusal> {
-    let refused = |number| Refusal {
-        number,
+    let refused = |reason: Reason| Refusal {
+        number: reason.number(),
         position: 0,
     };
     if table.len() < HEAD {
-        return Err(refused(1));
+        return Err(refused(Reason::ShortHead));
     }
     let counts = layout::counts(table);
     if counts.iter().zip(LIMITS).any(|(count, most)| *count > most) {
-        return Err(refused(2));
+        return Err(refused(Reason::CountOverLimit));
     }
     let automata = counts[2];
     if table.len() + automata != layout::length(table) {
-        return Err(refused(3));
+        return Err(refused(Reason::WrongLength));
     }
     // What stands before the automata has its place in both layouts.
     let (before, rest) = table.split_at(layout::automaton(table, 1).start);
@@ -69,6 +71,7 @@ pub fn upgraded(table: &[u16]) -> Result<Vec<u16>, Refusal> {
 mod tests {
     use super::upgraded;
     use crate::{layout, Refusal};
+    use std::vec::Vec;
 
     fn refused(number: u32) -> Result<Vec<u16>, Refusal> {
         Err(Refusal {
@@ -77,14 +80,14 @@ mod tests {
         })
     }
 
-    /// Numbers that are all different, behind a head.
+    /// Numbers that are all different, after a head.
     fn distinct(head: [u16; 4], length: usize) -> Vec<u16> {
         let rest = (1000..).take(length - head.len());
         head.into_iter().chain(rest).collect()
     }
 
     #[test]
-    fn a_mark_of_0_is_put_behind_each_automaton_and_nothing_else_moves() {
+    fn a_mark_of_0_is_put_after_each_automaton_and_nothing_else_moves() {
         for head in [[0, 0, 1, 0], [2, 3, 3, 2], [20, 63, 8, 128], [1, 0, 8, 0]] {
             let [n, q, a, e] = head.map(usize::from);
             let base = distinct(head, 4 + 6 * n + 3 * q + 2 * a + 6 * e);
@@ -108,7 +111,7 @@ mod tests {
     }
 
     #[test]
-    fn what_has_not_the_base_layout_is_refused() {
+    fn what_is_not_of_the_base_layout_is_refused() {
         for short in [&[][..], &[0, 0, 8]] {
             assert_eq!(upgraded(short), refused(1));
         }

@@ -7,7 +7,10 @@ mod drawn;
 
 use std::ops::Range;
 
-use bwlchareg::{check, check_query, layout, list, verify, write, Query, Refusal};
+use bwlchareg::{
+    check, check_query, first_record, layout, list, minimal_sets, verify, write, Query, Reason,
+    Refusal,
+};
 use drawn::{Random, LONGEST};
 
 const SEED: u64 = 2015;
@@ -115,7 +118,7 @@ fn answers_inside(input: &Input, random: &mut Random) -> Answers {
     answers
 }
 
-/// Lent cells with others before and behind them, which nothing may change.
+/// Lent cells with others before and after them, which nothing may change.
 struct Guarded<Cell> {
     all: Vec<Cell>,
     lent: Range<usize>,
@@ -140,14 +143,14 @@ impl<Cell: Copy + PartialEq> Guarded<Cell> {
     /// The lent cells, if all others are as they were.
     fn inside(&self) -> Vec<Cell> {
         let (front, rest) = self.all.split_at(self.lent.start);
-        let (inside, behind) = rest.split_at(self.lent.len());
-        let mut around = front.iter().chain(behind);
+        let (inside, after) = rest.split_at(self.lent.len());
+        let mut around = front.iter().chain(after);
         assert!(around.all(|cell| *cell == self.guard));
         inside.to_vec()
     }
 }
 
-/// A slice with numbers before and behind it, and where it begins.
+/// A slice with numbers before and after it, and where it begins.
 fn surrounded(slice: &[u16], random: &mut Random) -> (Vec<u16>, usize) {
     let front = random.up_to(5);
     let mut larger: Vec<u16> = (0..front).map(|_| random.between(0, 5)).collect();
@@ -257,7 +260,7 @@ fn judge_writing(input: &Input, answers: &Answers) {
     }
 }
 
-/// The cells after a writing: behind the record, and on a refusal everywhere,
+/// The cells after a writing: beyond the record, and on a refusal everywhere,
 /// what was there before.
 fn judge_written(answers: &Answers) {
     let written = answers.write.unwrap_or(0);
@@ -267,7 +270,7 @@ fn judge_written(answers: &Answers) {
 }
 
 /// The cells after a listing: ascending sets, none a part of another, and
-/// behind them what was there before.
+/// beyond them what was there before.
 fn judge_cells(answers: &Answers, table: &[u16]) {
     let written = match answers.list {
         Ok(count) => count,
@@ -343,6 +346,26 @@ fn a_short_buffer_has_the_first_sets_of_the_whole_list() {
         }
     }
     assert!(short >= 500, "{short}");
+}
+
+#[test]
+fn a_list_of_500_sets_is_whole() {
+    // A chain of four roles, with four credentials for the first and five for
+    // each of the others.
+    let mut table = vec![20, 4, 0, 0, 1, 1, 4, 1, 0, 0];
+    for (name, count) in [(2, 4), (3, 5), (4, 5), (5, 5)] {
+        table.extend([1, name, 1, 1, 0, 0].repeat(count));
+    }
+    table.extend([1, 2, 2, 1, 3, 3, 1, 4, 4, 1, 5, 0]);
+    let query = Query {
+        principal: 1,
+        owner: 1,
+        name: 1,
+        depth: 2,
+    };
+    let mut cells = vec![0; layout::MAX_SETS];
+    assert_eq!(list(&table, query, &mut cells), Ok(500));
+    assert_eq!(minimal_sets(&table, query).as_deref(), Ok(&cells[..500]));
 }
 
 #[test]
@@ -424,9 +447,10 @@ fn a_record_of_21845_nodes_is_written_and_read_to_its_end() {
     let (table, query, record) = full_tree();
     assert_eq!(record.len(), layout::NODE * 21_845);
     assert_eq!(verify(&table, query, &record), Ok(255));
-    let mut cells = vec![0; record.len()];
-    assert_eq!(write(&table, query, 255, &mut cells), Ok(record.len()));
-    assert_eq!(cells, record);
+    let written = first_record(&table, query, 255, record.len());
+    assert_eq!(written.as_ref(), Ok(&record));
+    let refusal = first_record(&table, query, 255, record.len() - 1).unwrap_err();
+    assert_eq!(refusal.reason(), Some(Reason::LongerRecord));
     let mut random = Random::new(SEED + 3);
     for _ in 0..100 {
         // Cut anywhere, the first node that is not whole is told.

@@ -1,8 +1,9 @@
 //! Every condition of docs/DEFINITION.md, "Where each input is stopped", by an
-//! input that meets it: its number, its position, and that the message has the
-//! words for it.
+//! input that meets it: its reason, its position, and that no cell has changed.
 
-use bwlchareg::{check, check_query, layout, list, verify, write, Query, Refusal};
+use std::fmt::Debug;
+
+use bwlchareg::{check, check_query, layout, list, verify, write, Query, Reason, Refusal};
 
 /// A table with a credential of each kind, an automaton and an edge.
 const TABLE: [u16; 49] = [
@@ -29,17 +30,12 @@ const QUERY: Query = Query {
 /// A record that is accepted.
 const RECORD: [u16; 6] = [1, 2, 2, 0, 3, 0];
 
-/// Holds a refusal against the number, the position and words of its message.
-fn told<Value: std::fmt::Debug>(
-    answer: Result<Value, Refusal>,
-    number: u32,
-    position: u64,
-    words: &str,
-) {
-    let refusal = answer.expect_err(words);
-    assert_eq!((refusal.number, refusal.position), (number, position));
-    let message = refusal.message();
-    assert!(message.contains(words), "{message}: {words}");
+/// Compares a refusal with its reason and position.
+#[track_caller]
+fn told<Value: Debug>(answer: Result<Value, Refusal>, reason: Reason, position: u64) {
+    let refusal = answer.expect_err("a refusal");
+    let told = (refusal.reason(), refusal.position);
+    assert_eq!(told, (Some(reason), position));
 }
 
 /// The table with another number at a place.
@@ -58,51 +54,37 @@ fn the_table_and_the_record_are_accepted_as_they_are() {
 
 #[test]
 fn heads() {
-    told(check(&TABLE[..3]), 1, 0, "fewer than 4 numbers");
-    for (place, over) in [21, 64, 9, 129].into_iter().enumerate() {
-        told(check(&with(place, over)), 2, 0, "head is over its limit");
-        told(check(&with(place, over - 1)), 3, 0, "length is not what");
+    for length in 0..4 {
+        told(check(&TABLE[..length]), Reason::ShortHead, 0);
     }
-    told(
-        check(&TABLE[..TABLE.len() - 1]),
-        3,
-        0,
-        "length is not what its head says",
-    );
+    for (place, over) in [21, 64, 9, 129].into_iter().enumerate() {
+        told(check(&with(place, over)), Reason::CountOverLimit, 0);
+        told(check(&with(place, over - 1)), Reason::WrongLength, 0);
+    }
+    let shorter = &TABLE[..TABLE.len() - 1];
+    told(check(shorter), Reason::WrongLength, 0);
 }
 
 #[test]
 fn records_of_the_table() {
     for (place, number) in layout::credential(&TABLE, 3).zip([0, 65, 5, 65, 1, 2]) {
-        told(check(&with(place, number)), 4, 3, "credential 3");
+        told(check(&with(place, number)), Reason::Credential, 3);
     }
     let [first, second] = [1, 2].map(|number| layout::cell(&TABLE, number).start);
-    for (field, number) in [0, 65].into_iter().enumerate() {
+    for (field, number) in [(0, 0), (1, 65), (2, 1), (2, 2), (2, 3)] {
         let table = with(second + field, number);
-        told(check(&table), 5, 2, "part cell 2 has a principal or name");
+        told(check(&table), Reason::PartCell, 2);
     }
-    for next in [1, 2, 3] {
-        let table = with(second + 2, next);
-        told(check(&table), 5, 2, "next that is neither 0 nor a greater");
-    }
-    let table = with(first + 2, 0);
-    told(check(&table), 6, 5, "credential 5 has a chain");
+    told(check(&with(first + 2, 0)), Reason::Chain, 5);
     let edge = layout::edge(&TABLE, 1).start;
     for (field, number) in [(0, 2), (1, 16), (2, 5), (5, 16)] {
-        let table = with(edge + field, number);
-        told(
-            check(&table),
-            7,
-            1,
-            "edge 1 has an automaton, state or label",
-        );
+        told(check(&with(edge + field, number)), Reason::Edge, 1);
     }
 }
 
 #[test]
 fn owners_and_names_of_edges() {
     let edge = layout::edge(&TABLE, 1).start;
-    let words = "an owner and name that are not as its label allows";
     for label in 1..=4 {
         for owner in [0, 1, 64, 65] {
             for name in [0, 1, 64, 65] {
@@ -116,7 +98,7 @@ fn owners_and_names_of_edges() {
                 };
                 match allowed {
                     true => assert_eq!(check(&table), Ok(())),
-                    false => told(check(&table), 7, 1, words),
+                    false => told(check(&table), Reason::Edge, 1),
                 }
             }
         }
@@ -127,19 +109,18 @@ fn owners_and_names_of_edges() {
 fn marks() {
     let mark = layout::automaton(&TABLE, 1).end - 1;
     assert_eq!(check(&with(mark, layout::SOME_WORD)), Ok(()));
-    let words = "automaton 1 has a mark that is neither 0 nor 1";
     for number in [2, 3, u16::MAX] {
         let mut table = with(mark, number);
-        told(check(&table), 17, 1, words);
+        told(check(&table), Reason::Mark, 1);
         // It is told before the query, the set and the record, by every call.
         let far = Query { depth: 17, ..QUERY };
-        told(check_query(&table, far), 17, 1, words);
-        told(verify(&table, far, &RECORD), 17, 1, words);
-        told(list(&table, far, &mut [0]), 17, 1, words);
-        told(unwritten(&table, far, 7, 6), 17, 1, words);
+        told(check_query(&table, far), Reason::Mark, 1);
+        told(verify(&table, far, &RECORD), Reason::Mark, 1);
+        told(list(&table, far, &mut [0]), Reason::Mark, 1);
+        told(unwritten(&table, far, 7, 6), Reason::Mark, 1);
         // Edges come before marks.
         table[layout::edge(&TABLE, 1).start] = 2;
-        told(check(&table), 7, 1, "edge 1 has an automaton");
+        told(check(&table), Reason::Edge, 1);
     }
 }
 
@@ -148,45 +129,29 @@ fn the_first_of_several_wrong_marks_is_told() {
     for wrong in 1..=8 {
         let mut table = vec![0, 0, 8, 0];
         for number in 1..=8 {
-            table.extend([
-                0,
-                0,
-                if number < wrong {
-                    number % 2
-                } else {
-                    number + 1
-                },
-            ]);
+            let good = number < wrong;
+            table.extend([0, 0, if good { number % 2 } else { number + 1 }]);
         }
-        told(
-            check(&table),
-            17,
-            wrong.into(),
-            &format!("automaton {wrong}"),
-        );
+        told(check(&table), Reason::Mark, wrong.into());
     }
 }
 
 #[test]
 fn queries() {
-    let spoiled: [(Query, &str); 4] = [
-        (
-            Query {
-                principal: 0,
-                ..QUERY
-            },
-            "principal",
-        ),
-        (Query { owner: 65, ..QUERY }, "owner"),
-        (Query { name: 65, ..QUERY }, "name"),
-        (Query { depth: 17, ..QUERY }, "depth"),
+    let spoiled: [fn(&mut Query); 4] = [
+        |query| query.principal = 0,
+        |query| query.owner = 65,
+        |query| query.name = 65,
+        |query| query.depth = 17,
     ];
-    for (position, (query, field)) in (1..).zip(spoiled) {
-        let words = format!("the query's {field} is out of range");
-        told(check_query(&TABLE, query), 8, position, &words);
-        told(verify(&TABLE, query, &RECORD), 8, position, &words);
-        told(list(&TABLE, query, &mut [0]), 8, position, &words);
-        told(write(&TABLE, query, 7, &mut [0; 6]), 8, position, &words);
+    for (position, spoil) in (1..).zip(spoiled) {
+        let mut query = QUERY;
+        spoil(&mut query);
+        told(check_query(&TABLE, query), Reason::Query, position);
+        told(verify(&TABLE, query, &RECORD), Reason::Query, position);
+        told(list(&TABLE, query, &mut [0]), Reason::Query, position);
+        let answer = write(&TABLE, query, 7, &mut [0; 6]);
+        told(answer, Reason::Query, position);
     }
 }
 
@@ -196,16 +161,9 @@ fn lists() {
         principal: 9,
         ..QUERY
     };
-    told(list(&TABLE, nobody, &mut [0]), 9, 0, "no minimal set");
-    told(
-        list(&TABLE, nobody, &mut []),
-        Refusal::NONE,
-        0,
-        "no minimal",
-    );
-    let words = "more minimal sets than cells";
-    told(list(&TABLE, QUERY, &mut []), 10, 0, words);
-    told(list(&TABLE, QUERY, &mut []), Refusal::LONGER, 0, words);
+    told(list(&TABLE, nobody, &mut [0]), Reason::NoMinimalSet, 0);
+    told(list(&TABLE, nobody, &mut []), Reason::NoMinimalSet, 0);
+    told(list(&TABLE, QUERY, &mut []), Reason::LongerList, 0);
 }
 
 /// Asks for the record of a set, with so many cells; tells the answer, if it
@@ -220,31 +178,28 @@ fn unwritten(table: &[u16], query: Query, set: u32, cells: usize) -> Result<usiz
 
 #[test]
 fn sets_that_are_not_listed() {
-    let words = "the set is not on the list of minimal sets";
     // Nothing, a part of the listed set, more than it, credentials that the
     // table does not have, and the greatest number.
     for set in [0, 6, 15, 32, 1 << 20, u32::MAX] {
         for cells in [0, 5, 6, 100] {
-            told(unwritten(&TABLE, QUERY, set, cells), 15, 0, words);
+            let answer = unwritten(&TABLE, QUERY, set, cells);
+            told(answer, Reason::NotListed, 0);
         }
     }
     let nobody = Query {
         principal: 9,
         ..QUERY
     };
-    let answer = unwritten(&TABLE, nobody, 7, 6);
-    told(answer, Refusal::NOT_LISTED, 0, words);
+    told(unwritten(&TABLE, nobody, 7, 6), Reason::NotListed, 0);
     let shallow = Query { depth: 1, ..QUERY };
-    told(unwritten(&TABLE, shallow, 7, 6), 15, 0, words);
+    told(unwritten(&TABLE, shallow, 7, 6), Reason::NotListed, 0);
 }
 
 #[test]
 fn records_that_are_longer_than_the_cells() {
-    let words = "fewer cells than the record has numbers";
     for cells in 0..RECORD.len() {
         let answer = unwritten(&TABLE, QUERY, 7, cells);
-        told(answer, Refusal::LONGER_RECORD, 0, words);
-        told(answer, 16, 0, words);
+        told(answer, Reason::LongerRecord, 0);
     }
     for more in 0..3 {
         let mut cells = vec![0xC000; RECORD.len() + more];
@@ -260,59 +215,60 @@ fn the_table_and_the_query_come_before_the_set() {
     let far = Query { depth: 17, ..QUERY };
     for (set, cells) in [(7, 6), (7, 0), (0, 6), (0, 0)] {
         let short = unwritten(&TABLE[..3], far, set, cells);
-        told(short, 1, 0, "fewer than 4 numbers");
-        told(unwritten(&spoiled, far, set, cells), 4, 3, "credential 3");
-        told(unwritten(&TABLE, far, set, cells), 8, 4, "depth");
+        told(short, Reason::ShortHead, 0);
+        let spoiled = unwritten(&spoiled, far, set, cells);
+        told(spoiled, Reason::Credential, 3);
+        told(unwritten(&TABLE, far, set, cells), Reason::Query, 4);
     }
-    // The list comes before the cells.
-    told(unwritten(&TABLE, QUERY, 8, 0), 15, 0, "not on the list");
-    told(unwritten(&TABLE, QUERY, 7, 0), 16, 0, "fewer cells");
 }
 
 #[test]
 fn records_that_end_too_soon_or_too_late() {
     for length in 0..RECORD.len() {
         let node = (length / layout::NODE) as u64 + 1;
-        let words = format!("node {node} has fewer than two numbers left");
-        told(verify(&TABLE, QUERY, &RECORD[..length]), 11, node, &words);
+        let answer = verify(&TABLE, QUERY, &RECORD[..length]);
+        told(answer, Reason::RecordLength, node);
     }
     for more in 1..4 {
         let longer = [&RECORD[..], &vec![1; more]].concat();
-        let words = "the tree ends before it and numbers are left over";
-        told(verify(&TABLE, QUERY, &longer), 11, 4, words);
+        told(verify(&TABLE, QUERY, &longer), Reason::RecordLength, 4);
     }
 }
 
 #[test]
 fn nodes_that_do_not_fit_their_goals() {
-    let of = |record: &[u16]| verify(&TABLE, QUERY, record);
-    told(of(&[0, 0]), 12, 1, "its credential is not in the table");
-    told(of(&[6, 0]), 12, 1, "its credential is not in the table");
-    told(of(&[2, 0]), 12, 1, "defines another role");
-    told(of(&[1, 4, 2, 0]), 12, 2, "names another principal");
-    for record in [&[1, 0][..], &[1, 65], &[4, 1], &[1, 2, 2, 2]] {
+    // Credentials that the table does not have, one that defines another role,
+    // one that names another principal, and four middles.
+    let wrong: [&[u16]; 8] = [
+        &[0, 0],
+        &[6, 0],
+        &[2, 0],
+        &[1, 4, 2, 0],
+        &[1, 0],
+        &[1, 65],
+        &[4, 1],
+        &[1, 2, 2, 2],
+    ];
+    for record in wrong {
         let node = (record.len() / layout::NODE) as u64;
-        told(of(record), 12, node, "its middle is wrong");
+        told(verify(&TABLE, QUERY, record), Reason::Node, node);
     }
 }
 
 #[test]
 fn branches_and_words() {
     let shallow = Query { depth: 1, ..QUERY };
-    let words = "node 2 is deeper than the depth limit";
-    told(verify(&TABLE, shallow, &RECORD), 13, 2, words);
-    let words = "its pair of principal and role is already on the branch";
-    told(verify(&TABLE, QUERY, &[4, 0, 4, 0]), 13, 2, words);
+    told(verify(&TABLE, shallow, &RECORD), Reason::Branch, 2);
+    let circle = [4, 0, 4, 0];
+    told(verify(&TABLE, QUERY, &circle), Reason::Branch, 2);
 
     // Principal 4 in 1.4 asks for 4 in 1.3 too, so credential 2 is made 4's.
-    let table = with(layout::credential(&TABLE, 2).start + 3, 4);
-    let query = Query { name: 4, ..QUERY };
-    let words = "automaton 1 is not met: it rejects a word of the record";
-    let record = [5, 0, 3, 0, 2, 0];
-    told(verify(&table, query, &record), 14, 1, words);
     // Both words begin with 1.4, so that with mark 1 none is accepted either.
-    let mut table = table;
-    table[layout::automaton(&TABLE, 1)][2] = layout::SOME_WORD;
-    let words = "or with mark 1 every word";
-    told(verify(&table, query, &record), 14, 1, words);
+    let mut table = with(layout::credential(&TABLE, 2).start + 3, 4);
+    let query = Query { name: 4, ..QUERY };
+    let record = [5, 0, 3, 0, 2, 0];
+    for mark in [layout::EVERY_WORD, layout::SOME_WORD] {
+        table[layout::automaton(&TABLE, 1)][2] = mark;
+        told(verify(&table, query, &record), Reason::Word, 1);
+    }
 }

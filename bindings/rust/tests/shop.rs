@@ -1,6 +1,7 @@
-//! The calls through the library, on the shop example.
+//! The calls through the library, on the shop example of docs/DEFINITION.md, and
+//! what the cells hold afterwards.
 
-use bwlchareg::{check, check_query, layout, list, verify, write, Query, Refusal};
+use bwlchareg::{list, verify, write, Query, Refusal};
 
 const T: [u16; 28] = [
     4, 0, 0, 0, //
@@ -35,46 +36,6 @@ fn refused<Accepted>(number: u32, position: u64) -> Result<Accepted, Refusal> {
 }
 
 #[test]
-fn the_shop_is_accepted() {
-    assert_eq!(check(&T), Ok(()));
-    assert_eq!(check_query(&T, Q), Ok(()));
-}
-
-#[test]
-fn slices_too_short_for_a_head_are_refused() {
-    for length in 0..4 {
-        assert_eq!(check(&T[..length]), refused(1, 0));
-        assert_eq!(check_query(&T[..length], Q), refused(1, 0));
-    }
-}
-
-#[test]
-fn a_refusal_has_its_position() {
-    let mut table = T;
-    table[layout::credential(&T, 3)][2] = 5; // its kind
-    assert_eq!(check(&table), refused(4, 3));
-    assert_eq!(check_query(&table, Q), refused(4, 3));
-}
-
-#[test]
-fn each_query_field_arrives_in_its_place() {
-    let changed: [fn(&mut Query); 4] = [
-        |query| query.principal = 65,
-        |query| query.owner = 65,
-        |query| query.name = 65,
-        |query| query.depth = 17,
-    ];
-    for (position, change) in (1..).zip(changed) {
-        let mut query = Q;
-        change(&mut query);
-        assert_eq!(check_query(&T, query), refused(8, position));
-        assert_eq!(verify(&T, query, &R), refused(8, position));
-        assert_eq!(list(&T, query, &mut [0]), refused(8, position));
-        assert_eq!(write(&T, query, 7, &mut [0; 6]), refused(8, position));
-    }
-}
-
-#[test]
 fn records_of_the_shop_are_judged() {
     let shallow = Query { depth: 1, ..Q };
     assert_eq!(verify(&T, Q, &R), Ok(7));
@@ -85,19 +46,6 @@ fn records_of_the_shop_are_judged() {
     assert_eq!(verify(&T, Q, &[1, 2, 2, 0]), refused(11, 3));
     assert_eq!(verify(&T, Q, &[1, 4, 2, 0, 3, 0]), refused(12, 2));
     assert_eq!(verify(&T, Q, &[1, 2, 2, 0, 3, 0, 9]), refused(11, 4));
-}
-
-#[test]
-fn empty_slices_are_judged() {
-    assert_eq!(verify(&T, Q, &[]), refused(11, 1));
-    assert_eq!(verify(&[], Q, &[]), refused(1, 0));
-    assert_eq!(verify(&[], Q, &R), refused(1, 0));
-}
-
-#[test]
-fn the_table_is_told_from_the_record() {
-    assert_eq!(verify(&R, Q, &T), refused(3, 0));
-    assert_eq!(verify(&T[..T.len() - 1], Q, &R), refused(3, 0));
 }
 
 /// What a cell holds before a listing. No set is so great.
@@ -168,34 +116,6 @@ fn records_of_the_shop_are_written() {
         ..Q
     };
     assert_eq!(written(&U, student, 4), (Ok(2), [3, 0]));
-}
-
-#[test]
-fn every_listed_set_of_the_shop_has_a_record_that_is_accepted() {
-    for (table, query) in [(&T[..], Q), (&U, Q), (&T, Query { depth: 16, ..Q })] {
-        let (count, sets) = listed::<3>(table, query);
-        for &set in &sets[..count.expect("a list")] {
-            let (length, record) = written::<10>(table, query, set);
-            let record = &record[..length.expect("a record")];
-            assert_eq!(verify(table, query, record), Ok(set));
-        }
-    }
-}
-
-#[test]
-fn a_refused_writing_leaves_the_cells() {
-    let shallow = Query { depth: 1, ..Q };
-    // The school's constraint, or a level too few, takes the set 7 away.
+    // The school's constraint takes the set 7 away.
     assert_eq!(written(&U, Q, 7), (refused(15, 0), [UNWRITTEN; 6]));
-    assert_eq!(written(&T, shallow, 7), (refused(15, 0), [UNWRITTEN; 6]));
-    // All four credentials prove it too, but the set is not minimal.
-    assert_eq!(written(&T, Q, 15), (refused(15, 0), [UNWRITTEN; 9]));
-    assert_eq!(written(&T, Q, 0), (refused(15, 0), []));
-    assert_eq!(written(&[0; 4], Q, 7), (refused(15, 0), [UNWRITTEN; 6]));
-    assert_eq!(written(&T, Q, 7), (refused(16, 0), [UNWRITTEN; 5]));
-    assert_eq!(written(&T, Q, 7), (refused(16, 0), []));
-    let short = &T[..T.len() - 1];
-    assert_eq!(written(short, Q, 7), (refused(3, 0), [UNWRITTEN; 6]));
-    let deep = Query { depth: 17, ..Q };
-    assert_eq!(written(&T, deep, 7), (refused(8, 4), [UNWRITTEN; 6]));
 }

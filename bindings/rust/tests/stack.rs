@@ -155,14 +155,6 @@ fn a_record_of_sixteen_levels_needs_little_stack() {
 }
 
 #[test]
-fn a_list_of_sixteen_levels_and_twenty_credentials_needs_little_stack() {
-    let (count, cells) = in_a_stack_of(LISTING, || listed(&deepest()));
-    assert_eq!(count, Ok(5));
-    let members = [1 << 15, 1 << 16, 1 << 17, 1 << 18, 1 << 19];
-    assert_eq!(cells[..5], members.map(|member: u32| 0x7fff | member));
-}
-
-#[test]
 fn lists_of_sixteen_levels_need_little_stack() {
     for table in [deepest(), chained(), linked()] {
         needs_little_stack(table, 5);

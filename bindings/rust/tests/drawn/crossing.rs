@@ -18,7 +18,7 @@ const MIDDLE: u16 = 3;
 /// The most ways, and the last principal that a table names.
 const WAYS: u16 = 3;
 pub const LAST_PRINCIPAL: u16 = MIDDLE + WAYS - 1;
-/// The names of the roles; parts and ways are numbered behind theirs.
+/// The names of the roles; parts and ways are numbered after theirs.
 const GOAL: u16 = 1;
 const SHARED: u16 = 2;
 const LINK: u16 = 3;
@@ -110,7 +110,7 @@ fn add_automaton(records: &mut Records, part: u16, wish: Wish) {
             records.edges.push(edge(0, 1, [OWNER, part], 1));
             records.edges.push(edge(1, 3, way, 1));
         }
-        // Behind the way's role, which is the last of a word, it is in state 1.
+        // After the way's role, which is the last of a word, it is in state 1.
         Wish::Some(way) => {
             records.automata.push([1, 2, layout::SOME_WORD]);
             records.edges.push(edge(0, 2, [0, 0], 0));

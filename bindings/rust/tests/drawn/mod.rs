@@ -4,7 +4,7 @@
 
 pub mod crossing;
 
-use bwlchareg::{layout, list, Query};
+use bwlchareg::{layout, minimal_sets, Query};
 
 /// SplitMix64: a counter that goes up by a fixed odd step, whose bits are then
 /// mixed.
@@ -170,16 +170,9 @@ fn role(random: &mut Random) -> [u16; 2] {
     [random.between(1, 2), random.between(1, 3)]
 }
 
-/// Cells for every list of a drawn table: of twelve credentials there are never
-/// more minimal sets, since none is a part of another.
-const WHOLE: usize = 924;
-
 /// The whole list of a drawn table, empty where there is none.
 pub fn listed(table: &[u16], query: Query) -> Vec<u32> {
-    let mut sets = vec![0; WHOLE];
-    let count = list(table, query, &mut sets).unwrap_or(0);
-    sets.truncate(count);
-    sets
+    minimal_sets(table, query).unwrap_or_default()
 }
 
 /// A query, valid most of the time, for a role of the table where there is one.
