@@ -1,75 +1,90 @@
 //! What the command line asks for.
 
 use std::collections::BTreeMap;
-use std::ffi::OsString;
+use std::ffi::{OsStr, OsString};
+use std::fmt;
+use std::os::unix::ffi::OsStrExt;
 use std::path::PathBuf;
 
 use wallet::decimal::set;
 
-/// How the tool is called.
-pub const USAGE: &str = "\
-usage: wallet encode WALLET                   writes the listing program's input
-       wallet list WALLET                     lists all minimal sets, in words
-       wallet explain WALLET < OUTPUT         says in words what the program printed
-       wallet decode [--names WALLET] < INPUT writes the text of an input
-       wallet upgrade < INPUT                 gives an input of the base layout its marks
-       wallet prove WALLET [SET]              writes the record of a listed set, or of each
-       wallet verify WALLET RECORD            verifies a proof record, in words
-       wallet draw WALLET RECORD              the same as a picture
-WALLET is a file or `-`, standard input. `-o FILE` writes to a file.
-SET is a number of the list. With `--numbers` its record is written and nothing else.
-RECORD is numbers, with a principal's name for a middle if you like: `1 School 2 0 3 0`;
-or `--record FILE`, where FILE has them and may be `-`; or `--set SET`, the record of a set.
-`--query \"D in A.r within 2\"` asks this in the place of the wallet's own query.
-";
+use crate::failure::Wrong;
+use crate::usage::{overview, Known};
 
-/// A command, and where its output goes.
+/// A command, how it answers, and where.
 #[derive(Debug, PartialEq, Eq)]
 pub struct Arguments {
+    /// The command's name.
+    pub name: &'static str,
     /// The command.
     pub command: Command,
-    /// The file behind `-o`.
+    /// How it answers.
+    pub form: Form,
+    /// The file after `-o`.
     pub output: Option<PathBuf>,
+    /// All that is read.
+    pub sources: Vec<Source>,
 }
 
 /// A command with what it is about.
 #[derive(Debug, PartialEq, Eq)]
 pub enum Command {
-    /// Writes the listing program's input.
-    Encode(Asked),
+    /// Checks a wallet.
+    Check(Asked),
     /// Lists all minimal sets.
     List(Asked),
-    /// Explains what the listing program printed.
-    Explain(Asked),
-    /// Writes the text of an input, in the words of a wallet.
-    Decode(Option<Source>),
-    /// Writes an input of the base layout with marks.
-    Upgrade,
-    /// Writes records of listed sets.
-    Prove(Asked, Wanted),
+    /// Says what stands in the way.
+    Why(Asked),
+    /// Writes the record of a set, or of every listed set.
+    Prove(Asked, Option<u32>),
     /// Verifies a record.
     Verify(Asked, Given),
     /// Draws a record.
     Draw(Asked, Given),
-    /// Says how the tool is called.
-    Help,
+    /// Writes a page about a query.
+    Report(Asked),
+    /// Writes the listing program's input.
+    Encode(Asked),
+    /// Explains what the listing program printed.
+    Explain(Asked),
+    /// Writes the text of an input, in the names of a wallet.
+    Decode(Option<Source>),
+    /// Writes an input of the base layout with marks.
+    Upgrade,
+    /// Says how the tool, or a command, is called.
+    Help(Option<Known>),
+    /// Says which version the tool is.
+    Version,
 }
 
-/// Which records are to be written, and how.
-#[derive(Clone, Copy, Debug, PartialEq, Eq)]
-pub enum Wanted {
-    /// That of every listed set, with its tree.
-    Every,
-    /// That of one set, with its tree.
-    One(u32),
-    /// The numbers of that of one set, and nothing else.
-    Numbers(u32),
+/// How a command answers.
+#[derive(Clone, Copy, Debug, Default, PartialEq, Eq)]
+pub enum Form {
+    /// In words, or in the one form that it has.
+    #[default]
+    Words,
+    /// With a JSON object.
+    Json,
+    /// With the count of sets.
+    Count,
+    /// With the numbers of the sets.
+    Sets,
+    /// With the numbers of a record.
+    Numbers,
 }
+
+/// The options that choose a form. One call has one of them.
+const FORMS: [(&str, Form); 4] = [
+    ("--json", Form::Json),
+    ("--count", Form::Count),
+    ("--sets", Form::Sets),
+    ("--numbers", Form::Numbers),
+];
 
 /// Where a record comes from.
 #[derive(Clone, Debug, PartialEq, Eq)]
 pub enum Given {
-    /// From the words behind the wallet.
+    /// From the words after the wallet.
     Words(String),
     /// From a file, or from standard input.
     Text(Source),
@@ -82,7 +97,7 @@ pub enum Given {
 pub struct Asked {
     /// The wallet.
     pub wallet: Source,
-    /// The query behind `--query`, which goes before the wallet's own.
+    /// The query after `--query`, which goes before the wallet's own.
     pub query: Option<OsString>,
 }
 
@@ -95,397 +110,461 @@ pub enum Source {
     File(PathBuf),
 }
 
-impl Source {
-    fn new(word: OsString) -> Source {
-        if word == "-" {
-            Source::Standard
-        } else {
-            Source::File(PathBuf::from(word))
+impl fmt::Display for Source {
+    fn fmt(&self, out: &mut fmt::Formatter<'_>) -> fmt::Result {
+        match self {
+            Source::Standard => out.write_str("standard input"),
+            Source::File(path) => write!(out, "{}", path.display()),
         }
     }
 }
 
-/// An option: how it is written, what stands behind it, if anything does, and
-/// what it belongs to.
-struct Known {
-    name: &'static str,
-    value: Option<&'static str>,
-    belongs: &'static str,
+/// A call that is wrong.
+#[derive(Debug, PartialEq, Eq)]
+pub struct Misuse {
+    /// What is wrong with it.
+    pub wrong: Wrong,
+    /// The command, if there is one.
+    pub command: Option<&'static str>,
+    /// Whether it asks for JSON.
+    pub json: bool,
 }
-
-/// All options. `-o` belongs to every command.
-const OPTIONS: [Known; 6] = [
-    Known {
-        name: "-o",
-        value: Some("file"),
-        belongs: "",
-    },
-    Known {
-        name: "--names",
-        value: Some("wallet"),
-        belongs: "`decode`",
-    },
-    Known {
-        name: "--query",
-        value: Some("query"),
-        belongs: "commands that ask about a wallet",
-    },
-    Known {
-        name: "--set",
-        value: Some("set"),
-        belongs: "`verify` and `draw`",
-    },
-    Known {
-        name: "--record",
-        value: Some("file"),
-        belongs: "`verify` and `draw`",
-    },
-    Known {
-        name: "--numbers",
-        value: None,
-        belongs: "`prove`",
-    },
-];
 
 /// Reads the arguments, or says what is wrong with them.
-pub fn read(mut words: impl Iterator<Item = OsString>) -> Result<Arguments, String> {
-    let name = words.next().ok_or("a command is missing")?;
-    let mut rest = Rest::new(words)?;
-    let output = rest.options.remove("-o").map(PathBuf::from);
-    let command = match name.to_str() {
-        Some("encode") => Command::Encode(rest.asked()?),
-        Some("list") => Command::List(rest.asked()?),
-        Some("explain") => {
-            let asked = rest.asked()?;
-            alone(&asked.wallet, "OUTPUT")?;
-            Command::Explain(asked)
-        }
-        Some("decode") => {
-            let names = rest.options.remove("--names").map(Source::new);
-            names.iter().try_for_each(|source| alone(source, "INPUT"))?;
-            Command::Decode(names)
-        }
-        Some("upgrade") => Command::Upgrade,
-        Some("prove") => Command::Prove(rest.asked()?, rest.wanted()?),
-        Some("verify") => {
-            let (asked, given) = rest.judged()?;
-            Command::Verify(asked, given)
-        }
-        Some("draw") => {
-            let (asked, given) = rest.judged()?;
-            Command::Draw(asked, given)
-        }
-        Some("help" | "--help" | "-h") => Command::Help,
-        _ => return Err(format!("unknown command `{}`", name.display())),
+pub fn read(mut words: impl Iterator<Item = OsString>) -> Result<Arguments, Misuse> {
+    let Some(name) = words.next() else {
+        return Err(Misuse {
+            wrong: Wrong::call("a command is missing", overview()),
+            command: None,
+            json: false,
+        });
     };
-    rest.end()?;
-    Ok(Arguments { command, output })
+    let name = match name.to_str() {
+        Some("--version" | "-V") => return Ok(Arguments::plain("--version", Command::Version)),
+        Some("--help" | "-h") => OsString::from("help"),
+        _ => name,
+    };
+    let known = known(&name).map_err(|wrong| Misuse {
+        wrong,
+        command: None,
+        json: words.any(|word| word == "--json"),
+    })?;
+    let mut line = Line::new(known, words);
+    let (name, json) = (line.known.name, line.options.contains_key("--json"));
+    // Help is given whatever else is wrong.
+    if line.options.contains_key("--help") {
+        return Ok(Arguments::plain("help", Command::Help(Some(line.known))));
+    }
+    line.read().map_err(|wrong| Misuse {
+        wrong,
+        command: Some(name),
+        json,
+    })
 }
 
-/// The words behind the command that have not been read.
-struct Rest {
-    /// What stands behind each option that is there.
+impl Arguments {
+    /// A command without options.
+    fn plain(name: &'static str, command: Command) -> Arguments {
+        Arguments {
+            name,
+            command,
+            form: Form::default(),
+            output: None,
+            sources: Vec::new(),
+        }
+    }
+}
+
+/// The command of a name.
+fn known(name: &OsStr) -> Result<Known, Wrong> {
+    let known = name.to_str().and_then(Known::named);
+    known.ok_or_else(|| {
+        let message = format!("unknown command `{}`", name.display());
+        Wrong::call(message, "`wallet help` lists the commands")
+    })
+}
+
+/// What stands after the command.
+struct Line {
+    known: Known,
+    /// The value of each option that is there.
     options: BTreeMap<&'static str, OsString>,
-    /// All other words.
+    /// All other words that have not been read.
     words: std::vec::IntoIter<OsString>,
+    /// What is wrong with the options.
+    wrong: Option<String>,
+    /// What is to be read.
+    sources: Vec<Source>,
 }
 
-impl Rest {
-    /// Sets the options apart, wherever they stand.
-    fn new(mut all: impl Iterator<Item = OsString>) -> Result<Rest, String> {
-        let mut options = BTreeMap::new();
+impl Line {
+    /// Sets the options apart, wherever they stand before a `--`.
+    fn new(known: Known, mut all: impl Iterator<Item = OsString>) -> Line {
+        let mut line = Line {
+            known,
+            options: BTreeMap::new(),
+            words: Vec::new().into_iter(),
+            wrong: None,
+            sources: Vec::new(),
+        };
+        if known.reads_standard_input() {
+            line.sources.push(Source::Standard);
+        }
         let mut words = Vec::new();
         while let Some(word) = all.next() {
-            let Some(Known { name, value, .. }) = OPTIONS.iter().find(|known| word == known.name)
-            else {
-                if word.to_string_lossy().starts_with("--") {
-                    return Err(unknown(&word));
-                }
+            if word == "--" {
+                words.extend(all);
+                break;
+            }
+            if word == "-" || !word.as_bytes().starts_with(b"-") {
                 words.push(word);
-                continue;
-            };
-            let value = match value {
-                None => OsString::new(),
-                Some(what) => all
-                    .next()
-                    .ok_or(format!("the {what} behind `{name}` is missing"))?,
-            };
-            if options.insert(*name, value).is_some() {
-                return Err(format!("`{name}` stands twice"));
+            } else if let Err(message) = line.option(&word, &mut all) {
+                line.wrong.get_or_insert(message);
             }
         }
-        Ok(Rest {
-            options,
-            words: words.into_iter(),
+        line.words = words.into_iter();
+        line
+    }
+
+    /// Adds an option, whose value is after its `=` or is the next word.
+    fn option(
+        &mut self,
+        word: &OsStr,
+        rest: &mut impl Iterator<Item = OsString>,
+    ) -> Result<(), String> {
+        let (written, attached) = split(word);
+        let name = match written.to_str() {
+            Some("-h") => "--help",
+            Some("--output") => "-o",
+            name => name.unwrap_or_default(),
+        };
+        let Some((name, value)) = self.known.option(name) else {
+            let (command, option) = (self.known.name, written.display());
+            return Err(format!("`{command}` has no option `{option}`"));
+        };
+        let given = match (value, attached) {
+            (None, Some(_)) => return Err(format!("`{name}` takes no value")),
+            (None, None) => OsString::new(),
+            (Some(_), Some(attached)) => attached.to_owned(),
+            (Some(what), None) => rest.next().ok_or(format!("`{name}` needs a {what}"))?,
+        };
+        match self.options.insert(name, given) {
+            Some(_) => Err(format!("`{name}` is given twice")),
+            None => Ok(()),
+        }
+    }
+
+    /// The arguments, if nothing is wrong with them and nothing is left over.
+    fn read(&mut self) -> Result<Arguments, Wrong> {
+        if let Some(message) = self.wrong.take() {
+            return Err(self.misused(message));
+        }
+        let output = self.options.remove("-o").map(PathBuf::from);
+        let form = self.form()?;
+        let command = self.command(form)?;
+        let standard = self.sources.iter().filter(|own| **own == Source::Standard);
+        if standard.count() > 1 {
+            let message = "two things are to be read from standard input; give one as a file";
+            return Err(self.misused(message.to_string()));
+        }
+        match self.words.next() {
+            Some(word) => Err(self.misused(format!("unexpected argument `{}`", word.display()))),
+            None => Ok(Arguments {
+                name: self.known.name,
+                command,
+                form,
+                output,
+                sources: std::mem::take(&mut self.sources),
+            }),
+        }
+    }
+
+    /// How the command is to answer.
+    fn form(&mut self) -> Result<Form, Wrong> {
+        let mut forms = FORMS
+            .iter()
+            .filter(|(name, _)| self.options.contains_key(name));
+        match (forms.next(), forms.next()) {
+            (Some((one, _)), Some((other, _))) => {
+                let message = format!("`{one}` and `{other}` cannot be given together");
+                Err(self.misused(message))
+            }
+            (first, _) => Ok(first.map_or(Form::Words, |(_, form)| *form)),
+        }
+    }
+
+    /// The command with what it is about.
+    fn command(&mut self, form: Form) -> Result<Command, Wrong> {
+        Ok(match self.known.name {
+            "check" => Command::Check(self.asked()?),
+            "list" => Command::List(self.asked()?),
+            "why" => Command::Why(self.asked()?),
+            "prove" => Command::Prove(self.asked()?, self.wanted(form)?),
+            "verify" => Command::Verify(self.asked()?, self.given()?),
+            "draw" => Command::Draw(self.asked()?, self.given()?),
+            "report" => Command::Report(self.asked()?),
+            "encode" => Command::Encode(self.asked()?),
+            "explain" => Command::Explain(self.asked()?),
+            "decode" => {
+                let names = self.options.remove("--names");
+                Command::Decode(names.map(|names| self.source(names)))
+            }
+            "upgrade" => Command::Upgrade,
+            _ => Command::Help(self.words.next().map(|name| known(&name)).transpose()?),
         })
     }
 
-    /// The wallet and the query about it.
-    fn asked(&mut self) -> Result<Asked, String> {
+    /// The wallet, which is the first word, and the query about it.
+    fn asked(&mut self) -> Result<Asked, Wrong> {
+        let wallet = self.words.next();
+        let wallet = wallet.ok_or_else(|| {
+            let command = self.known.name;
+            self.misused(format!("`{command}` needs a WALLET"))
+        })?;
         Ok(Asked {
-            wallet: self.wallet()?,
+            wallet: self.source(wallet),
             query: self.options.remove("--query"),
         })
     }
 
-    /// The wallet, which is the first word.
-    fn wallet(&mut self) -> Result<Source, String> {
-        let word = self.words.next().ok_or("the wallet's file is missing")?;
-        if word != "-" && word.to_string_lossy().starts_with('-') {
-            return Err(unknown(&word));
-        }
-        Ok(Source::new(word))
+    /// Something to be read.
+    fn source(&mut self, word: OsString) -> Source {
+        let source = match word == "-" {
+            true => Source::Standard,
+            false => Source::File(PathBuf::from(word)),
+        };
+        self.sources.push(source.clone());
+        source
     }
 
     /// The set whose record is wanted, which is the next word, if there is one.
-    fn wanted(&mut self) -> Result<Wanted, String> {
-        let set = match self.words.next() {
-            Some(word) => Some(set(&word.to_string_lossy())?),
-            None => None,
-        };
-        let bare = self.options.remove("--numbers").is_some();
-        match (set, bare) {
-            (None, false) => Ok(Wanted::Every),
-            (Some(set), false) => Ok(Wanted::One(set)),
-            (Some(set), true) => Ok(Wanted::Numbers(set)),
-            (None, true) => {
-                Err("`--numbers` is for one set: name it behind the wallet".to_string())
+    fn wanted(&mut self, form: Form) -> Result<Option<u32>, Wrong> {
+        match self.words.next() {
+            Some(word) => number_of_set(&word).map(Some),
+            None if form == Form::Numbers => {
+                Err(self.misused("`--numbers` needs a SET".to_string()))
             }
+            None => Ok(None),
         }
-    }
-
-    /// The wallet and the query about it, and the record.
-    fn judged(&mut self) -> Result<(Asked, Given), String> {
-        let asked = self.asked()?;
-        let given = self.given()?;
-        if given == Given::Text(Source::Standard) {
-            alone(&asked.wallet, "the record")?;
-        }
-        Ok((asked, given))
     }
 
     /// The record, which has one source: all other words, or an option.
-    fn given(&mut self) -> Result<Given, String> {
-        let words: Vec<String> = self
-            .words
-            .by_ref()
-            .map(|word| word.to_string_lossy().into_owned())
-            .collect();
+    fn given(&mut self) -> Result<Given, Wrong> {
+        let words: Vec<OsString> = self.words.by_ref().collect();
         let file = self.options.remove("--record");
         match (words.first(), file, self.options.remove("--set")) {
-            (_, None, None) => Ok(Given::Words(words.join(" "))),
-            (None, Some(file), None) => Ok(Given::Text(Source::new(file))),
-            (None, None, Some(word)) => Ok(Given::Set(set(&word.to_string_lossy())?)),
-            (Some(_), Some(_), _) => Err(given_twice("numbers", "`--record`")),
-            (Some(_), _, Some(_)) => Err(given_twice("numbers", "`--set`")),
-            (None, Some(_), Some(_)) => Err(given_twice("`--record`", "`--set`")),
+            (_, None, None) => Ok(Given::Words(
+                words.join(OsStr::new(" ")).to_string_lossy().into_owned(),
+            )),
+            (None, Some(file), None) => Ok(Given::Text(self.source(file))),
+            (None, None, Some(word)) => number_of_set(&word).map(Given::Set),
+            _ => Err(self.misused("the record is given more than once".to_string())),
         }
     }
 
-    /// Nothing may be left over.
-    fn end(&mut self) -> Result<(), String> {
-        let mut left = OPTIONS
-            .iter()
-            .filter(|known| self.options.contains_key(known.name));
-        if let Some(Known { name, belongs, .. }) = left.next() {
-            return Err(format!("`{name}` belongs to {belongs}"));
-        }
-        match self.words.next() {
-            None => Ok(()),
-            Some(word) => Err(format!("`{}` is too much", word.display())),
-        }
+    /// A call of the command that is wrong.
+    fn misused(&self, message: String) -> Wrong {
+        Wrong::call(message, self.known.line())
     }
 }
 
-/// An option that there is not.
-fn unknown(word: &OsString) -> String {
-    format!("unknown option `{}`", word.display())
-}
-
-/// Two sources of one record.
-fn given_twice(one: &str, other: &str) -> String {
-    format!("the record is given twice, by {one} and by {other}: leave one of them out")
-}
-
-/// A wallet beside something else that is read from standard input.
-fn alone(source: &Source, other: &str) -> Result<(), String> {
-    match source {
-        Source::Standard => Err(format!(
-            "standard input is for {other}: name the wallet's file"
-        )),
-        Source::File(_) => Ok(()),
+/// An option's name, and the value after its `=`, if there is one.
+fn split(word: &OsStr) -> (&OsStr, Option<&OsStr>) {
+    let bytes = word.as_bytes();
+    let equals = bytes.iter().position(|byte| *byte == b'=');
+    match equals.filter(|_| bytes.starts_with(b"--")) {
+        Some(place) => {
+            let (name, value) = (&bytes[..place], &bytes[place + 1..]);
+            (OsStr::from_bytes(name), Some(OsStr::from_bytes(value)))
+        }
+        None => (word, None),
     }
+}
+
+/// A set by its number.
+fn number_of_set(word: &OsStr) -> Result<u32, Wrong> {
+    set(&word.to_string_lossy()).map_err(Wrong::new)
 }
 
 #[cfg(test)]
 mod tests {
-    use super::{read, Arguments, Asked, Command, Given, Source, Wanted};
+    use super::{read, Arguments, Asked, Command, Form, Given, Misuse, Source};
+    use crate::usage::Known;
     use std::ffi::OsString;
     use std::path::PathBuf;
 
-    fn asked(line: &str) -> Result<Arguments, String> {
+    fn asked(line: &str) -> Result<Arguments, Misuse> {
         read(line.split_whitespace().map(Into::into))
     }
 
-    fn command(line: &str) -> Result<Command, String> {
-        asked(line).map(|arguments| arguments.command)
+    #[track_caller]
+    fn command(line: &str) -> Command {
+        asked(line).expect(line).command
     }
 
     fn file(name: &str) -> Source {
         Source::File(PathBuf::from(name))
     }
 
-    /// A record on the command line.
-    fn words(text: &str) -> Given {
-        Given::Words(text.to_string())
-    }
-
-    /// A wallet's own query.
-    fn own(wallet: Source) -> Asked {
+    /// The file `w`, with its own query.
+    fn own() -> Asked {
         Asked {
-            wallet,
+            wallet: file("w"),
             query: None,
         }
     }
 
+    fn words(text: &str) -> Given {
+        Given::Words(text.to_string())
+    }
+
     #[test]
     fn commands_are_read() {
-        assert_eq!(command("encode w"), Ok(Command::Encode(own(file("w")))));
-        assert_eq!(command("list -"), Ok(Command::List(own(Source::Standard))));
-        assert_eq!(command("explain w"), Ok(Command::Explain(own(file("w")))));
-        assert_eq!(command("decode"), Ok(Command::Decode(None)));
-        let named = Ok(Command::Decode(Some(file("w"))));
-        assert_eq!(command("decode --names w"), named);
-        assert_eq!(command("upgrade"), Ok(Command::Upgrade));
-        let verify = Ok(Command::Verify(own(Source::Standard), words("1 2")));
-        assert_eq!(command("verify - 1 2"), verify);
-        let draw = Ok(Command::Draw(own(file("w")), words("")));
-        assert_eq!(command("draw w"), draw);
-        assert_eq!(command("help"), Ok(Command::Help));
-    }
-
-    #[test]
-    fn sets_are_read() {
-        let prove = |wanted| Ok(Command::Prove(own(file("w")), wanted));
-        assert_eq!(command("prove w"), prove(Wanted::Every));
-        assert_eq!(command("prove w 7"), prove(Wanted::One(7)));
-        for line in ["prove w 7 --numbers", "prove --numbers w 7"] {
-            assert_eq!(command(line), prove(Wanted::Numbers(7)), "{line}");
+        for (line, expected) in [
+            ("check w", Command::Check(own())),
+            ("list w", Command::List(own())),
+            ("why w", Command::Why(own())),
+            ("report w", Command::Report(own())),
+            ("encode w", Command::Encode(own())),
+            ("explain w", Command::Explain(own())),
+            ("decode", Command::Decode(None)),
+            ("decode --names w", Command::Decode(Some(file("w")))),
+            ("upgrade", Command::Upgrade),
+            ("prove w", Command::Prove(own(), None)),
+            ("prove w 7", Command::Prove(own(), Some(7))),
+            ("verify w", Command::Verify(own(), words(""))),
+            (
+                "verify w 1 School, 2",
+                Command::Verify(own(), words("1 School, 2")),
+            ),
+            ("draw w --set 0", Command::Draw(own(), Given::Set(0))),
+            (
+                "draw --record r w",
+                Command::Draw(own(), Given::Text(file("r"))),
+            ),
+            (
+                "draw w --record -",
+                Command::Draw(own(), Given::Text(Source::Standard)),
+            ),
+            ("help", Command::Help(None)),
+            ("help list", Command::Help(Known::named("list"))),
+            ("--help", Command::Help(None)),
+            ("--version", Command::Version),
+        ] {
+            assert_eq!(command(line), expected, "{line}");
         }
-        let draw = Ok(Command::Draw(own(Source::Standard), Given::Set(0)));
-        assert_eq!(command("draw - --set 0"), draw);
+        let standard = Asked {
+            wallet: Source::Standard,
+            query: None,
+        };
+        assert_eq!(command("list -"), Command::List(standard));
     }
 
     #[test]
-    fn a_record_has_a_source() {
-        let verify = |given| Ok(Command::Verify(own(file("w")), given));
-        let named = words("1 School, 2 0");
-        assert_eq!(command("verify w 1 School, 2 0"), verify(named));
-        for line in ["verify w --set 7", "verify --set 7 w"] {
-            assert_eq!(command(line), verify(Given::Set(7)), "{line}");
-        }
-        let from_file = verify(Given::Text(file("r")));
-        assert_eq!(command("verify w --record r"), from_file);
-        let standard = verify(Given::Text(Source::Standard));
-        assert_eq!(command("verify --record - w"), standard);
-        // A wallet from standard input, and a record from a file.
-        let both = Command::Draw(own(Source::Standard), Given::Text(file("r")));
-        assert_eq!(command("draw - --record r"), Ok(both));
-    }
-
-    #[test]
-    fn a_file_for_the_output_stands_anywhere_behind_the_command() {
-        for line in ["verify -o f w 1", "verify w -o f 1", "verify w 1 -o f"] {
-            let arguments = asked(line).expect("a right call");
+    fn options_stand_anywhere_and_have_values() {
+        let query = Some(OsString::from("D=A"));
+        for line in [
+            "verify w 1 --query D=A -o f",
+            "verify --output=f --query=D=A w 1",
+        ] {
+            let arguments = asked(line).expect(line);
             assert_eq!(arguments.output, Some(PathBuf::from("f")), "{line}");
-            let verify = Command::Verify(own(file("w")), words("1"));
+            let wallet = file("w");
+            let query = query.clone();
+            let verify = Command::Verify(Asked { wallet, query }, words("1"));
             assert_eq!(arguments.command, verify, "{line}");
         }
-    }
-
-    #[test]
-    fn a_query_stands_anywhere_behind_the_command() {
-        let wallet = file("w");
-        let query = Some(OsString::from("D-in-A.r"));
-        let asked = Asked { wallet, query };
-        for line in [
-            "verify w 1 2 --query D-in-A.r",
-            "verify w --query D-in-A.r 1 2",
-            "verify --query D-in-A.r w 1 2",
+        for (line, form) in [
+            ("list w", Form::Words),
+            ("list w --json", Form::Json),
+            ("list --count w", Form::Count),
+            ("list w --sets", Form::Sets),
+            ("prove w 7 --numbers", Form::Numbers),
         ] {
-            let verify = Command::Verify(asked.clone(), words("1 2"));
-            assert_eq!(command(line), Ok(verify), "{line}");
+            assert_eq!(asked(line).expect(line).form, form, "{line}");
         }
-        let line = |name| format!("{name} w --query D-in-A.r");
-        for (name, expected) in [
-            ("encode", Command::Encode(asked.clone())),
-            ("list", Command::List(asked.clone())),
-            ("explain", Command::Explain(asked.clone())),
-            ("prove", Command::Prove(asked.clone(), Wanted::Every)),
-            ("draw", Command::Draw(asked.clone(), words(""))),
-        ] {
-            assert_eq!(command(&line(name)), Ok(expected));
-        }
-    }
-
-    #[test]
-    fn wrong_calls_are_told() {
-        let told = |line: &str| asked(line).expect_err("a wrong call");
-        assert_eq!(told(""), "a command is missing");
-        assert_eq!(told("-o f list w"), "unknown command `-o`");
-        assert_eq!(told("list"), "the wallet's file is missing");
-        assert_eq!(told("list -x"), "unknown option `-x`");
-        assert_eq!(told("list w v"), "`v` is too much");
-        assert_eq!(told("list w -o"), "the file behind `-o` is missing");
-        assert_eq!(told("list w -o f -o f"), "`-o` stands twice");
-        assert_eq!(told("list w --names v"), "`--names` belongs to `decode`");
-        assert_eq!(
-            told("list w --query"),
-            "the query behind `--query` is missing"
+        let dashed = Command::Verify(
+            Asked {
+                wallet: file("--json"),
+                query: None,
+            },
+            words("-o --"),
         );
-        let twice = "`--query` stands twice";
-        assert_eq!(told("list w --query q --query q"), twice);
-        let no_wallet = "`--query` belongs to commands that ask about a wallet";
-        assert_eq!(told("decode --query q"), no_wallet);
-        assert_eq!(told("help --query q"), no_wallet);
-        assert_eq!(told("decode w"), "`w` is too much");
-        assert_eq!(told("upgrade w"), "`w` is too much");
-        assert_eq!(told("upgrade --names w"), "`--names` belongs to `decode`");
-        let standard = "standard input is for OUTPUT: name the wallet's file";
-        assert_eq!(told("explain -"), standard);
-        let standard = "standard input is for INPUT: name the wallet's file";
-        assert_eq!(told("decode --names -"), standard);
-        assert_eq!(told("verify w --sets 7"), "unknown option `--sets`");
+        assert_eq!(command("verify -- --json -o --"), dashed);
     }
 
     #[test]
-    fn wrong_sets_and_records_are_told() {
-        let told = |line: &str| asked(line).expect_err("a wrong call");
-        assert_eq!(told("prove w 7 8"), "`8` is too much");
-        let one = "`--numbers` is for one set: name it behind the wallet";
-        assert_eq!(told("prove w --numbers"), one);
-        for line in ["prove w 1,2,3", "verify w --set 1,2,3"] {
-            let told = told(line);
-            assert!(told.starts_with("the set is `1,2,3`; write its"), "{told}");
+    fn every_command_has_help_whatever_else_is_wrong() {
+        for known in Known::all() {
+            for line in [
+                "--help",
+                "-h",
+                "--nonsense --help",
+                "a b c -o --help --help",
+            ] {
+                let line = format!("{} {line}", known.name);
+                assert_eq!(command(&line), Command::Help(Some(known)), "{line}");
+            }
+            let help = known.help();
+            assert!(help.starts_with(&known.line()), "{help}");
+            let longest = help.lines().map(str::len).max();
+            assert!(longest.is_some_and(|longest| longest <= 100), "{help}");
         }
-        let belongs = |name: &str, to: &str| format!("`{name}` belongs to {to}");
-        let judging = "`verify` and `draw`";
-        assert_eq!(told("prove w --set 7"), belongs("--set", judging));
-        assert_eq!(told("list w --record r"), belongs("--record", judging));
-        let numbers = belongs("--numbers", "`prove`");
-        assert_eq!(told("verify w 1 --numbers"), numbers);
-        assert_eq!(told("list w --set"), "the set behind `--set` is missing");
-        for (line, one, other) in [
-            ("verify w 1 --record r", "numbers", "`--record`"),
-            ("draw w --set 7 1", "numbers", "`--set`"),
-            ("verify w --record r --set 7", "`--record`", "`--set`"),
-            ("verify w 1 --record r --set 7", "numbers", "`--record`"),
+    }
+
+    #[test]
+    fn wrong_calls_are_told_with_the_usage_of_the_command() {
+        let twice = "the record is given more than once";
+        let standard = "two things are to be read from standard input; give one as a file";
+        for (line, message) in [
+            ("list", "`list` needs a WALLET"),
+            ("list w v", "unexpected argument `v`"),
+            ("upgrade w", "unexpected argument `w`"),
+            ("list -x w", "`list` has no option `-x`"),
+            ("list w --names v", "`list` has no option `--names`"),
+            ("list w --set=7", "`list` has no option `--set`"),
+            ("list w -o", "`-o` needs a FILE"),
+            ("list w --query", "`--query` needs a QUERY"),
+            ("list w -o f --output f", "`-o` is given twice"),
+            ("list w --json=1", "`--json` takes no value"),
+            (
+                "list w --sets --json",
+                "`--json` and `--sets` cannot be given together",
+            ),
+            ("prove w --numbers", "`--numbers` needs a SET"),
+            ("explain -", standard),
+            ("decode --names -", standard),
+            ("draw - --record -", standard),
+            ("verify w 1 --record r", twice),
+            ("draw w --set 7 1", twice),
+            ("verify w --record r --set 7", twice),
         ] {
-            let twice = "the record is given twice, by";
-            let words = format!("{twice} {one} and by {other}: leave one of them out");
-            assert_eq!(told(line), words, "{line}");
+            let Misuse {
+                wrong,
+                command,
+                json,
+            } = asked(line).expect_err(line);
+            assert_eq!(wrong.message, message, "{line}");
+            let known = Known::named(line.split(' ').next().unwrap_or_default());
+            let known = known.expect("a command");
+            assert_eq!((wrong.usage, command), (known.line(), Some(known.name)));
+            assert_eq!(json, line.ends_with("--json"), "{line}");
         }
-        let standard = "standard input is for the record: name the wallet's file";
-        assert_eq!(told("draw - --record -"), standard);
+        for (line, message) in [
+            ("", "a command is missing"),
+            ("lists w", "unknown command `lists`"),
+            ("-o f list w", "unknown command `-o`"),
+            ("help lists", "unknown command `lists`"),
+        ] {
+            let wrong = asked(line).expect_err(line).wrong;
+            assert_eq!(wrong.message, message);
+            assert!(wrong.usage.contains("wallet help"), "{}", wrong.usage);
+        }
+        // The call is right, and the set is none.
+        for line in ["prove w 1,2,3", "verify w --set 1,2,3"] {
+            let wrong = asked(line).expect_err(line).wrong;
+            assert!(wrong.message.starts_with("the set is `1,2,3`; write its"));
+            assert_eq!(wrong.usage, "");
+        }
     }
 }

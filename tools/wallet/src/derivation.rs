@@ -131,6 +131,15 @@ impl Judged {
         }
     }
 
+    /// The numbers of the nodes: the record, as far as it was read.
+    pub fn numbers(&self) -> Vec<u16> {
+        let nodes = self.nodes.iter();
+        nodes
+            .flat_map(|node| [node.credential, node.middle])
+            .flatten()
+            .collect()
+    }
+
     /// The node at fault, if there is one in the list.
     pub fn faulty(&self) -> Option<&Node> {
         let fault = self.fault?;

@@ -5,12 +5,12 @@
 use bwlchareg::{Query, Refusal};
 
 use crate::answer::{Answer, CELLS};
-use crate::derivation::judge;
+use crate::derivation::{judge, numbered, Goal};
 use crate::proof::short_record;
 use crate::refusal;
-use crate::rows::{rows, width};
-use crate::table::{Body, Credential, Mark};
-use crate::tree::meetings;
+use crate::rows::{padded, rows, width};
+use crate::table::{Body, Mark, Table};
+use crate::tree::{meetings, Meeting};
 use crate::words::words;
 use crate::Wallet;
 
@@ -29,7 +29,7 @@ pub fn explain(wallet: &Wallet, query: Query, answer: &Answer) -> String {
             let sets = sets.iter().map(|set| explain_set(wallet, query, *set));
             heading + &sets.collect::<String>()
         }
-        Answer::Refused(refusal) => explain_refusal(wallet, query, *refusal),
+        Answer::Refused(refusal) => refusal::told(*refusal, reason(wallet, query, *refusal)) + "\n",
     }
 }
 
@@ -45,73 +45,72 @@ pub fn heading(wallet: &Wallet, query: Query, count: usize) -> String {
 
 /// A set: its credentials, one on a line, what it shows, and what it meets.
 fn explain_set(wallet: &Wallet, query: Query, set: u32) -> String {
-    let chosen: Vec<usize> = (0..wallet.table.credentials.len())
-        .filter(|index| set & (1 << index) != 0)
-        .collect();
-    let said = |index: &usize| credential(wallet, *index);
-    let texts: Vec<String> = chosen.iter().map(said).collect();
-    let widest = texts.iter().map(|text| width(text)).max();
+    let rows = credentials(wallet, set).into_iter();
+    let rows: String = rows.map(|row| format!("  {row}\n")).collect();
+    let goals = shown(&wallet.table, set).into_iter();
+    let goals = goals.map(|goal| wallet.names.goal(goal.principal, goal.role));
+    let met = met(wallet, query, set).into_iter().map(|meeting| {
+        let name = wallet.names.constraint(meeting.automaton);
+        listed(&format!("  meets {name} by "), meeting.roles)
+    });
+    let shown = listed(SHOWS, goals.collect());
+    format!("\nset {set}\n{rows}{shown}{}", met.collect::<String>())
+}
+
+/// The numbers of a set's credentials.
+pub fn members(table: &Table, set: u32) -> impl Iterator<Item = u16> + '_ {
+    let numbers = bwlchareg::credentials(set).filter_map(|number| u16::try_from(number).ok());
+    numbers.filter(|number| numbered(table, *number).is_some())
+}
+
+/// The credentials of a set, each with its number and its line.
+pub fn credentials(wallet: &Wallet, set: u32) -> Vec<String> {
+    let texts = members(&wallet.table, set).map(|number| (number, wallet.credential(number)));
+    let texts: Vec<(u16, String)> = texts.collect();
+    let widest = texts.iter().map(|(_, text)| width(text)).max();
     let widest = widest.unwrap_or_default();
-    let mut lines = format!("\nset {set}\n");
-    for (index, text) in chosen.iter().zip(&texts) {
-        let line = wallet.lines.credentials.get(*index);
+    let row = |(number, text): &(u16, String)| {
+        let line = wallet.lines.credential(*number);
         let line = line.map_or(String::new(), |line| format!("  line {line}"));
-        let row = format!("  {:>2}  {text:<widest$}{line}", index + 1);
-        lines += row.trim_end();
-        lines += "\n";
-    }
-    lines + &shown(wallet, &chosen) + &met(wallet, query, set, &chosen)
+        let text = padded(text, widest);
+        format!("{number:>2}  {text}{line}").trim_end().to_string()
+    };
+    texts.iter().map(row).collect()
 }
 
-/// A credential in words.
-fn credential(wallet: &Wallet, index: usize) -> String {
-    let table = &wallet.table;
-    wallet.names.credential(table, &table.credentials[index])
-}
-
-/// Who is shown to be in which role by these credentials: the members that
-/// those of kind 1 name, each once.
-fn shown(wallet: &Wallet, chosen: &[usize]) -> String {
-    let mut goals: Vec<String> = Vec::new();
-    for index in chosen {
-        let Credential { role, body, .. } = wallet.table.credentials[*index];
-        if let Body::Member(principal) = body {
-            let goal = wallet.names.goal(principal, role);
+/// Who is shown to be in which role by a set: the members that its credentials of
+/// kind 1 name, each once.
+pub fn shown(table: &Table, set: u32) -> Vec<Goal> {
+    let mut goals = Vec::new();
+    for credential in members(table, set).filter_map(|number| numbered(table, number)) {
+        if let Body::Member(principal) = credential.body {
+            let role = credential.role;
+            let goal = Goal { principal, role };
             if !goals.contains(&goal) {
                 goals.push(goal);
             }
         }
     }
-    if goals.is_empty() {
-        goals.push("nobody".to_string());
-    }
-    listed(SHOWS, goals)
+    goals
 }
 
 /// By which word of its first record a set meets each constraint for which one
 /// word is enough. Nothing is said of a record that is too long to be looked at.
-fn met(wallet: &Wallet, query: Query, set: u32, chosen: &[usize]) -> String {
+pub fn met(wallet: &Wallet, query: Query, set: u32) -> Vec<Meeting> {
     let table = &wallet.table;
-    let lenient = |index: &usize| {
-        let own = table.automaton(table.credentials[*index].automaton);
-        own.is_some_and(|own| own.mark == Mark::SomeWord)
-    };
-    if !chosen.iter().any(lenient) {
-        return String::new();
+    let automata = members(table, set).filter_map(|number| numbered(table, number));
+    let mut automata = automata.filter_map(|credential| table.automaton(credential.automaton));
+    if !automata.any(|automaton| automaton.mark == Mark::SomeWord) {
+        return Vec::new();
     }
     let Some(record) = short_record(wallet, query, set) else {
-        return String::new();
+        return Vec::new();
     };
     let judged = judge(wallet, query, &record);
-    let meetings = meetings(wallet, &judged, &words(wallet, &judged));
-    let said = meetings.into_iter().map(|meeting| {
-        let name = wallet.names.constraint(meeting.automaton);
-        listed(&format!("  meets {name} by "), meeting.roles)
-    });
-    said.collect()
+    meetings(wallet, &judged, &words(wallet, &judged))
 }
 
-/// Items behind some words, on as many lines as they need. All but the last end
+/// Items after some words, on as many lines as they need. All but the last end
 /// with a comma.
 fn listed(before: &str, items: Vec<String>) -> String {
     let indent = width(before);
@@ -120,17 +119,14 @@ fn listed(before: &str, items: Vec<String>) -> String {
     format!("{before}{}\n", rows.join(&further))
 }
 
-/// A refusal, with the wallet's line that its position means.
-fn explain_refusal(wallet: &Wallet, query: Query, refusal: Refusal) -> String {
+/// Why there is no list.
+pub fn reason(wallet: &Wallet, query: Query, refusal: Refusal) -> String {
     let asked = wallet.names.query(query);
-    let said = match refusal.number {
+    match refusal.number {
         Refusal::NONE => format!("no set of credentials proves {asked}"),
         Refusal::LONGER => format!("more than {CELLS} minimal sets prove {asked}"),
-        _ => refusal::of_program(refusal),
-    };
-    let line = refusal::line(wallet, refusal).map(|line| format!(" (line {line})"));
-    let line = line.unwrap_or_default();
-    refusal::told(refusal, format_args!("{said}{line}")) + "\n"
+        _ => refusal.to_string(),
+    }
 }
 
 #[cfg(test)]
@@ -157,9 +153,10 @@ mod tests {
         let expected = "\
 2 minimal sets prove B in A.r within 2
 
-set 1
+set 3
    1  A.r <- A.s & A.t under c  line 1
-  shows nobody
+   2  A.s <- B                  line 3
+  shows B in A.s
 
 set 14
    2  A.s <- B          line 3
@@ -167,7 +164,7 @@ set 14
    4  A.t <- Alexander  line 5
   shows B in A.s, Alexander in A.t
 ";
-        assert_eq!(said(Answer::Sets(vec![1, 14])), expected);
+        assert_eq!(said(Answer::Sets(vec![3, 14])), expected);
     }
 
     #[test]
@@ -193,41 +190,14 @@ set 14
     }
 
     #[test]
-    fn refusals_are_said_with_their_lines() {
-        let words = |number, position| {
-            let said = said(Answer::Refused(Refusal { number, position }));
-            let place = if position == 0 {
-                format!("refused {number}: ")
-            } else {
-                format!("refused {number} at {position}: ")
-            };
-            let words = said
-                .strip_prefix(&place)
-                .unwrap_or_else(|| panic!("{said}"));
-            words.strip_suffix('\n').expect("a line").to_string()
-        };
-        let short = "the input has fewer than 16 bytes, or an odd number of them";
-        assert_eq!(words(1, 0), short);
-        let none = "no set of credentials proves B in A.r within 2";
+    fn refusals_are_said() {
+        let words = |number, position| said(Answer::Refused(Refusal { number, position }));
+        let none = "refused 9: no set of credentials proves B in A.r within 2\n";
         assert_eq!(words(9, 0), none);
-        let more = "more than 4096 minimal sets prove B in A.r within 2";
+        let more = "refused 10: more than 4096 minimal sets prove B in A.r within 2\n";
         assert_eq!(words(10, 0), more);
         // The others are in the words of the checker.
-        for (number, position) in [(2, 0), (3, 0)] {
-            let refusal = Refusal { number, position };
-            assert_eq!(words(number, position), refusal.to_string());
-        }
-        let lines = [
-            (4, 2, 3),
-            (5, 2, 1),
-            (6, 1, 1),
-            (7, 1, 9),
-            (17, 1, 6),
-            (8, 3, 10),
-        ];
-        for (number, position, line) in lines {
-            let refusal = Refusal { number, position };
-            assert_eq!(words(number, position), format!("{refusal} (line {line})"));
-        }
+        let field = "refused 8 at 4: the query's depth limit is out of range\n";
+        assert_eq!(words(8, 4), field);
     }
 }

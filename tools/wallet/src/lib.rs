@@ -12,19 +12,25 @@ pub mod answer;
 pub mod decimal;
 pub mod derivation;
 pub mod explain;
+pub mod json;
 pub mod limits;
+mod markup;
 pub mod mistake;
 pub mod names;
+pub mod objects;
 pub mod parse;
 pub mod print;
 pub mod program;
 pub mod proof;
 pub mod refusal;
+pub mod report;
 mod rows;
+mod shortened;
 pub mod svg;
 pub mod table;
 pub mod tokens;
 pub mod tree;
+pub mod why;
 pub mod words;
 
 use names::Names;
@@ -43,6 +49,15 @@ pub struct Wallet {
     pub lines: Lines,
 }
 
+impl Wallet {
+    /// The text of a credential, with the constraint that is attached to it; nothing
+    /// if there is no credential of this number.
+    pub fn credential(&self, number: u16) -> String {
+        let credential = derivation::numbered(&self.table, number);
+        credential.map_or(String::new(), |own| self.names.credential(&self.table, own))
+    }
+}
+
 /// The lines of a wallet's text on which its records stand, from 1, in the
 /// order of the records' numbers.
 #[derive(Clone, Debug, Default, PartialEq, Eq)]
@@ -57,4 +72,22 @@ pub struct Lines {
     pub edges: Vec<usize>,
     /// The line of the query.
     pub query: Option<usize>,
+}
+
+impl Lines {
+    /// The line of a credential by its number, if it has one.
+    pub fn credential(&self, number: u16) -> Option<usize> {
+        numbered(&self.credentials, number)
+    }
+
+    /// The line of a constraint by its automaton's number, if it has one.
+    pub fn automaton(&self, number: u16) -> Option<usize> {
+        numbered(&self.automata, number)
+    }
+}
+
+/// The line of a number from 1.
+fn numbered(lines: &[usize], number: u16) -> Option<usize> {
+    let index = usize::from(number).checked_sub(1)?;
+    lines.get(index).copied()
 }

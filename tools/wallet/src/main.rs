@@ -1,20 +1,24 @@
 //! The tool `wallet`: wallets as text, and the checker's answers in words.
 //! `docs/WALLET.md` describes its commands.
 
-#![forbid(unsafe_code)]
+#![deny(unsafe_code)]
 #![warn(missing_docs)]
 
 mod arguments;
+mod closed;
 mod commands;
+mod failure;
+mod output;
+mod usage;
 
 use std::env;
-use std::fs::File;
-use std::io::{self, ErrorKind, Write};
-use std::path::Path;
+use std::io::{self, Write};
 use std::process::ExitCode;
 
-use arguments::USAGE;
-use commands::{Failure, Pieces};
+use wallet::json::Object;
+
+use arguments::{Arguments, Form};
+use failure::{Failure, Wrong};
 
 /// The exit codes: the checker refuses; something else is wrong.
 const REFUSED: u8 = 1;
@@ -23,53 +27,46 @@ const WRONG: u8 = 2;
 fn main() -> ExitCode {
     let arguments = match arguments::read(env::args_os().skip(1)) {
         Ok(arguments) => arguments,
-        Err(message) => return failed(WRONG, &format!("{message}\n{USAGE}")),
+        Err(misuse) => return wrong(&misuse.wrong, misuse.command, misuse.json),
     };
-    let pieces = match commands::run(&arguments.command) {
-        Ok(pieces) => pieces,
-        Err(Failure::Refused(message)) => return failed(REFUSED, &message),
-        Err(Failure::Wrong(message)) => return failed(WRONG, &message),
-    };
-    match write(pieces, arguments.output.as_deref()) {
-        Err(message) => failed(WRONG, &message),
-        Ok(true) => ExitCode::from(REFUSED),
+    match answer(&arguments) {
         Ok(false) => ExitCode::SUCCESS,
-    }
-}
-
-/// Writes to a file or to standard output, and tells whether the checker has
-/// refused.
-fn write(pieces: Pieces, output: Option<&Path>) -> Result<bool, String> {
-    let Some(path) = output else {
-        return match written(pieces, &mut io::stdout().lock()) {
-            (refused, Ok(())) => Ok(refused),
-            // Whoever reads the output may have enough before its end.
-            (refused, Err(error)) if error.kind() == ErrorKind::BrokenPipe => Ok(refused),
-            (_, Err(error)) => Err(format!("standard output: {error}")),
-        };
-    };
-    let told = |error| format!("{}: {error}", path.display());
-    let (refused, result) = written(pieces, &mut File::create(path).map_err(told)?);
-    result.map_err(told)?;
-    Ok(refused)
-}
-
-/// Writes pieces as they are made, up to the first that cannot be written; tells
-/// whether the checker has refused what they are about.
-fn written(pieces: Pieces, out: &mut impl Write) -> (bool, io::Result<()>) {
-    let mut refused = false;
-    for piece in pieces {
-        refused |= piece.refused;
-        if let Err(error) = out.write_all(&piece.bytes) {
-            return (refused, Err(error));
+        Ok(true) => ExitCode::from(REFUSED),
+        Err(Failure::Refused(words)) => {
+            say(&words);
+            ExitCode::from(REFUSED)
         }
+        Err(Failure::Wrong(what)) => {
+            wrong(&what, Some(arguments.name), arguments.form == Form::Json)
+        }
+        Err(Failure::Unread) => ExitCode::from(WRONG),
     }
-    (refused, out.flush())
 }
 
-/// Tells a message on standard error; if nobody reads it, the exit code
-/// remains.
-fn failed(code: u8, message: &str) -> ExitCode {
+/// Runs a command and writes what it answers; tells whether the checker refuses.
+fn answer(arguments: &Arguments) -> Result<bool, Failure> {
+    let output = arguments.output.as_deref();
+    if let Some(output) = output {
+        output::spares(output, &arguments.sources)?;
+    }
+    output::write(commands::run(arguments)?, output)
+}
+
+/// Tells what is wrong on standard error, and as an object on standard output
+/// where one is asked for.
+fn wrong(wrong: &Wrong, command: Option<&str>, json: bool) -> ExitCode {
+    say(&wrong.to_string());
+    if json {
+        let object = Object::default()
+            .with_some("command", command)
+            .with("status", u64::from(WRONG))
+            .with("mistake", wrong.object());
+        let _ = io::stdout().write_all(object.line().as_bytes());
+    }
+    ExitCode::from(WRONG)
+}
+
+/// Says something on standard error; if nobody reads it, the exit code remains.
+fn say(message: &str) {
     let _ = writeln!(io::stderr(), "wallet: {}", message.trim_end());
-    ExitCode::from(code)
 }

@@ -3,6 +3,8 @@
 use std::error::Error;
 use std::fmt;
 
+use crate::tokens::{is_joiner, is_seen};
+
 /// A place in a text: line and column from 1, the column in characters.
 #[derive(Clone, Copy, Debug, Default, PartialEq, Eq)]
 pub struct Place {
@@ -30,7 +32,7 @@ pub struct Mistake {
     pub line: usize,
     /// The column, from 1, in characters.
     pub column: usize,
-    /// What is wrong, and behind a semicolon what to write instead.
+    /// What is wrong, and after a semicolon what to write instead.
     pub message: String,
 }
 
@@ -54,8 +56,8 @@ const SHOWN: usize = 40;
 /// long, and without characters that a terminal would obey.
 pub fn quoted(text: &str) -> String {
     let visible = |character: char| match character {
-        _ if character.is_control() => char::REPLACEMENT_CHARACTER,
-        _ => character,
+        _ if character == ' ' || is_joiner(character) || is_seen(character) => character,
+        _ => char::REPLACEMENT_CHARACTER,
     };
     let beginning: String = text.chars().take(SHOWN).map(visible).collect();
     let more = if text.chars().nth(SHOWN).is_some() {
@@ -79,9 +81,9 @@ mod tests {
     }
 
     #[test]
-    fn long_and_invisible_pieces_are_shown_shortly() {
+    fn long_and_invisible_pieces_are_shortened_and_replaced() {
         assert_eq!(quoted("student"), "`student`");
-        assert_eq!(quoted("\u{1b}[2J"), "`\u{FFFD}[2J`");
+        assert_eq!(quoted("\u{1b}[2J \u{202E}"), "`\u{FFFD}[2J \u{FFFD}`");
         let forty = "a".repeat(40);
         assert_eq!(quoted(&forty), format!("`{forty}`"));
         assert_eq!(quoted(&"a".repeat(41)), format!("`{forty}...`"));

@@ -6,6 +6,9 @@ use bwlchareg::Query;
 
 use crate::table::{Body, Credential, Edge, Label, Role, Table};
 
+/// So many characters of a word are compared with another.
+const COMPARED: usize = 40;
+
 /// The names of a wallet's numbers. A number without a name has a name made
 /// of the number, so that everything can be said.
 #[derive(Clone, Debug, Default, PartialEq, Eq)]
@@ -108,6 +111,32 @@ impl Names {
     }
 }
 
+/// How many characters must be put in, left out, changed, or exchanged with the
+/// next one, to make one word of another. Of very long words only the beginnings
+/// count.
+pub fn distance(one: &str, other: &str) -> usize {
+    let beginning = |word: &str| word.chars().take(COMPARED).collect::<Vec<char>>();
+    let (one, other) = (beginning(one), beginning(other));
+    // The distances of each beginning of the first word to those of the second.
+    let mut rows: Vec<Vec<usize>> = vec![(0..=other.len()).collect()];
+    for i in 1..=one.len() {
+        let mut row = vec![i];
+        for j in 1..=other.len() {
+            let changed = usize::from(one[i - 1] != other[j - 1]);
+            let mut least = rows[i - 1][j - 1] + changed;
+            least = least.min(rows[i - 1][j] + 1).min(row[j - 1] + 1);
+            let crossed =
+                i > 1 && j > 1 && one[i - 1] == other[j - 2] && one[i - 2] == other[j - 1];
+            if crossed {
+                least = least.min(rows[i - 2][j - 2] + 1);
+            }
+            row.push(least);
+        }
+        rows.push(row);
+    }
+    rows[one.len()][other.len()]
+}
+
 /// The name of a key, or the one that is made for it.
 fn named<Key: Ord>(
     names: &BTreeMap<Key, String>,
@@ -115,4 +144,28 @@ fn named<Key: Ord>(
     made: impl FnOnce() -> String,
 ) -> String {
     names.get(key).cloned().unwrap_or_else(made)
+}
+
+#[cfg(test)]
+mod tests {
+    use super::{distance, COMPARED};
+
+    #[test]
+    fn slips_are_counted() {
+        for (one, other, slips) in [
+            ("", "", 0),
+            ("discount", "discount", 0),
+            ("discount", "discounts", 1),
+            ("discuont", "discount", 1),
+            ("Ann", "ann", 1),
+            ("caf\u{e9}", "cafe", 1),
+            ("ab", "", 2),
+            ("ca", "abc", 3),
+            ("kitten", "sitting", 3),
+        ] {
+            assert_eq!(distance(one, other), slips, "{one} {other}");
+            assert_eq!(distance(other, one), slips, "{other} {one}");
+        }
+        assert_eq!(distance(&"a".repeat(1 << 20), &"a".repeat(COMPARED)), 0);
+    }
 }

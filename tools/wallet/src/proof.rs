@@ -8,48 +8,32 @@ use crate::refusal;
 use crate::tree;
 use crate::Wallet;
 
-/// The library is first lent so many cells, and twice as many while the record
-/// does not fit.
-pub const FIRST_CELLS: usize = 4_096;
-/// It is lent no more cells than these: a record with more numbers is not
-/// written.
+/// A record with more numbers is not written.
 pub const MOST_CELLS: usize = 1_048_576;
+/// A record with more numbers is not short.
+const SHORT: usize = 4_096;
 
 /// The most sets that a message offers.
 const OFFERED: usize = 8;
 
 /// The first record of a set, or the library's refusal of the set.
 pub fn first_record(wallet: &Wallet, query: Query, set: u32) -> Result<Vec<u16>, Refusal> {
-    let table = wallet.table.numbers();
-    let mut cells = vec![0; FIRST_CELLS];
-    loop {
-        match bwlchareg::write(&table, query, set, &mut cells) {
-            Ok(length) => {
-                cells.truncate(length);
-                return Ok(cells);
-            }
-            Err(refusal) if refusal.number == Refusal::LONGER_RECORD => {
-                if cells.len() >= MOST_CELLS {
-                    return Err(refusal);
-                }
-                cells.resize(2 * cells.len(), 0);
-            }
-            Err(refusal) => return Err(refusal),
-        }
-    }
+    bwlchareg::first_record(&wallet.table.numbers(), query, set, MOST_CELLS)
 }
 
 /// The first record of a set, if there is one and it is short.
 pub fn short_record(wallet: &Wallet, query: Query, set: u32) -> Option<Vec<u16>> {
-    let mut cells = vec![0; FIRST_CELLS];
-    let length = bwlchareg::write(&wallet.table.numbers(), query, set, &mut cells).ok()?;
-    cells.truncate(length);
-    Some(cells)
+    bwlchareg::first_record(&wallet.table.numbers(), query, set, SHORT).ok()
 }
 
-/// A refusal of a set in words.
+/// A refusal of a set, with its words.
 pub fn refused(wallet: &Wallet, query: Query, set: u32, refusal: Refusal) -> String {
-    let words = match refusal.number {
+    refusal::told(refusal, reason(wallet, query, set, refusal))
+}
+
+/// Why a set has no record that is written.
+pub fn reason(wallet: &Wallet, query: Query, set: u32, refusal: Refusal) -> String {
+    match refusal.number {
         Refusal::NOT_LISTED => {
             let asked = wallet.names.query(query);
             let offer = offer(wallet, query);
@@ -61,8 +45,7 @@ pub fn refused(wallet: &Wallet, query: Query, set: u32, refusal: Refusal) -> Str
             )
         }
         _ => refusal.to_string(),
-    };
-    refusal::told(refusal, words)
+    }
 }
 
 /// What the list has: its first sets, or none.
@@ -85,7 +68,7 @@ pub fn numbers(record: &[u16]) -> String {
 }
 
 /// Numbers with something between them.
-fn joined<Number: ToString>(numbers: &[Number], between: &str) -> String {
+pub(crate) fn joined<Number: ToString>(numbers: &[Number], between: &str) -> String {
     let all: Vec<String> = numbers.iter().map(Number::to_string).collect();
     all.join(between)
 }

@@ -1,62 +1,37 @@
 //! A line of a wallet's text as words, numbers and signs, each with its
 //! column. Comments and spaces are left out here.
 
-use crate::mistake::{quoted, Mistake, Place};
+mod letters;
 
-/// The words that no principal, role name, constraint or state has as a name.
-pub const KEPT: [&str; 15] = [
-    "not",
-    "any",
-    "in",
-    "within",
-    "under",
-    "principals",
-    "names",
-    "constraint",
-    "start",
-    "accept",
-    "edges",
-    "cell",
-    "at",
-    "then",
-    "of",
-];
+use crate::mistake::{quoted, Mistake, Place};
+use letters::{is_inner, name_width};
+
+pub use letters::{alike, is_joiner, is_mark, is_seen};
+
+/// The words that cannot be names.
+pub const RESERVED: &str =
+    "not any in within under principals names constraint start accept edges cell at then of";
 
 /// A word, a number or a sign.
 #[derive(Clone, Debug, PartialEq, Eq)]
 pub enum Sign {
-    /// A letter, then letters, digits, `_` and single `-` between them.
+    /// A name or a reserved word.
     Word(String),
     /// Digits.
     Number(String),
-    /// `.`
-    Dot,
-    /// `,`
-    Comma,
-    /// `=`
-    Equals,
-    /// `&`
-    And,
-    /// `<-`
-    Arrow,
-    /// `--`
-    Dashes,
-    /// `-->`
-    Onward,
+    /// Any other sign.
+    Other(&'static str),
 }
+
+/// The other signs.
+const OTHERS: [&str; 7] = [".", ",", "=", "&", "<-", "--", "-->"];
 
 impl Sign {
     /// The sign as it is written.
     pub fn text(&self) -> &str {
         match self {
             Sign::Word(text) | Sign::Number(text) => text,
-            Sign::Dot => ".",
-            Sign::Comma => ",",
-            Sign::Equals => "=",
-            Sign::And => "&",
-            Sign::Arrow => "<-",
-            Sign::Dashes => "--",
-            Sign::Onward => "-->",
+            Sign::Other(text) => text,
         }
     }
 }
@@ -80,23 +55,19 @@ pub fn tokens(line: usize, text: &str) -> Result<Vec<Token>, Mistake> {
     let characters: Vec<char> = text.chars().collect();
     let mut tokens = Vec::new();
     let mut rest = &characters[..];
-    while let Some(&first) = rest.first() {
-        if first == '#' {
-            break;
-        }
+    while let Some(&first) = rest.first().filter(|first| **first != '#') {
         let column = characters.len() - rest.len() + 1;
-        let width = if matches!(first, ' ' | '\t') {
-            1
-        } else {
-            let (sign, width) = sign(first, rest)
+        let mut width = 1;
+        if !matches!(first, ' ' | '\t') {
+            let sign = sign(rest, &tokens)
                 .map_err(|(wrong, instead)| Place { line, column }.mistake(wrong, instead))?;
+            width = sign.text().chars().count();
             tokens.push(Token {
                 sign,
                 column,
                 width,
             });
-            width
-        };
+        }
         rest = &rest[width..];
     }
     Ok(tokens)
@@ -106,133 +77,129 @@ pub fn tokens(line: usize, text: &str) -> Result<Vec<Token>, Mistake> {
 /// state.
 pub fn is_name(text: &str) -> bool {
     let characters: Vec<char> = text.chars().collect();
-    let begins = characters.first().is_some_and(|first| is_letter(*first));
-    begins && word_width(&characters) == characters.len() && !KEPT.contains(&text)
+    let width = name_width(&characters);
+    width > 0 && width == characters.len() && !is_reserved(text)
 }
 
-/// The sign with which some characters begin, and its width; or what is wrong
-/// with them, and what to write instead.
-fn sign(first: char, characters: &[char]) -> Result<(Sign, usize), Wrong> {
-    let simple = |sign: Sign| {
-        let width = sign.text().len();
-        Ok((sign, width))
-    };
-    match characters {
-        ['.', ..] => simple(Sign::Dot),
-        [',', ..] => simple(Sign::Comma),
-        ['=', ..] => simple(Sign::Equals),
-        ['&', ..] => simple(Sign::And),
-        ['<', '-', ..] => simple(Sign::Arrow),
-        ['-', '-', '>', ..] => simple(Sign::Onward),
-        ['-', '-', ..] => simple(Sign::Dashes),
-        _ if is_letter(first) => {
-            let width = word_width(characters);
-            Ok((Sign::Word(characters[..width].iter().collect()), width))
-        }
-        _ if first.is_ascii_digit() => number(characters),
-        _ => Err(unknown(first, characters.get(1).copied())),
+/// Whether a word cannot be a name.
+pub fn is_reserved(word: &str) -> bool {
+    RESERVED.split(' ').any(|reserved| reserved == word)
+}
+
+/// The sign that some characters begin with, after these tokens of the line; or
+/// what is wrong with them, and what to write instead.
+fn sign(characters: &[char], before: &[Token]) -> Result<Sign, Wrong> {
+    let count = |is: fn(char) -> bool| characters.iter().take_while(|c| is(**c)).count();
+    let text = |width: usize| characters[..width].iter().collect::<String>();
+    let (name, digits) = (name_width(characters), count(|c| c.is_ascii_digit()));
+    if name > 0 {
+        return Ok(Sign::Word(text(name)));
     }
-}
-
-/// A number, behind which no letter may follow.
-fn number(characters: &[char]) -> Result<(Sign, usize), Wrong> {
-    let digits = |character: &&char| character.is_ascii_digit();
-    let width = characters.iter().take_while(digits).count();
-    let follows = characters.get(width).copied();
-    if follows.is_some_and(is_inner) {
-        let inner = characters.iter().take_while(|inner| is_inner(**inner));
-        let text: String = inner.collect();
-        let wrong = format!("{} begins with a digit", quoted(&text));
-        return Err((wrong, "begin a word with a letter"));
+    if digits > 0 && count(is_inner) > digits {
+        let wrong = format!("{} begins with a digit", quoted(&text(count(is_inner))));
+        return Err((wrong, "begin a name with a letter"));
     }
-    Ok((Sign::Number(characters[..width].iter().collect()), width))
+    if digits > 0 {
+        return Ok(Sign::Number(text(digits)));
+    }
+    let text = text(count(is_stroke).max(1));
+    if let Some(other) = OTHERS.into_iter().find(|other| *other == text) {
+        return Ok(Sign::Other(other));
+    }
+    Err(match (text.as_str(), characters[0]) {
+        ("-", _) => (
+            "a single `-` only joins the parts of a name".to_string(),
+            "write `--`, or a letter or digit on both sides of `-`",
+        ),
+        (text, first) if is_stroke(first) && text != ":" => (not_used(text), arrow(before)),
+        (_, first) => unknown(first),
+    })
 }
 
-/// How many characters the word has with which these begin. A `-` belongs to
-/// it if the word goes on right behind.
-fn word_width(characters: &[char]) -> usize {
-    let goes_on = |at: usize| match (characters.get(at), characters.get(at + 1)) {
-        (Some('-'), Some(&next)) => is_inner(next),
-        (Some(&character), _) => is_inner(character),
-        _ => false,
-    };
-    (0..).find(|&at| !goes_on(at)).unwrap_or(0)
+/// Whether a character may be part of an arrow, as some people write them.
+fn is_stroke(character: char) -> bool {
+    matches!(
+        character,
+        '<' | '>' | '-' | '=' | ':' | '\u{2010}'..='\u{2015}' | '\u{2190}'..='\u{21FF}' | '\u{2212}'
+            | '\u{2264}' | '\u{27F0}'..='\u{27FF}' | '\u{2900}'..='\u{297F}' | '\u{2B00}'..='\u{2B4F}'
+    )
 }
 
-/// Whether a word may go on with a character.
-fn is_inner(character: char) -> bool {
-    is_letter(character) || character.is_ascii_digit() || character == '_'
-}
-
-/// Whether a character is a letter of some script. The fillers of Korean count
-/// as letters elsewhere, but a name must not have parts that nobody sees.
-fn is_letter(character: char) -> bool {
-    let filler = matches!(character, '\u{115F}' | '\u{1160}' | '\u{3164}' | '\u{FFA0}');
-    character.is_alphabetic() && !filler
+/// What to write instead of an arrow after these tokens of a line.
+fn arrow(before: &[Token]) -> &'static str {
+    let has = |sign: &str| before.iter().any(|token| token.sign.text() == sign);
+    match before.first().map(|token| &token.sign) {
+        Some(Sign::Word(word)) if matches!(word.as_str(), "principals" | "names") => "write `=`",
+        _ if has("--") => "write `-->`",
+        Some(Sign::Number(_)) => "write an edge like `0 -- any --> 1`",
+        _ if has(".") => "write `<-`",
+        _ => "write `<-`, or an edge like `0 -- any --> 1`",
+    }
 }
 
 /// What is wrong with a character that begins no sign.
-fn unknown(first: char, next: Option<char>) -> Wrong {
+fn unknown(first: char) -> Wrong {
     let comment = "leave it out, or write `#` before a comment";
-    match (first, next) {
-        ('<', _) => ("`<` stands alone".to_string(), "write `<-`"),
-        ('-', Some('>')) => ("`->` is no sign".to_string(), "write `<-` or `-->`"),
-        ('-', _) => (
-            "`-` stands alone".to_string(),
-            "write it between letters or digits of a word, or write `--`",
-        ),
-        ('_', _) => (
-            "a word begins with `_`".to_string(),
+    let code = format!("U+{:04X}", u32::from(first));
+    match first {
+        '_' => (
+            "a name cannot begin with `_`".to_string(),
             "begin it with a letter",
         ),
-        _ if first.is_ascii_graphic() => (format!("`{first}` is no sign of a wallet"), comment),
-        // Others are told by number, since they may not be visible.
-        _ => {
-            let number = u32::from(first);
-            (
-                format!("the character U+{number:04X} means nothing here"),
-                comment,
-            )
-        }
+        _ if first.is_ascii_graphic() => (not_used(&first.to_string()), comment),
+        _ if first.is_whitespace() => (format!("{code} is not a plain space"), "write a space"),
+        _ if is_mark(first) => (
+            format!("the mark {code} does not follow a letter"),
+            "write it after a letter, or leave it out",
+        ),
+        _ if is_seen(first) => (
+            format!("`{first}` ({code}) is not used in wallets"),
+            comment,
+        ),
+        _ => (
+            format!("the character {code} cannot be seen"),
+            "leave it out",
+        ),
     }
+}
+
+/// What is wrong with characters that mean nothing.
+fn not_used(text: &str) -> String {
+    format!("{} is not used in wallets", quoted(text))
 }
 
 #[cfg(test)]
 mod tests {
-    use super::{is_name, tokens, KEPT};
+    use super::{is_name, tokens, RESERVED};
 
     /// The signs of a line with their columns, as `3:word`.
-    fn read(text: &str) -> Vec<String> {
+    fn read(text: &str) -> String {
         let tokens = tokens(1, text).expect("no mistake");
         let said = tokens.iter();
-        said.map(|token| format!("{}:{}", token.column, token.sign.text()))
-            .collect()
+        let said = said.map(|token| format!("{}:{}", token.column, token.sign.text()));
+        said.collect::<Vec<String>>().join(" ")
     }
 
     #[test]
     fn signs_and_their_columns() {
-        let expected = ["1:A", "2:.", "3:r", "5:<-", "8:B_1-c"];
-        assert_eq!(read("A.r <- B_1-c # C"), expected);
-        let expected = [
-            "2:0", "3:--", "5:not", "9:A", "10:.", "11:r", "12:-->", "15:s",
-        ];
-        assert_eq!(read("\t0--not A.r-->s"), expected);
-        assert_eq!(read("\u{e9}\u{e9}.r"), ["1:\u{e9}\u{e9}", "3:.", "4:r"]);
-        assert_eq!(read("a--b"), ["1:a", "2:--", "4:b"]);
-        assert!(read("").is_empty());
-        assert!(read(" \t # A.r").is_empty());
+        assert_eq!(read("A.r <- B_1-c # C"), "1:A 2:. 3:r 5:<- 8:B_1-c");
+        let edge = "2:0 3:-- 5:not 9:A 10:. 11:r 12:--> 15:s";
+        assert_eq!(read("\t0--not A.r-->s"), edge);
+        assert_eq!(read("éé.e\u{301}.r"), "1:éé 3:. 4:e\u{301} 6:. 7:r");
+        assert_eq!(read("a--b"), "1:a 2:-- 4:b");
+        assert_eq!(read(" \t # A.r"), "");
     }
 
     #[test]
-    fn names_are_whole_words_that_are_not_kept() {
-        for name in ["A", "a1", "not-for", "x_", "x__y", "\u{e9}t\u{e9}"] {
+    fn names_are_whole_words_that_are_not_reserved() {
+        for name in ["A", "a1", "not-for", "x_", "x__y", "été"] {
             assert!(is_name(name), "{name}");
         }
-        for other in [
+        let others = [
             "", "1a", "_a", "a-", "-a", "a--b", "a b", "a.b", "a#", "a\n",
-        ] {
+        ];
+        for other in others.into_iter().chain(RESERVED.split(' ')) {
             assert!(!is_name(other), "{other}");
         }
-        assert!(KEPT.iter().all(|word| !is_name(word)));
     }
 }

@@ -6,25 +6,28 @@
 //! first nodes and words are shown, what is at fault, and how many more there
 //! are.
 
+use bwlchareg::Refusal;
+
 use crate::derivation::{ancestors, numbered, Judged, Node};
 use crate::limits::NAMES;
 use crate::names::Names;
 use crate::refusal;
+use crate::rows::{self, padded};
 use crate::table::{Mark, Role};
-use crate::words::{roles, run, states, used_credentials, words, Word, Words};
+use crate::words::{attached, run, spelt, states, words, Word, Words};
 use crate::Wallet;
 
 /// So many nodes are shown, besides the one at fault and those above it.
 pub const NODES_SHOWN: usize = 1_000;
 /// So many words are shown, and so many runs of each automaton.
 pub const WORDS_SHOWN: usize = 1_000;
-/// So many words on which the automaton's judgement rests are shown behind those.
+/// So many words on which the automaton's judgement rests are shown after those.
 pub const DECISIVE_SHOWN: usize = 10;
 /// A tree whose goals take more columns than this is not lined up further.
 const WIDEST: usize = 72;
 
 /// What a line at fault begins with, and every other line of its block.
-const FAULT: &str = ">>";
+pub(crate) const FAULT: &str = ">>";
 const NO_FAULT: &str = "  ";
 
 /// The text of a judged record. The wallet is the one with which the record
@@ -96,28 +99,28 @@ pub fn meetings(wallet: &Wallet, judged: &Judged, words: &Words) -> Vec<Meeting>
 /// The verdict: `accepted: used set 7 = credentials 1, 2, 3`, or `refused 14
 /// at 1` and why.
 pub fn verdict(wallet: &Wallet, judged: &Judged, words: &Words) -> String {
-    let refusal = match judged.verdict {
-        Ok(set) => return format!("accepted: used set {set} = {}", members(set)),
-        Err(refusal) => refusal,
-    };
+    match judged.verdict {
+        Ok(set) => {
+            let members = credentials(bwlchareg::credentials(set));
+            format!("accepted: used set {set} = {members}")
+        }
+        Err(refusal) => refusal::told(refusal, reason(wallet, judged, words, refusal)),
+    }
+}
+
+/// Why a record is refused.
+pub fn reason(wallet: &Wallet, judged: &Judged, words: &Words, refusal: Refusal) -> String {
     let why = match refusal.number {
         14 => rejection(wallet, words, refusal.position),
         _ => judged.reason(&wallet.names),
     };
-    let why = why.unwrap_or_else(|| refusal.to_string());
-    refusal::told(refusal, why)
-}
-
-/// The credentials of a used set: `credentials 1, 2, 3`.
-fn members(set: u32) -> String {
-    let there = (1..=32u16).filter(|number| (set >> (number - 1)) & 1 == 1);
-    credentials(&there.collect::<Vec<u16>>())
+    why.unwrap_or_else(|| refusal.to_string())
 }
 
 /// Credentials by their numbers: `credentials 1, 2, 3`.
-fn credentials(numbers: &[u16]) -> String {
-    let listed: Vec<String> = numbers.iter().map(u16::to_string).collect();
-    let plural = if numbers.len() == 1 { "" } else { "s" };
+pub(crate) fn credentials<Number: ToString>(numbers: impl Iterator<Item = Number>) -> String {
+    let listed: Vec<String> = numbers.map(|number| number.to_string()).collect();
+    let plural = if listed.len() == 1 { "" } else { "s" };
     format!("credential{plural} {}", listed.join(", "))
 }
 
@@ -134,7 +137,7 @@ fn rejection(wallet: &Wallet, words: &Words, position: u64) -> Option<String> {
 }
 
 /// So many of something: `1 word`, `2 words`.
-pub(crate) fn counted(count: usize, one: &str) -> String {
+pub fn counted(count: usize, one: &str) -> String {
     let plural = if count == 1 { "" } else { "s" };
     format!("{count} {one}{plural}")
 }
@@ -143,17 +146,17 @@ pub(crate) fn counted(count: usize, one: &str) -> String {
 fn tree(wallet: &Wallet, judged: &Judged, lines: &mut Vec<String>) {
     let nodes = &judged.nodes;
     let first = &nodes[..nodes.len().min(NODES_SHOWN)];
-    let behind = fault_behind(judged);
-    let layout = Layout::of(wallet, first.iter().chain(behind.iter().copied()));
+    let later = fault_later(judged);
+    let layout = Layout::of(wallet, first.iter().chain(later.iter().copied()));
     let faulty = judged.faulty().map(|node| node.number);
     for node in first {
         lines.push(layout.line(wallet, node, faulty));
     }
-    let more = nodes.len() - first.len() - behind.len();
+    let more = nodes.len() - first.len() - later.len();
     if more > 0 {
         lines.push(format!("{NO_FAULT} ... and {}", counted(more, "more node")));
     }
-    for node in behind {
+    for node in later {
         lines.push(layout.line(wallet, node, faulty));
     }
     if let Some(reason) = judged.reason(&wallet.names) {
@@ -168,7 +171,7 @@ fn tree(wallet: &Wallet, judged: &Judged, lines: &mut Vec<String>) {
 
 /// The node at fault and those above it, from the top down, as far as they
 /// are not among the first ones.
-fn fault_behind(judged: &Judged) -> Vec<&Node> {
+fn fault_later(judged: &Judged) -> Vec<&Node> {
     let Some(node) = judged.faulty() else {
         return Vec::new();
     };
@@ -197,7 +200,7 @@ impl Layout {
     fn of<'a>(wallet: &Wallet, nodes: impl Iterator<Item = &'a Node>) -> Layout {
         let mut layout = Layout { number: 1, goal: 0 };
         for node in nodes {
-            let goal = indent(node) + goal(&wallet.names, node).chars().count();
+            let goal = indent(node) + rows::width(&goal(&wallet.names, node));
             layout.goal = layout.goal.max(goal).min(WIDEST);
             layout.number = layout.number.max(node.number.to_string().len());
         }
@@ -212,11 +215,11 @@ impl Layout {
         };
         let goal = format!("{:1$}{2}", "", indent(node), goal(&wallet.names, node));
         let line = format!(
-            "{mark} {:>2$}  {goal:<3$}  {}",
+            "{mark} {:>3$}  {}  {}",
             node.number,
+            padded(&goal, self.goal),
             through(wallet, node),
-            self.number,
-            self.goal
+            self.number
         );
         line.trim_end().to_string()
     }
@@ -234,13 +237,11 @@ fn through(wallet: &Wallet, node: &Node) -> String {
         return String::new();
     };
     let mut through = format!("credential {number}");
-    if let Some(credential) = numbered(&wallet.table, number) {
-        let line = wallet.lines.credentials.get(usize::from(number) - 1);
-        if let Some(line) = line {
-            through += &format!(", line {line}");
-        }
-        let text = wallet.names.credential(&wallet.table, credential);
-        through += &format!(": {text}");
+    if let Some(line) = wallet.lines.credential(number) {
+        through += &format!(", line {line}");
+    }
+    if numbered(&wallet.table, number).is_some() {
+        through += &format!(": {}", wallet.credential(number));
     }
     match node.middle {
         None | Some(0) => through,
@@ -260,14 +261,12 @@ fn word_list(wallet: &Wallet, judged: &Judged, words: &Words, lines: &mut Vec<St
         lines.push(format!("{NO_FAULT} {number:>width$}  {roles}"));
     }
     let more = words.words.len().saturating_sub(WORDS_SHOWN);
-    if more > 0 {
-        lines.push(format!("{NO_FAULT} ... and {}", counted(more, "more word")));
-    }
+    lines.extend((more > 0).then(|| more_words(more)));
 }
 
 /// The roles of a word, by their names.
-fn role_names(wallet: &Wallet, judged: &Judged, word: &Word) -> Vec<String> {
-    let roles = roles(judged, &judged.nodes[word.leaf]);
+pub(crate) fn role_names(wallet: &Wallet, judged: &Judged, word: &Word) -> Vec<String> {
+    let roles = spelt(judged, word);
     roles.iter().map(|role| wallet.names.role(*role)).collect()
 }
 
@@ -280,18 +279,7 @@ fn width(words: &Words) -> usize {
 /// runs.
 fn runs(wallet: &Wallet, judged: &Judged, words: &Words, automaton: u16, lines: &mut Vec<String>) {
     lines.push(heading(wallet, judged, automaton));
-    let line = |(number, word): (usize, &Word)| {
-        let mark = match words.is_fault(word, automaton) {
-            true => FAULT,
-            false => NO_FAULT,
-        };
-        let run = run_line(wallet, judged, automaton, word);
-        let met = match words.meets(word, automaton) {
-            true => "; met by this word",
-            false => "",
-        };
-        format!("{mark} {number:>0$}  {run}{met}", width(words))
-    };
+    let line = |own| run_row(wallet, judged, words, automaton, own);
     let numbered = (1..).zip(&words.words);
     lines.extend(numbered.clone().take(WORDS_SHOWN).map(line));
     let more = words.words.len().saturating_sub(WORDS_SHOWN);
@@ -304,20 +292,57 @@ fn runs(wallet: &Wallet, judged: &Judged, words: &Words, automaton: u16, lines: 
     let decisive = hidden.filter(|(_, word)| word.rejected_by(automaton) != lenient);
     let count = decisive.clone().count();
     let judged_so = if lenient { "accepted" } else { "rejected" };
-    lines.push(format!(
-        "{NO_FAULT} ... and {}, {count} of them {judged_so}",
-        counted(more, "more word")
-    ));
+    lines.push(format!("{}, {count} of them {judged_so}", more_words(more)));
     lines.extend(decisive.take(DECISIVE_SHOWN).map(line));
+}
+
+/// An automaton with the first words for which it is not met.
+pub(crate) fn faults(
+    wallet: &Wallet,
+    judged: &Judged,
+    words: &Words,
+    automaton: u16,
+    most: usize,
+) -> Vec<String> {
+    let at_fault = (1..).zip(&words.words);
+    let at_fault = at_fault.filter(|(_, word)| words.is_fault(word, automaton));
+    let rows = at_fault.clone().take(most);
+    let rows = rows.map(|own| run_row(wallet, judged, words, automaton, own));
+    let more = at_fault.count().saturating_sub(most);
+    let heading = [heading(wallet, judged, automaton)].into_iter();
+    let more = (more > 0).then(|| more_words(more));
+    heading.chain(rows).chain(more).collect()
+}
+
+/// That there are more words.
+fn more_words(more: usize) -> String {
+    format!("{NO_FAULT} ... and {}", counted(more, "more word"))
+}
+
+/// The line of an automaton's run on a word, which has a number.
+fn run_row(
+    wallet: &Wallet,
+    judged: &Judged,
+    words: &Words,
+    automaton: u16,
+    (number, word): (usize, &Word),
+) -> String {
+    let mark = match words.is_fault(word, automaton) {
+        true => FAULT,
+        false => NO_FAULT,
+    };
+    let run = run_line(wallet, judged, automaton, word);
+    let met = match words.meets(word, automaton) {
+        true => "; met by this word",
+        false => "",
+    };
+    format!("{mark} {number:>0$}  {run}{met}", width(words))
 }
 
 /// What stands above an automaton's runs.
 fn heading(wallet: &Wallet, judged: &Judged, automaton: u16) -> String {
     let table = &wallet.table;
-    let mut attached = used_credentials(&judged.nodes);
-    attached.retain(|&number| {
-        numbered(table, number).is_some_and(|credential| credential.automaton == automaton)
-    });
+    let attached = attached(table, &judged.nodes, automaton);
     let own = table.automaton(automaton);
     let demands = match own.map(|own| own.mark) {
         Some(Mark::SomeWord) => ", demands some word",
@@ -326,7 +351,7 @@ fn heading(wallet: &Wallet, judged: &Judged, automaton: u16) -> String {
     format!(
         "constraint {}, attached to {}, accepts in {}{demands}",
         wallet.names.constraint(automaton),
-        credentials(&attached),
+        credentials(attached.iter()),
         set(&wallet.names, automaton, own.map_or(0, |own| own.accept))
     )
 }
@@ -334,7 +359,7 @@ fn heading(wallet: &Wallet, judged: &Judged, automaton: u16) -> String {
 /// An automaton's run on a word: whether it accepts, the sets of states with
 /// the roles between them, and where no state is left.
 fn run_line(wallet: &Wallet, judged: &Judged, automaton: u16, word: &Word) -> String {
-    let roles = roles(judged, &judged.nodes[word.leaf]);
+    let roles = spelt(judged, word);
     let sets = run(&wallet.table, automaton, &roles);
     let mut line = match word.rejected_by(automaton) {
         true => "rejected:".to_string(),
@@ -380,7 +405,7 @@ fn place(names: &Names, word: &[Role], index: usize) -> Option<String> {
 }
 
 /// A set of an automaton's states: `{0 2}`.
-fn set(names: &Names, automaton: u16, set: u16) -> String {
+pub(crate) fn set(names: &Names, automaton: u16, set: u16) -> String {
     let states: Vec<String> = states(set)
         .map(|state| names.state(automaton, state))
         .collect();

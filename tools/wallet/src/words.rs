@@ -143,6 +143,13 @@ pub fn used_credentials(nodes: &[Node]) -> Vec<u16> {
     used
 }
 
+/// The credentials that nodes use and to which an automaton is attached, ascending.
+pub fn attached(table: &Table, nodes: &[Node], automaton: u16) -> Vec<u16> {
+    let mut used = used_credentials(nodes);
+    used.retain(|&number| numbered(table, number).is_some_and(|own| own.automaton == automaton));
+    used
+}
+
 /// The automata that are attached to credentials that nodes use, ascending.
 fn used_automata(table: &Table, nodes: &[Node]) -> Vec<u16> {
     let used = used_credentials(nodes).into_iter();
@@ -154,8 +161,8 @@ fn used_automata(table: &Table, nodes: &[Node]) -> Vec<u16> {
     automata
 }
 
-/// Whether a node of a whole tree has no child. A child comes right behind
-/// the node above it.
+/// Whether a node of a whole tree has no child. A child comes right after the
+/// node above it.
 fn is_leaf(nodes: &[Node], index: usize) -> bool {
     match nodes.get(index + 1) {
         Some(next) => next.parent != Some(index),
@@ -170,6 +177,11 @@ pub fn roles(judged: &Judged, node: &Node) -> Vec<Role> {
     roles.extend(above);
     roles.reverse();
     roles
+}
+
+/// The roles of a word.
+pub fn spelt(judged: &Judged, word: &Word) -> Vec<Role> {
+    roles(judged, &judged.nodes[word.leaf])
 }
 
 /// The run of an automaton on a word: its set of states before the first role,

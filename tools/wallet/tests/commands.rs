@@ -4,24 +4,17 @@
 mod tool;
 
 use std::fs;
-use std::io::Write;
-use std::process::{Command, Stdio};
+use std::process::Command;
 
-use tool::{file, fresh, run, run_program, wrong, CONSTRAINED, PROGRAM, SHOP};
+use tool::{
+    accepted, file, fresh, refused, refused_apart, run, run_program, wrong, CONSTRAINED, PROGRAM,
+    SHOP,
+};
 
-const LISTED: &str = "\
-2 minimal sets prove Ann in Shop.discount within 2
-
-set 7
-   1  Shop.discount <- Shop.accredited.student  line 5
-   2  Shop.accredited <- School                 line 6
-   3  School.student <- Ann                     line 7
-  shows School in Shop.accredited, Ann in School.student
-
-set 8
-   4  Shop.discount <- Ann  line 8
-  shows Ann in Shop.discount
-";
+/// The commands that ask about a wallet, with nothing more than the wallet.
+const ASKING: [&str; 8] = [
+    "encode", "list", "why", "explain", "prove", "verify", "draw", "report",
+];
 
 #[test]
 fn encode() {
@@ -38,31 +31,59 @@ fn encode() {
 
 #[test]
 fn list_and_explain_say_the_same() {
-    for wallet in [SHOP, CONSTRAINED] {
-        let input = run(&["encode", wallet], b"").out;
+    let nobody = ["--query", "School in Shop.discount within 2"];
+    for call in [&[SHOP][..], &[CONSTRAINED], &[SHOP, nobody[0], nobody[1]]] {
+        let input = run(&[&["encode"], call].concat(), b"").out;
         let output = run_program(PROGRAM, &[], &input).out;
-        let explained = run(&["explain", wallet], &output);
-        let listed = run(&["list", wallet], b"");
-        assert_eq!((explained.code, listed.code), (Some(0), Some(0)));
+        let explained = run(&[&["explain"], call].concat(), &output);
+        let listed = run(&[&["list"], call].concat(), b"");
         assert_eq!(explained.text(), listed.text());
-        if wallet == SHOP {
-            assert_eq!(listed.text(), LISTED);
-        }
+        assert_eq!((explained.code, &explained.err), (listed.code, &listed.err));
     }
 }
 
 #[test]
-fn a_list_that_is_refused() {
-    let text = "A.r <- B\nC in A.r within 1\n";
-    let done = run(&["list", "-"], text.as_bytes());
-    let words = "refused 9: no set of credentials proves C in A.r within 1\n";
-    assert_eq!((done.code, done.text().as_str()), (Some(1), words));
-    let wallet = file("nobody.wallet", text.as_bytes());
-    let done = run(&["explain", &wallet], b"refused 9 0\n");
-    assert_eq!((done.code, done.text().as_str()), (Some(1), words));
-    let done = run(&["explain", &wallet], b"refused 8 4\n");
-    let words = "refused 8 at 4: the query's depth is out of range (line 2)\n";
-    assert_eq!((done.code, done.text().as_str()), (Some(1), words));
+fn an_output_that_is_not_the_answer_is_not_explained() {
+    for (output, difference) in [
+        ("", "line 1 should be `7`, and is missing"),
+        ("8\nsets 1\n", "line 1 should be `7`, and is `8`"),
+        (
+            "7\n8\nsets 3\n",
+            "line 3 should be `sets 2`, and is `sets 3`",
+        ),
+        (
+            "refused 9 0\n",
+            "line 1 should be `7`, and is `refused 9 0`",
+        ),
+        ("7\n8\nsets 2\nx\n", "line 4 should be missing, and is `x`"),
+    ] {
+        let told = wrong(&["explain", SHOP], output.as_bytes());
+        let words = "wallet: standard input: this is not the checker's answer";
+        assert_eq!(told, format!("{words}: {difference}\n"));
+    }
+    wrong(&["explain", SHOP], b"\xff\nsets 1\n");
+}
+
+#[test]
+fn a_list_that_is_refused_says_how_to_see_why() {
+    let text = b"A.r <- B\nA.s <- C\nC in A.r within 1\n";
+    let asked = "C in A.r within 1";
+    let none = format!("refused 9: no set of credentials proves {asked}");
+    let hint = "to see what stands in the way: wallet why";
+    refused(&run(&["list", "-"], text), &format!("{none}\n{hint} -"));
+    for (name, shown) in [("nobody.wallet", ""), ("it's nobody", "'")] {
+        let path = file(name, text);
+        let pasted = match shown {
+            "" => path.clone(),
+            _ => format!("'{}'", path.replace('\'', "'\\''")),
+        };
+        let told = format!("{none}\n{hint} {pasted}");
+        for command in ["list", "prove"] {
+            refused(&run(&[command, &path], b""), &told);
+            let apart = run(&[command, &path, "--query", " C in A . r within 1"], b"");
+            refused(&apart, &format!("{told} --query \"{asked}\""));
+        }
+    }
 }
 
 #[test]
@@ -70,14 +91,10 @@ fn decode() {
     let input = run(&["encode", CONSTRAINED], b"").out;
     let text = fs::read_to_string(CONSTRAINED).expect("the example");
     let (_, bare) = text.split_once('\n').expect("a comment on the first line");
-    let done = run(&["decode", "--names", CONSTRAINED], &input);
-    assert_eq!((done.code, done.text().as_str()), (Some(0), bare));
-    let done = run(&["decode"], &input);
-    assert_eq!(done.code, Some(0));
-    assert!(done
-        .text()
-        .starts_with("principals P1 = 1, P2 = 2, P4 = 4\n"));
-    // What is behind 4,096 bytes does not count.
+    assert_eq!(accepted(&["decode", "--names", CONSTRAINED], &input), bare);
+    let nameless = accepted(&["decode"], &input);
+    assert!(nameless.starts_with("principals P1 = 1, P2 = 2, P4 = 4\n"));
+    // What comes after 4,096 bytes does not count.
     let mut long = input.clone();
     long.resize(4096, 0);
     let done = run(&["decode"], &[long, vec![1; 9]].concat());
@@ -85,13 +102,15 @@ fn decode() {
     assert!(done.err.starts_with("wallet: refused 3: "), "{}", done.err);
 }
 
+/// Where the constrained shop's input has the mark of its automaton: after query,
+/// head, four credentials, and the automaton's two sets.
+const MARK: usize = 2 * (4 + 4 + 4 * 6 + 2);
+
 /// The constrained shop's input in the base layout, whose automaton has no mark.
 fn base_input() -> Vec<u8> {
     let mut input = run(&["encode", CONSTRAINED], b"").out;
-    // Query, head, four credentials, and the automaton's two sets stand before it.
-    let mark = 2 * (4 + 4 + 4 * 6 + 2);
-    assert_eq!(input[mark..mark + 2], [0, 0]);
-    input.drain(mark..mark + 2);
+    assert_eq!(input[MARK..MARK + 2], [0, 0]);
+    input.drain(MARK..MARK + 2);
     input
 }
 
@@ -104,56 +123,34 @@ fn upgrade() {
     // Without automata there is nothing to add.
     let shop = run(&["encode", SHOP], b"").out;
     assert_eq!(run(&["upgrade"], &shop).out, shop);
-    let path = fresh("upgraded.input");
-    let name = path.to_str().expect("a path in text");
-    let done = run(&["upgrade", "-o", name], &base_input());
-    assert_eq!((done.code, done.out.len()), (Some(0), 0));
-    assert_eq!(fs::read(&path).expect("the file"), today);
-}
-
-#[test]
-fn what_has_not_the_base_layout_is_not_upgraded() {
-    let today = run(&["encode", CONSTRAINED], b"").out;
     let base = base_input();
     let over = [&[4, 0, 1, 0, 1, 0, 2, 0, 21, 0][..], &[0; 6]].concat();
+    let short = "refused 1: the input has fewer than 16 bytes, or an odd number of them";
     for (input, told) in [
-        (&today[..], "3: the table has marks already"),
+        (&today[..], "refused 3: the table has marks already"),
         (
             &base[..base.len() - 2],
-            "3: the table's length is not what its head says in the base layout",
-        ),
-        (&over, "2: a count in the table's head is over its limit"),
-        (
-            &base[..9],
-            "1: the input has fewer than 16 bytes, or an odd number of them",
+            "refused 3: the table's length is not what its head says in the base layout",
         ),
         (
-            b"",
-            "1: the input has fewer than 16 bytes, or an odd number of them",
+            &over,
+            "refused 2: a count of the table's head is over its limit",
         ),
+        (&base[..9], short),
+        (b"", short),
     ] {
-        let done = run(&["upgrade"], input);
-        assert_eq!(done.code, Some(1), "{told}");
-        assert!(done.out.is_empty(), "{told}");
-        assert_eq!(done.err, format!("wallet: refused {told}\n"));
+        refused_apart(&run(&["upgrade"], input), told);
     }
-}
-
-#[test]
-fn an_input_of_the_base_layout_is_told_as_one() {
-    let done = run(&["decode"], &base_input());
-    assert_eq!(done.code, Some(1));
-    let told = "wallet: refused 3: the table's length is not what its head says; it is that of \
-        the base layout, which has no marks: `wallet upgrade` adds them\n";
-    assert_eq!(done.err, told);
+    let told = "refused 3: the table's length is not what its head says; it is that of the base \
+        layout, which has no marks: `wallet upgrade` adds them";
+    refused_apart(&run(&["decode"], &base), told);
 }
 
 #[test]
 fn marks() {
     let mut input = run(&["encode", CONSTRAINED], b"").out;
-    let mark = 2 * (4 + 4 + 4 * 6 + 2);
-    input[mark] = 1;
-    let text = run(&["decode", "--names", CONSTRAINED], &input).text();
+    input[MARK] = 1;
+    let text = accepted(&["decode", "--names", CONSTRAINED], &input);
     let head = "constraint not-for-discounts\n  some word\n  start 0\n";
     assert!(text.contains(head), "{text}");
     assert_eq!(run(&["encode", "-"], text.as_bytes()).out, input);
@@ -163,15 +160,9 @@ fn marks() {
     let usual = run(&["encode", CONSTRAINED], b"").out;
     assert_eq!(run(&["encode", "-"], every.as_bytes()).out, usual);
     assert_eq!(run(&["encode", "-"], bare.as_bytes()).out, usual);
-    input[mark] = 2;
-    let done = run(&["decode"], &input);
-    assert_eq!(done.code, Some(1));
-    let told = "wallet: refused 17 at 1: automaton 1 has a mark that is neither 0 nor 1\n";
-    assert_eq!(done.err, told);
-    let done = run(&["explain", CONSTRAINED], b"refused 17 1\n");
-    assert_eq!(done.code, Some(1));
-    let told = "refused 17 at 1: automaton 1 has a mark that is neither 0 nor 1 (line 10)\n";
-    assert_eq!(done.text(), told);
+    input[MARK] = 2;
+    let told = "refused 17 at 1: automaton 1's mark is neither 0 nor 1";
+    refused_apart(&run(&["decode"], &input), told);
 }
 
 #[test]
@@ -181,17 +172,11 @@ fn an_input_that_is_refused_has_no_text() {
     let path = fresh("refused.wallet");
     let to_file = ["decode", "-o", path.to_str().expect("a path in text")];
     for arguments in [&to_file[..1], &to_file] {
-        let done = run(arguments, &input);
-        assert_eq!(done.code, Some(1));
-        assert!(done.out.is_empty());
-        let told =
-            "wallet: refused 4 at 1: credential 1 has a field outside what its kind allows\n";
-        assert_eq!(done.err, told);
+        let told = "refused 4 at 1: a field of credential 1 is outside what its kind allows";
+        refused_apart(&run(arguments, &input), told);
+        let short = "refused 1: the input has fewer than 16 bytes, or an odd number of them";
         for input in [&input[..15], &input[..6], b""] {
-            let done = run(arguments, input);
-            assert_eq!(done.code, Some(1));
-            assert!(done.err.starts_with("wallet: refused 1: "), "{}", done.err);
-            assert!(done.out.is_empty());
+            refused_apart(&run(arguments, input), short);
         }
     }
     assert!(!path.exists());
@@ -200,80 +185,41 @@ fn an_input_that_is_refused_has_no_text() {
 #[test]
 fn verify_and_draw() {
     for command in ["verify", "draw"] {
-        let accepted = run(&[command, SHOP, "1", "2", "2", "0", "3", "0"], b"");
-        assert_eq!(accepted.code, Some(0));
-        assert!(!accepted.out.is_empty());
+        let whole = accepted(&[command, SHOP, "1", "2", "2", "0", "3", "0"], b"");
         for record in ["1 2 2 0 3 0", "1,2,2,0,3,0", "1, 2, 2, 0, 3, 0"] {
-            assert_eq!(run(&[command, SHOP, record], b"").out, accepted.out);
+            assert_eq!(accepted(&[command, SHOP, record], b""), whole);
         }
-        let refused = run(&[command, CONSTRAINED, "1", "2", "2", "0", "3", "0"], b"");
-        assert_eq!(refused.code, Some(1));
-        assert!(!refused.out.is_empty());
-        let empty = run(&[command, SHOP], b"");
-        assert_eq!(empty.code, Some(1));
-        wrong(&[command, SHOP, "1", "x"], b"");
-        wrong(&[command, SHOP, "65536"], b"");
-        wrong(&[command, SHOP, "-1"], b"");
-        wrong(&[command, SHOP, "1,,2"], b"");
+        for (wallet, record) in [(CONSTRAINED, "1 2 2 0 3 0"), (SHOP, "")] {
+            let refused = run(&[command, wallet, record], b"");
+            assert_eq!((refused.code, refused.err.as_str()), (Some(1), ""));
+            assert!(!refused.out.is_empty());
+        }
+        for record in ["1 x", "65536", "1,,2"] {
+            wrong(&[command, SHOP, record], b"");
+        }
+        wrong(&[command, SHOP, "--", "-1"], b"");
     }
 }
 
 #[test]
-fn a_file_instead_of_standard_output() {
-    let path = fresh("shop.input");
-    let name = path.to_str().expect("a path in text");
-    for arguments in [["encode", "-o", name, SHOP], ["encode", SHOP, "-o", name]] {
-        let done = run(&arguments, b"");
-        assert_eq!((done.code, done.out.len()), (Some(0), 0));
-        assert_eq!(
-            fs::read(&path).expect("the file"),
-            run(&["encode", SHOP], b"").out
-        );
-        fs::remove_file(&path).expect("the file is there");
-    }
-    let done = run(&["encode", SHOP, "-o", "/no/such/directory/file"], b"");
-    assert_eq!(done.code, Some(2));
-    assert!(
-        done.err.starts_with("wallet: /no/such/directory/file: "),
-        "{}",
-        done.err
-    );
-}
-
-#[test]
-fn texts_with_a_mistake() {
-    let name = file("mistake.wallet", b"A.r <- B\nA.r <-\n");
-    for command in ["encode", "list", "explain", "prove", "verify", "draw"] {
-        let told = wrong(&[command, &name], b"7\n8\nsets 2\n");
-        let expected = format!("wallet: {name}: line 2, column 7: the line ends where ");
-        assert!(told.starts_with(&expected), "{told}");
+fn texts_with_a_mistake_and_without_a_query() {
+    let mistake = file("mistake.wallet", b"A.r <- B\nA.r <-\n");
+    let unasked = file("unasked.wallet", b"A.r <- B\n");
+    let place = format!("wallet: {mistake}: line 2, column 7: expected a principal ");
+    for command in ASKING {
+        let told = wrong(&[command, &mistake], b"");
+        assert!(told.starts_with(&place), "{told}");
+        let told = wrong(&[command, &unasked], b"");
+        let words = "the wallet has no query; write a line like `D in A.r within 2`, or give one \
+            after `--query`";
+        assert_eq!(told, format!("wallet: {unasked}: {words}\n"));
     }
     let input = run(&["encode", SHOP], b"").out;
-    let told = wrong(&["decode", "--names", &name], &input);
-    assert!(
-        told.starts_with(&format!("wallet: {name}: line 2, column 7: ")),
-        "{told}"
-    );
-    let told = wrong(&["list", "-"], b"A.r <- \xff");
-    assert!(
-        told.starts_with("wallet: standard input: line 1, column 8: "),
-        "{told}"
-    );
-}
-
-#[test]
-fn wallets_without_a_query() {
-    let name = file("unasked.wallet", b"A.r <- B\n");
-    for command in ["encode", "list", "explain", "prove", "verify", "draw"] {
-        let told = wrong(&[command, &name], b"");
-        assert!(
-            told.ends_with(
-                ": the wallet has no query; write a line like `D in A.r within 2`, \
-                 or the same behind `--query`\n"
-            ),
-            "{told}"
-        );
-    }
+    let told = wrong(&["decode", "--names", &mistake], &input);
+    assert!(told.starts_with(&place), "{told}");
+    let told = wrong(&["check", "-"], b"A.r <- \xff");
+    let place = "wallet: standard input: line 1, column 8: ";
+    assert!(told.starts_with(place), "{told}");
 }
 
 /// The shop's credentials, without numbers and without a query.
@@ -283,215 +229,107 @@ const UNASKED: &[u8] = b"Shop.discount <- Shop.accredited.student\nShop.accredit
 #[test]
 fn a_query_on_the_command_line() {
     let own = run(&["encode", SHOP], b"").out;
-    let asked = |command, more: &[&str], input: &[u8]| {
-        let query = "Ann in Shop.discount within 1";
-        run(&[&[command, SHOP, "--query", query], more].concat(), input)
-    };
-    let input = asked("encode", &[], b"").out;
+    let query = ["--query", "Ann in Shop.discount within 1"];
+    let asked = |call: &[&str]| run(&[call, &query].concat(), b"");
+    let input = asked(&["encode", SHOP]).out;
     assert_eq!(input[..8], [4, 0, 1, 0, 1, 0, 1, 0]);
     assert_eq!(input[8..], own[8..]);
     let words = "1 minimal set proves Ann in Shop.discount within 1\n\nset 8\n   \
         4  Shop.discount <- Ann  line 8\n  shows Ann in Shop.discount\n";
-    let listed = asked("list", &[], b"");
-    assert_eq!((listed.code, listed.text().as_str()), (Some(0), words));
-    let output = run_program(PROGRAM, &[], &input).out;
-    let explained = asked("explain", &[], &output);
-    assert_eq!(
-        (explained.code, explained.text().as_str()),
-        (Some(0), words)
-    );
-    // What is asked stands on no line of the wallet.
-    let refused = asked("explain", &[], b"refused 8 4\n").text();
-    assert_eq!(
-        refused,
-        "refused 8 at 4: the query's depth is out of range\n"
-    );
-    let judged = asked("verify", &["1", "2", "2", "0", "3", "0"], b"");
+    assert_eq!(asked(&["list", SHOP]).text(), words);
+    let judged = asked(&["verify", SHOP, "1", "2", "2", "0", "3", "0"]);
     assert_eq!(judged.code, Some(1));
     let last = "\nrefused 13 at 2: level 2 is deeper than the depth limit, 1\n";
     assert!(judged.text().ends_with(last), "{}", judged.text());
-    let drawn = asked("draw", &["4 0"], b"");
-    assert_eq!(drawn.code, Some(0));
+    let drawn = asked(&["draw", SHOP, "4 0"]).text();
     let title = "<title>Ann in Shop.discount within 1: accepted";
-    assert!(drawn.text().contains(title), "{}", drawn.text());
-}
-
-#[test]
-fn a_query_for_a_wallet_without_one() {
-    let asked = |query| run(&["encode", "-", "--query", query], UNASKED).out;
-    let one = asked("Ann in Shop.discount within 2");
-    assert_eq!(one[..8], [3, 0, 1, 0, 1, 0, 2, 0]);
-    let other = asked("School in Ann.student within 16");
-    assert_eq!(other[..8], [2, 0, 3, 0, 3, 0, 16, 0]);
+    assert!(drawn.contains(title), "{drawn}");
     // Names have their numbers from the wallet alone.
+    let encoded = |query| run(&["encode", "-", "--query", query], UNASKED).out;
+    let one = encoded("Ann in Shop.discount within 2");
+    assert_eq!(one[..8], [3, 0, 1, 0, 1, 0, 2, 0]);
+    let other = encoded("School in Ann.student within 16");
+    assert_eq!(other[..8], [2, 0, 3, 0, 3, 0, 16, 0]);
     assert_eq!(one[8..], other[8..]);
-    let listed = run(
-        &["list", "-", "--query", "Ann in Shop.discount within 2"],
-        UNASKED,
-    );
-    assert_eq!(listed.code, Some(0));
-    let heading = "2 minimal sets prove Ann in Shop.discount within 2\n";
-    assert!(listed.text().starts_with(heading), "{}", listed.text());
 }
 
 #[test]
 fn queries_with_a_mistake() {
     let name = file("unasked-shop.wallet", UNASKED);
     for wallet in [SHOP, &name] {
-        for command in ["encode", "list", "explain", "prove", "verify", "draw"] {
-            let told = |query| wrong(&[command, wallet, "--query", query], b"8\nsets 1\n");
+        for command in ASKING.into_iter().chain(["check"]) {
+            let told = |query| wrong(&[command, wallet, "--query", query], b"");
             let unknown = told("Bob in Shop.discount within 2");
             let words = "wallet: --query: column 1: `Bob` is not a principal of the wallet; ";
             assert!(unknown.starts_with(words), "{unknown}");
-            let short = "wallet: --query: column 21: the query ends where `within` is expected; \
-                write a query like `D in A.r within 2`\n";
-            assert_eq!(told("Ann in Shop.discount"), short);
             let empty = told("");
             assert!(empty.starts_with("wallet: --query: column 1: "), "{empty}");
         }
     }
     // A mistake of the wallet comes first.
     let told = wrong(&["list", "-", "--query", "Bob"], b"A.r <-\n");
-    assert!(
-        told.starts_with("wallet: standard input: line 1, "),
-        "{told}"
-    );
+    let place = "wallet: standard input: line 1, ";
+    assert!(told.starts_with(place), "{told}");
 }
 
-#[cfg(unix)]
 #[test]
 fn a_query_that_is_not_utf_8() {
+    use std::ffi::OsStr;
     use std::os::unix::ffi::OsStrExt;
-    let query = std::ffi::OsStr::from_bytes(b"Ann in Caf\xe9.discount within 2");
-    let output = Command::new(env!("CARGO_BIN_EXE_wallet"))
-        .args(["list", SHOP, "--query"])
-        .arg(query)
-        .output()
-        .expect("the tool");
-    assert_eq!((output.status.code(), output.stdout.len()), (Some(2), 0));
-    let told = String::from_utf8_lossy(&output.stderr);
-    let words = "wallet: --query: column 11: the byte 0xE9 is not UTF-8; ";
-    assert!(told.starts_with(words), "{told}");
-}
-
-#[test]
-fn outputs_that_the_program_does_not_print() {
-    for output in [
-        "",
-        "7\n",
-        "7\n8\nsets 3\n",
-        "7\n16\nsets 2\n",
-        "x\nsets 1\n",
-        "refused\n",
-    ] {
-        let told = wrong(&["explain", SHOP], output.as_bytes());
-        assert!(
-            told.contains("not what the listing program prints"),
-            "{told}"
-        );
+    let calls: [&[&[u8]]; 2] = [
+        &[b"--query", b"Ann in Caf\xe9.discount within 2"],
+        &[b"--query=Ann in Caf\xe9.discount within 2"],
+    ];
+    for call in calls {
+        let output = Command::new(env!("CARGO_BIN_EXE_wallet"))
+            .args(["list", SHOP])
+            .args(call.iter().map(|word| OsStr::from_bytes(word)))
+            .output()
+            .expect("the tool");
+        assert_eq!((output.status.code(), output.stdout.len()), (Some(2), 0));
+        let told = String::from_utf8_lossy(&output.stderr);
+        let words = "wallet: --query: column 11: the byte 0xE9 is not UTF-8; ";
+        assert!(told.starts_with(words), "{told}");
     }
-    wrong(&["explain", SHOP], b"\xff\nsets 1\n");
 }
 
 #[test]
 fn files_that_cannot_be_read() {
     let told = wrong(&["list", "/no/such/file"], b"");
     assert!(told.starts_with("wallet: /no/such/file: "), "{told}");
+    assert_eq!(told.lines().count(), 1, "{told}");
     wrong(&["list", env!("CARGO_TARGET_TMPDIR")], b"");
     let comment = vec![b'#'; (1 << 20) + 1];
-    let told = wrong(&["list", "-"], &comment);
-    assert!(told.contains("longer than 1048576 bytes"), "{told}");
-    wrong(&["list", &file("long.wallet", &comment)], b"");
-    let told = wrong(&["explain", SHOP], &vec![b'7'; (1 << 20) + 1]);
-    assert!(told.contains("longer than 1048576 bytes"), "{told}");
-}
-
-#[test]
-fn calls_that_are_wrong() {
-    let calls: [&[&str]; 27] = [
-        &[],
-        &["lists", SHOP],
-        &["list"],
-        &["list", SHOP, SHOP],
-        &["list", "--all"],
-        &["list", SHOP, "--names", SHOP],
-        &["explain", "-"],
-        &["decode", SHOP],
-        &["decode", "--names"],
-        &["decode", "--names", "-"],
-        &["decode", "--names", SHOP, "--names", SHOP],
-        &["list", SHOP, "-o"],
-        &["list", SHOP, "--query"],
-        &["list", SHOP, "--query", "", "--query", ""],
-        &["decode", "--query", "Ann in Shop.discount within 2"],
-        &["prove"],
-        &["prove", SHOP, "1,2,3"],
-        &["prove", SHOP, "7", "8"],
-        &["prove", SHOP, "--numbers"],
-        &["prove", SHOP, "--set", "7"],
-        &["list", SHOP, "--record", SHOP],
-        &["verify", SHOP, "1", "2", "--set", "7"],
-        &["verify", SHOP, "1", "2", "--record", "-"],
-        &["draw", SHOP, "--record", "-", "--set", "7"],
-        &["draw", "-", "--record", "-"],
-        &["verify", SHOP, "--set"],
-        &["verify", SHOP, "--sets", "7"],
-    ];
-    for arguments in calls {
-        let done = run(arguments, b"");
-        assert_eq!(done.code, Some(2), "{arguments:?}");
-        assert!(done.out.is_empty(), "{arguments:?}");
-        assert!(
-            done.err.contains("\nusage: wallet encode WALLET"),
-            "{}",
-            done.err
-        );
-    }
-    let help = run(&["--help"], b"");
-    assert_eq!(help.code, Some(0));
-    assert!(help.text().starts_with("usage: wallet encode WALLET"));
-    assert!(help
-        .text()
-        .contains("\n`--query \"D in A.r within 2\"` asks "));
-}
-
-#[test]
-fn a_reader_that_has_enough() {
-    for command in ["list", "prove"] {
-        let mut child = Command::new(env!("CARGO_BIN_EXE_wallet"))
-            .args([command, "-"])
-            .stdin(Stdio::piped())
-            .stdout(Stdio::piped())
-            .stderr(Stdio::piped())
-            .spawn()
-            .expect("the tool");
-        // It writes only when it has read everything, and nobody reads by then.
-        drop(child.stdout.take());
-        let mut stdin = child.stdin.take().expect("its standard input");
-        let text = fs::read(SHOP).expect("the example");
-        stdin.write_all(&text).expect("it reads its input");
-        drop(stdin);
-        let output = child.wait_with_output().expect("its end");
-        assert_eq!(output.status.code(), Some(0));
-        assert!(output.stderr.is_empty());
+    let long = file("long.wallet", &comment);
+    for (call, input) in [
+        (["list", "-"], &comment),
+        (["list", &long], &vec![]),
+        (["explain", SHOP], &comment),
+    ] {
+        let told = wrong(&call, input);
+        assert!(told.contains("longer than 1048576 bytes"), "{told}");
     }
 }
 
-#[cfg(target_os = "linux")]
 #[test]
-fn an_output_that_is_full() {
-    let full = fs::OpenOptions::new().write(true).open("/dev/full");
-    let output = Command::new(env!("CARGO_BIN_EXE_wallet"))
-        .args(["list", SHOP])
-        .stdout(full.expect("/dev/full"))
-        .output()
-        .expect("the tool");
-    assert_eq!(output.status.code(), Some(2));
-    let told = String::from_utf8_lossy(&output.stderr);
-    assert!(told.starts_with("wallet: standard output: "), "{told}");
-    for command in ["list", "prove"] {
-        let done = run(&[command, SHOP, "-o", "/dev/full"], b"");
-        assert_eq!(done.code, Some(2));
-        assert!(done.err.starts_with("wallet: /dev/full: "), "{}", done.err);
-    }
+fn a_wrong_call_is_told_the_usage_of_its_command_alone() {
+    let told = wrong(&["list", SHOP, SHOP], b"");
+    let usage = "usage: wallet list WALLET [--query QUERY] [--count] [--sets] [--json] [-o FILE]";
+    assert_eq!(
+        told,
+        format!("wallet: unexpected argument `{SHOP}`\n{usage}\n")
+    );
+    let help = accepted(&["help", "list"], b"");
+    assert!(help.starts_with(usage), "{help}");
+    assert_eq!(accepted(&["list", SHOP, "--help"], b""), help);
+    let overview = accepted(&["help"], b"");
+    assert_eq!(accepted(&["--help"], b""), overview);
+    let none = run(&[], b"");
+    let told = format!("wallet: a command is missing\n{overview}");
+    assert_eq!((none.code, none.err), (Some(2), told));
+    let unknown = wrong(&["lists", SHOP], b"");
+    let told = "wallet: unknown command `lists`\n`wallet help` lists the commands\n";
+    assert_eq!(unknown, told);
+    let version = concat!("wallet ", env!("CARGO_PKG_VERSION"), "\n");
+    assert_eq!(accepted(&["--version"], b""), version);
 }

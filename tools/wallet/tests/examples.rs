@@ -124,8 +124,8 @@ fn every_file_that_a_page_links_or_shows_is_there() {
     let mut links = 0;
     for name in pages() {
         let page = root().join(&name);
-        for behind in text(&name).split("](").skip(1) {
-            let target = behind.split(')').next().unwrap_or_default();
+        for after in text(&name).split("](").skip(1) {
+            let target = after.split(')').next().unwrap_or_default();
             let found = page.with_file_name(target).is_file();
             assert!(found, "{name} links to {target}, which is not there");
             links += 1;
@@ -182,7 +182,7 @@ fn what_is_no_page_or_no_command_is_told() {
     told("```console\nwallet\n```\n", "line 2: a block begins with");
     told("```console\n$ rm sets\n```\n", ":2: rm is not one of");
     told("```console\n$ wallet; wallet\n```\n", "; is not read here");
-    told("```console\n$ wallet <\n```\n", "no file behind <");
+    told("```console\n$ wallet <\n```\n", "no file after <");
     told("```console\n$ wallet |\n```\n", "no program");
     told("```console\n$ wallet a|b\n```\n", "| is not read here");
     told("```console\n$ wallet \"a\n```\n", "a quote has no end");

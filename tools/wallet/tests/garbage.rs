@@ -11,7 +11,7 @@ use wallet::mistake::Mistake;
 use wallet::parse::{parse, record};
 use wallet::print::print;
 use wallet::proof::numbers;
-use wallet::tokens::KEPT;
+use wallet::tokens::RESERVED;
 use wallet::tree::text;
 
 /// Reads bytes as a text, and tells whether there was no mistake.
@@ -39,13 +39,28 @@ fn read(bytes: &[u8]) -> bool {
 /// A mistake is at a place that the text has, and says what to write instead.
 fn assert_placed(mistake: &Mistake, bytes: &[u8]) {
     let lines: Vec<&[u8]> = bytes.split(|byte| *byte == b'\n').collect();
-    let line = mistake
-        .line
-        .checked_sub(1)
-        .and_then(|index| lines.get(index));
+    let line = lines.get(mistake.line.wrapping_sub(1));
     let line = line.unwrap_or_else(|| panic!("{mistake}"));
     assert!((1..=line.len() + 1).contains(&mistake.column), "{mistake}");
     assert!(mistake.message.contains("; "), "{mistake}");
+}
+
+/// Reads texts of fewer than so many pieces, some of which are right.
+fn assert_often_right(
+    mut random: Random,
+    texts: usize,
+    most: usize,
+    pieces: &[&str],
+    between: &str,
+    read: fn(&[u8]) -> bool,
+) {
+    let mut right = 0;
+    for _ in 0..texts {
+        let count = random.below(most);
+        let chosen: Vec<&str> = (0..count).map(|_| *random.pick(pieces)).collect();
+        right += usize::from(read(chosen.join(between).as_bytes()));
+    }
+    assert!(right > 500, "{right}");
 }
 
 const SHOP: &[u8] = include_bytes!("../../../examples/shop-constrained.wallet");
@@ -54,86 +69,45 @@ const SHOP: &[u8] = include_bytes!("../../../examples/shop-constrained.wallet");
 const CELLS: &str = "cell 1 = A.r then 2\ncell 2 = B.s\nA.r <- A.r & B.s at cell 1 under c\n\
     A.r <- A.r & B.s & C.t\nconstraint c\nstart x 0\nsome word\naccept\nx -- not A.r --> y\n\
     constraint d\nevery word\nedges of c\n0 -- C.t --> 15\n0 -- any of E --> x\n0 -- any --> x\n\
-    D in A.r within 16\nprincipals Z = 64\n";
+    D in A.r within 16\nprincipals D = 64\n";
 
 #[test]
 fn random_bytes() {
     let mut random = Random::new(1);
     for _ in 0..4000 {
-        let length = random.below(80);
-        let bytes: Vec<u8> = (0..length).map(|_| random.bits() as u8).collect();
+        let bytes: Vec<u8> = (0..random.below(80)).map(|_| random.bits() as u8).collect();
         read(&bytes);
-    }
-    let signs = b"Ab1_-.<>&=,# \t\n\r";
-    for _ in 0..4000 {
-        let length = random.below(40);
-        let bytes: Vec<u8> = (0..length).map(|_| *random.pick(signs)).collect();
-        read(&bytes);
+        let signs = (0..random.below(40)).map(|_| *random.pick(b"Ab1_-.<>&=:,# \t\n\r"));
+        read(&signs.collect::<Vec<u8>>());
     }
 }
 
 #[test]
 fn random_words_of_the_lines() {
-    let others = [
-        "A",
-        "B",
-        "r",
-        "s",
-        "c",
-        "0",
-        "1",
-        "2",
-        "16",
-        "65",
-        "99999999999999999999",
-        ".",
-        ".",
-        ",",
-        "=",
-        "&",
-        "<-",
-        "<-",
-        "--",
-        "-->",
-        "#",
+    let others = "A B r s c 0 1 2 16 65 99999999999999999999 . . , = & <- <- -- --> -> \u{2190} # \
+        A.r B.s e\u{301} \u{e9} \u{200d} every some word";
+    let pieces = [
         "\n",
         "\n",
         "\n",
-        "A.r",
-        "B.s",
         "A.r <- ",
         "0 -- any --> 1",
         "0 -- any of A --> 1",
-        "constraint c\n",
-        "some word\n",
-        "every",
-        "some",
-        "word",
-        "at cell 1",
     ];
-    let words = [&KEPT[..], &others].concat();
-    let mut random = Random::new(2);
-    let mut right = 0;
-    for _ in 0..20_000 {
-        let length = random.below(14);
-        let soup: Vec<&str> = (0..length).map(|_| *random.pick(&words)).collect();
-        right += usize::from(read(soup.join(" ").as_bytes()));
-    }
-    assert!(right > 500, "{right}");
+    let lines = ["constraint c\n", "some word\n", "at cell 1"];
+    let words: Vec<&str> = [RESERVED, others]
+        .iter()
+        .flat_map(|text| text.split(' '))
+        .collect();
+    let words = [&words[..], &pieces, &lines].concat();
+    assert_often_right(Random::new(2), 20_000, 14, &words, " ", read);
 }
 
 #[test]
 fn random_lines_of_right_texts() {
     let mut lines: Vec<&str> = CELLS.lines().collect();
     lines.extend(std::str::from_utf8(SHOP).expect("text").lines());
-    let mut random = Random::new(3);
-    let mut right = 0;
-    for _ in 0..10_000 {
-        let count = random.below(12);
-        let chosen: Vec<&str> = (0..count).map(|_| *random.pick(&lines)).collect();
-        right += usize::from(read(chosen.join("\n").as_bytes()));
-    }
-    assert!(right > 500, "{right}");
+    assert_often_right(Random::new(3), 10_000, 12, &lines, "\n", read);
 }
 
 #[test]
@@ -149,7 +123,7 @@ fn texts_cut_anywhere() {
 
 #[test]
 fn texts_with_one_character_changed() {
-    let others = "aZ09_-.,=&<># \t\n\r\u{e9}\u{0}%";
+    let others = "aZ09_-.,=&<># \t\n\r\u{e9}\u{301}\u{200d}\u{0}%";
     for text in [std::str::from_utf8(SHOP).expect("text"), CELLS] {
         let characters: Vec<char> = text.chars().collect();
         for place in 0..characters.len() {
@@ -185,10 +159,15 @@ fn printed_texts_with_bytes_changed() {
 #[test]
 fn very_long_lines_and_texts() {
     let million = 1 << 20;
-    read("A".repeat(million).as_bytes());
-    read("9".repeat(million).as_bytes());
-    read("\n".repeat(million).as_bytes());
-    read(".".repeat(million).as_bytes());
+    for piece in ["A", "9", "\n", ".", "-", "e\u{301}", "\u{301}", "\u{ac01}"] {
+        read(piece.repeat(million / piece.len()).as_bytes());
+    }
+    // Names that are the same up to their last letters.
+    let long = "\u{e9}".repeat(million / 140);
+    let long: Vec<String> = (0..60)
+        .map(|number| format!("{long}-{number}.r <- A\n"))
+        .collect();
+    read(long.concat().as_bytes());
     read("A.r <- ".repeat(million / 7).as_bytes());
     read(&[b"A.r <- B.s".to_vec(), b" & B.s".repeat(100_000)].concat());
     read(&[b"constraint c\nstart".to_vec(), b" 1".repeat(500_000)].concat());
@@ -218,17 +197,12 @@ fn read_record(bytes: &[u8]) -> bool {
 #[test]
 fn random_bytes_as_a_record() {
     let mut random = Random::new(5);
-    for _ in 0..4000 {
-        let length = random.below(40);
-        let bytes: Vec<u8> = (0..length).map(|_| random.bits() as u8).collect();
-        read_record(&bytes);
-    }
-    let signs = b"0123456789, \t\n\r-A";
     let mut right = 0;
     for _ in 0..4000 {
-        let length = random.below(20);
-        let bytes: Vec<u8> = (0..length).map(|_| *random.pick(signs)).collect();
-        right += usize::from(read_record(&bytes));
+        let bytes: Vec<u8> = (0..random.below(40)).map(|_| random.bits() as u8).collect();
+        read_record(&bytes);
+        let signs = (0..random.below(20)).map(|_| *random.pick(b"0123456789, \t\n\r-A"));
+        right += usize::from(read_record(&signs.collect::<Vec<u8>>()));
     }
     assert!(right > 200, "{right}");
 }
@@ -239,14 +213,7 @@ fn random_words_as_a_record() {
         "0", "1", "2", "3", "65535", "65536", "School", "Shop", "Ann", "student", "any", ",", "\n",
         "\u{FEFF}", "\u{e9}",
     ];
-    let mut random = Random::new(6);
-    let mut right = 0;
-    for _ in 0..10_000 {
-        let length = random.below(8);
-        let soup: Vec<&str> = (0..length).map(|_| *random.pick(&words)).collect();
-        right += usize::from(read_record(soup.join(" ").as_bytes()));
-    }
-    assert!(right > 500, "{right}");
+    assert_often_right(Random::new(6), 10_000, 8, &words, " ", read_record);
 }
 
 #[test]

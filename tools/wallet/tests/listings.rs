@@ -1,18 +1,17 @@
-//! The listing program and the checker say the same, in the same words: what
-//! `wallet list` says is what `wallet explain` says of the program's output.
-//! `rt check minimal_sets` builds the program, as the gate does before.
+//! The listing program and the checker give the same answers, and the words for
+//! them have all that they should. `rt check minimal_sets` builds the program, as
+//! the gate does before.
 
 mod common;
+mod tool;
 
 use std::collections::BTreeSet;
-use std::io::Write;
-use std::path::PathBuf;
-use std::process::{Command, Stdio};
 
 use common::{made_up, marked, nameless, query};
 use reference::generate::{crossed, wallets};
 use reference::random::Random;
-use wallet::answer::{listed, printed, Answer};
+use tool::{run_program, PROGRAM};
+use wallet::answer::{listed, Answer};
 use wallet::explain::{explain, COLUMNS};
 use wallet::parse::parse;
 use wallet::print::print;
@@ -20,35 +19,17 @@ use wallet::table::{Body, Mark, Role};
 use wallet::words::{accepts, run as run_of};
 use wallet::{program, Wallet};
 
-/// What the listing program prints.
-fn run(input: &[u8]) -> String {
-    let path = "../../target/bin/minimal_sets";
-    let path = PathBuf::from(env!("CARGO_MANIFEST_DIR")).join(path);
-    let mut child = Command::new(&path)
-        .stdin(Stdio::piped())
-        .stdout(Stdio::piped())
-        .spawn()
-        .expect("the listing program: build it with `rt check minimal_sets`");
-    let mut stdin = child.stdin.take().expect("its standard input");
-    stdin.write_all(input).expect("it reads its input");
-    drop(stdin);
-    let output = child.wait_with_output().expect("its output");
-    String::from_utf8(output.stdout).expect("text")
-}
-
 /// Compares both ways; tells the answer.
 fn compare(wallet: &Wallet) -> Answer {
     let query = wallet.query.expect("a query");
     let text = print(wallet);
     let wallet = parse(text.as_bytes()).expect("a printed text");
-    let output = run(&program::input(query, &wallet.table.numbers()));
-    let one = printed(&wallet, &output).unwrap_or_else(|wrong| panic!("{wrong}\n{output}"));
-    let other = listed(&wallet, query);
-    assert_eq!(one, other, "{text}");
-    let words = explain(&wallet, query, &one);
-    assert_eq!(words, explain(&wallet, query, &other));
-    assert_words(&words, &wallet, &one);
-    one
+    let input = program::input(query, &wallet.table.numbers());
+    let output = run_program(PROGRAM, &[], &input).text();
+    let answer = listed(&wallet, query);
+    assert_eq!(answer.difference(&output), None, "{text}");
+    assert_words(&explain(&wallet, query, &answer), &wallet, &answer);
+    answer
 }
 
 /// The words have each set, and each of its credentials with its line.

@@ -14,66 +14,9 @@ use wallet::proof::{first_record, numbers, MOST_CELLS};
 use wallet::tree::NODES_SHOWN;
 use wallet::Wallet;
 
-use tool::{file, fresh, run, wrong, Done, CONSTRAINED, SHOP};
-
-/// What the tool wrote to standard output, and that it ended with 0.
-#[track_caller]
-fn accepted(arguments: &[&str], input: &[u8]) -> String {
-    let done = run(arguments, input);
-    assert_eq!(
-        (done.code, done.err.as_str()),
-        (Some(0), ""),
-        "{arguments:?}"
-    );
-    done.text()
-}
-
-/// A refusal in the place of the answer.
-#[track_caller]
-fn refused(done: &Done, words: &str) {
-    let answer = (done.code, done.text(), done.err.as_str());
-    assert_eq!(answer, (Some(1), format!("{words}\n"), ""));
-}
-
-/// A refusal where nothing can stand in the place of the answer.
-#[track_caller]
-fn refused_apart(done: &Done, words: &str) {
-    let answer = (done.code, done.text(), done.err.clone());
-    let told = format!("wallet: {words}\n");
-    assert_eq!(answer, (Some(1), String::new(), told));
-}
-
-const SEVEN: &str = "
-set 7, by the record
-1 2 2 0 3 0
-   1  Ann in Shop.discount         credential 1, line 5: Shop.discount <- Shop.accredited.student; middle School
-   2    School in Shop.accredited  credential 2, line 6: Shop.accredited <- School
-   3    Ann in School.student      credential 3, line 7: School.student <- Ann
-accepted: used set 7 = credentials 1, 2, 3
-";
-
-const EIGHT: &str = "
-set 8, by the record
-4 0
-   1  Ann in Shop.discount  credential 4, line 8: Shop.discount <- Ann
-accepted: used set 8 = credential 4
-";
-
-#[test]
-fn the_records_of_the_shop() {
-    let query = "Ann in Shop.discount within 2\n";
-    let one = format!("{query}{SEVEN}");
-    assert_eq!(accepted(&["prove", SHOP, "7"], b""), one);
-    let every = format!("2 minimal sets prove {query}{SEVEN}{EIGHT}");
-    assert_eq!(accepted(&["prove", SHOP], b""), every);
-    let text = fs::read(SHOP).expect("the example");
-    assert_eq!(accepted(&["prove", "-"], &text), every);
-    let numbers = accepted(&["prove", SHOP, "7", "--numbers"], b"");
-    assert_eq!(numbers, "1 2 2 0 3 0\n");
-    // The constraint leaves one set.
-    let every = format!("1 minimal set proves {query}{EIGHT}");
-    assert_eq!(accepted(&["prove", CONSTRAINED], b""), every);
-}
+use tool::{
+    accepted, file, fresh, indented, refused, refused_apart, run, wrong, CONSTRAINED, SHOP,
+};
 
 #[test]
 fn sets_that_are_not_listed() {
@@ -92,7 +35,7 @@ fn sets_that_are_not_listed() {
     not_listed("7", CONSTRAINED, "has 8");
     let nobody = file(
         "prove-nobody.wallet",
-        b"Shop.discount <- Bob\nAnn in Shop.discount within 2\n",
+        b"Shop.discount <- Bob\nShop.staff <- Ann\nAnn in Shop.discount within 2\n",
     );
     let none = "is empty: no set of credentials proves it";
     not_listed("1", &nobody, none);
@@ -101,9 +44,6 @@ fn sets_that_are_not_listed() {
     let many = file("prove-many.wallet", format!("{lines}{asked}\n").as_bytes());
     let begins = "begins with 1, 2, 4, 8, 16, 32, 64, 128, ...";
     not_listed("3", &many, begins);
-    let told = run(&["prove", &nobody], b"");
-    let words = format!("refused 9: no set of credentials proves {asked}");
-    refused(&told, &words);
 }
 
 #[test]
@@ -290,7 +230,7 @@ fn a_query_on_the_command_line() {
 
 #[test]
 fn mistakes_of_records() {
-    let principals = "write one of its principals: `Shop`, `School`, `Ann`";
+    let principals = "write one of its principals: `School`, `Shop`, `Ann`";
     let unknown = format!("`Schools` is not a principal of the wallet; {principals}");
     let path = file("prove-mistake", b"1 Schools\n");
     for command in ["verify", "draw"] {
@@ -410,15 +350,6 @@ fn one_record_that_is_too_long_does_not_hide_the_others() {
     let short = "\n\nset 2048, by the record\n12 0\n";
     assert!(text.contains(short), "{text}");
     assert!(text.ends_with("\naccepted: used set 2048 = credential 12\n"));
-}
-
-/// A text as the pages have it below their prose.
-fn indented(text: &str) -> String {
-    let lines = text.lines().map(|line| match line {
-        "" => "\n".to_string(),
-        line => format!("    {line}\n"),
-    });
-    lines.collect()
 }
 
 #[test]

@@ -51,15 +51,15 @@ fn tables_of_all_shapes_with_names() {
         let mut wallet = nameless(&numbers, Some(query));
         give_names(&mut random, &mut wallet);
         let text = round_trip(&wallet);
-        let again = parse(text.as_bytes()).expect("it was read before");
-        for (number, name) in &wallet.names.principals {
-            assert_eq!(again.names.principals.get(number), Some(name), "{text}");
-        }
-        for (number, name) in &wallet.names.roles {
-            assert_eq!(again.names.roles.get(number), Some(name), "{text}");
-        }
-        for (number, name) in &wallet.names.constraints {
-            assert_eq!(again.names.constraints.get(number), Some(name), "{text}");
+        let again = parse(text.as_bytes()).expect("it was read before").names;
+        let given = &wallet.names;
+        for (given, again) in [
+            (&given.principals, &again.principals),
+            (&given.roles, &again.roles),
+            (&given.constraints, &again.constraints),
+        ] {
+            let same = |(number, name)| again.get(number) == Some(name);
+            assert!(given.iter().all(same), "{text}");
         }
     }
 }
@@ -69,7 +69,7 @@ fn names_that_no_text_can_have_are_replaced() {
     let numbers = reference::shop::U;
     let mut wallet = nameless(&numbers, Some(common::query(reference::shop::Q)));
     for name in [
-        "", "in", "a b", "a--b", "a-", "7", "a.b", "a\nb", "#", "\u{3164}",
+        "", "in", "a b", "a--b", "7", "a.b", "a\nb", "#", "\u{3164}", "\u{301}e",
     ] {
         wallet.names.principals.insert(1, name.to_string());
         wallet.names.roles.insert(1, name.to_string());
@@ -84,6 +84,13 @@ fn names_that_no_text_can_have_are_replaced() {
     wallet.names.roles = BTreeMap::from([(1, "a".into()), (0, "c".into())]);
     let text = round_trip(&wallet);
     assert!(text.starts_with("principals a = 1, P2 = 2, P4 = 4\nnames r1 = 1, r2 = 2, r3 = 3\n"));
+    // Of names that look alike the first is kept.
+    wallet.names.principals = BTreeMap::from([(1, "e\u{301}".into()), (2, "\u{e9}".into())]);
+    let text = round_trip(&wallet);
+    assert!(
+        text.starts_with("principals e\u{301} = 1, P2 = 2, P4 = 4\n"),
+        "{text}"
+    );
 }
 
 #[test]
@@ -103,14 +110,8 @@ fn long_lists_of_numbers_are_wrapped() {
     let name = |number: u16| (number, format!("principal-number-{number}"));
     wallet.names.principals = (1..=64).map(name).collect();
     let text = round_trip(&wallet);
-    assert!(
-        text.lines().all(|line| line.chars().count() <= 80),
-        "{text}"
-    );
-    assert!(
-        text.lines().all(|line| line.starts_with("principals ")),
-        "{text}"
-    );
+    let wrapped = |line: &str| line.chars().count() <= 80 && line.starts_with("principals ");
+    assert!(text.lines().all(wrapped), "{text}");
     assert_eq!(text.lines().count(), 32);
 }
 
@@ -135,10 +136,7 @@ fn give_names(random: &mut Random, wallet: &mut Wallet) {
     let mut draw = |random: &mut Random, last: u16| {
         let seldom = *random.pick(&[1, 2, 8]);
         let numbers = (1..=last).filter(|_| random.one_in(seldom));
-        let numbers: Vec<u16> = numbers.collect();
-        let named = numbers
-            .into_iter()
-            .map_while(|number| Some((number, words.pop()?)));
+        let named = numbers.map_while(|number| Some((number, words.pop()?)));
         named.collect::<BTreeMap<u16, String>>()
     };
     wallet.names.principals = draw(random, 64);
@@ -160,9 +158,8 @@ fn words(random: &mut Random) -> Vec<String> {
     let mut words: Vec<String> = Vec::new();
     for number in 1..=40 {
         words.extend([format!("P{number}"), format!("r{number}")]);
-        words.push(format!("constraint-{number}"));
-        words.push(format!("P{number}-2"));
-        words.push(format!("Ann_{number}-\u{e9}"));
+        words.extend([format!("P{number}-2"), format!("constraint-{number}")]);
+        words.push(format!("Ann_{number}-e\u{301}"));
     }
     random.shuffle(&mut words);
     words
@@ -194,15 +191,10 @@ impl Seen {
         for cell in chains.flatten() {
             uses[usize::from(cell) - 1] += 1;
         }
-        let parts = text.matches('&').count() > 0;
         let cells = begins("cell ");
-        self.plain_chains += usize::from(parts && !cells);
-        self.cells_of_both_sorts += usize::from(
-            cells
-                && text
-                    .lines()
-                    .any(|line| line.contains('&') && !line.contains(" at cell ")),
-        );
+        self.plain_chains += usize::from(text.contains('&') && !cells);
+        let plain = |line: &str| line.contains('&') && !line.contains(" at cell ");
+        self.cells_of_both_sorts += usize::from(cells && text.lines().any(plain));
         self.shared_cells += usize::from(uses.iter().any(|uses| *uses > 1));
         self.unused_cells += usize::from(uses.contains(&0));
         let turns = begins("edges of ");

@@ -1,5 +1,6 @@
 //! Made-up texts: what is read is what they say, in their words and on their
-//! lines, and it comes back from the text that is printed for it.
+//! lines, and it comes back from the text that is printed for it. A query in
+//! words that no other line has is a mistake.
 
 mod common;
 
@@ -92,6 +93,18 @@ impl Text {
         self.query = Some(query);
     }
 
+    /// The query's line, and its first word that no other line has.
+    fn unknown(&self) -> Option<(usize, &str)> {
+        let query = self.query.as_ref()?;
+        let others = || self.lines.iter().filter(|line| *line != query);
+        let mut words = query
+            .split([' ', '.'])
+            .filter(|word| word.starts_with(['A', 'r']));
+        let word = words.find(|word| !others().any(|line| line.contains(*word)))?;
+        let index = self.lines.iter().position(|line| line == query)?;
+        Some((index + 1, word))
+    }
+
     fn add_credential(&mut self, random: &mut Random, constraints: &[String]) {
         let owner = self.principal(random);
         let defined = format!("{owner}.{}", self.name(random));
@@ -177,34 +190,18 @@ impl Text {
         let edges = table.edges.iter().map(|edge| names.edge(edge));
         let edges = edges.zip(wallet.lines.edges.iter().copied());
         assert_eq!(edges.collect::<Vec<_>>(), self.edges, "{text}");
-        let query = wallet.query.map(|query| {
-            let role = wallet::table::Role {
-                owner: query.owner,
-                name: query.name,
-            };
-            format!(
-                "{} within {}",
-                names.goal(query.principal, role),
-                query.depth
-            )
-        });
+        let query = wallet.query.map(|query| names.query(query));
         assert_eq!(query, self.query, "{text}");
-        assert_eq!(
-            numbered(&self.principals, &self.given),
-            names.principals,
-            "{text}"
-        );
+        let principals = numbered(&self.principals, &self.given);
+        assert_eq!(principals, names.principals, "{text}");
         assert_eq!(numbered(&self.names, &self.given), names.roles, "{text}");
         self.assert_sets(wallet, text);
     }
 
     fn assert_sets(&self, wallet: &Wallet, text: &str) {
-        assert_eq!(
-            wallet.table.automata.len(),
-            self.constraints.len(),
-            "{text}"
-        );
-        let both = wallet.table.automata.iter().zip(&self.constraints);
+        let automata = &wallet.table.automata;
+        assert_eq!(automata.len(), self.constraints.len(), "{text}");
+        let both = automata.iter().zip(&self.constraints);
         for (number, (automaton, (name, mark, start, accept))) in (1..).zip(both) {
             assert_eq!(wallet.names.constraint(number), *name, "{text}");
             assert_eq!(automaton.mark, *mark, "{text}");
@@ -248,10 +245,24 @@ fn numbered(words: &[String], given: &BTreeMap<String, u16>) -> BTreeMap<u16, St
 #[test]
 fn texts_say_what_they_say_and_come_back() {
     let mut random = Random::new(2018);
+    let mut unknown = 0;
     for _ in 0..6000 {
         let text = Text::new(&mut random);
         let written = text.lines.join("\n");
         let wallet = parse(written.as_bytes());
+        if let Some((line, word)) = text.unknown() {
+            let told = wallet
+                .expect_err("a word that only the query has")
+                .to_string();
+            let place = format!("line {line}, column ");
+            let words = format!(": `{word}` is not a ");
+            assert!(
+                told.starts_with(&place) && told.contains(&words),
+                "{told}\n{written}"
+            );
+            unknown += 1;
+            continue;
+        }
         let wallet = wallet.unwrap_or_else(|mistake| panic!("{mistake}\n{written}"));
         text.assert_said(&wallet, &written);
         let printed = print(&wallet);
@@ -260,6 +271,7 @@ fn texts_say_what_they_say_and_come_back() {
         assert_same(&again, &wallet, &format!("{written}\n\n{printed}"));
         assert_eq!(print(&again), printed);
     }
+    assert!((500..2000).contains(&unknown), "{unknown}");
 }
 
 #[test]

@@ -1,11 +1,12 @@
-//! What is printed for a record: the shop example, each kind of credential, each way in which a record is stopped, and very long records.
+//! What is printed for a record that no page of `examples/` shows: each way in which
+//! it is stopped, states that are left or not, and very long records.
 
 #[allow(dead_code)]
 mod shown;
 
 use bwlchareg::{Query, Refusal};
 use reference::generate::wide;
-use shown::{chain, club, constrained_shop, credential, edge, names, race, role, shop, Q};
+use shown::{constrained_shop, credential, edge, names, role, shop, Q};
 use wallet::derivation::{judge, Judged};
 use wallet::table::{Automaton, Body, Label, Mark, Role, Table};
 use wallet::tree::{dead, short, text, DECISIVE_SHOWN, NODES_SHOWN, WORDS_SHOWN};
@@ -31,111 +32,6 @@ fn check(wallet: &Wallet, query: Query, record: &[u16], expected: &str) -> Judge
     let judged = judge(wallet, query, record);
     assert_eq!(text(wallet, &judged), lines(expected));
     judged
-}
-
-#[test]
-fn the_shop_is_accepted() {
-    let judged = check(
-        &shop(),
-        Q,
-        &R,
-        "|Ann in Shop.discount within 2
-         |
-         |   1  Ann in Shop.discount         credential 1: Shop.discount <- Shop.accredited.student; middle School
-         |   2    School in Shop.accredited  credential 2: Shop.accredited <- School
-         |   3    Ann in School.student      credential 3: School.student <- Ann
-         |
-         |words
-         |   1  Shop.discount, Shop.accredited
-         |   2  Shop.discount, School.student
-         |
-         |accepted: used set 7 = credentials 1, 2, 3",
-    );
-    assert_eq!(judged.refusal(), None);
-    check(
-        &shop(),
-        Q,
-        &[4, 0],
-        "|Ann in Shop.discount within 2
-         |
-         |   1  Ann in Shop.discount  credential 4: Shop.discount <- Ann
-         |
-         |words
-         |   1  Shop.discount
-         |
-         |accepted: used set 8 = credential 4",
-    );
-}
-
-#[test]
-fn a_constraint_rejects_the_shops_words() {
-    let judged = check(
-        &constrained_shop(),
-        Q,
-        &R,
-        "|Ann in Shop.discount within 2
-         |
-         |   1  Ann in Shop.discount         credential 1, line 5: Shop.discount <- Shop.accredited.student; middle School
-         |   2    School in Shop.accredited  credential 2, line 6: Shop.accredited <- School
-         |   3    Ann in School.student      credential 3, line 7: School.student <- Ann under not-for-discounts
-         |
-         |words
-         |   1  Shop.discount, Shop.accredited
-         |   2  Shop.discount, School.student
-         |
-         |constraint not-for-discounts, attached to credential 3, accepts in {1}
-         |>> 1  rejected: {0} Shop.discount {} Shop.accredited {}; no state left after Shop.discount
-         |>> 2  rejected: {0} Shop.discount {} School.student {}; no state left after Shop.discount
-         |
-         |refused 14 at 1: constraint not-for-discounts rejects 2 of 2 words",
-    );
-    assert_eq!(judged.refusal(), refused(14, 1));
-}
-
-#[test]
-fn a_constraint_that_no_node_uses_is_not_run() {
-    let judged = check(
-        &constrained_shop(),
-        Q,
-        &[4, 0],
-        "|Ann in Shop.discount within 2
-         |
-         |   1  Ann in Shop.discount  credential 4, line 8: Shop.discount <- Ann
-         |
-         |words
-         |   1  Shop.discount
-         |
-         |accepted: used set 8 = credential 4",
-    );
-    assert_eq!(judged.refusal(), None);
-}
-
-#[test]
-fn the_student_may_use_the_constrained_credential() {
-    let query = Query {
-        principal: 4,
-        owner: 2,
-        name: 2,
-        depth: 1,
-    };
-    let mut wallet = constrained_shop();
-    wallet.names.states.insert((1, 0), "begun".to_string());
-    check(
-        &wallet,
-        query,
-        &[3, 0],
-        "|Ann in School.student within 1
-         |
-         |   1  Ann in School.student  credential 3, line 7: School.student <- Ann under not-for-discounts
-         |
-         |words
-         |   1  School.student
-         |
-         |constraint not-for-discounts, attached to credential 3, accepts in {1}
-         |   1  accepted: {begun} School.student {1}
-         |
-         |accepted: used set 4 = credential 3",
-    );
 }
 
 #[test]
@@ -168,65 +64,6 @@ fn all_roles_of_an_owner_are_read_and_no_other() {
 }
 
 #[test]
-fn a_node_is_too_deep() {
-    let judged = check(
-        &shop(),
-        Query { depth: 1, ..Q },
-        &R,
-        "|Ann in Shop.discount within 1
-         |
-         |   1  Ann in Shop.discount         credential 1: Shop.discount <- Shop.accredited.student; middle School
-         |>> 2    School in Shop.accredited  credential 2: Shop.accredited <- School
-         |>>      level 2 is deeper than the depth limit, 1
-         |
-         |refused 13 at 2: level 2 is deeper than the depth limit, 1",
-    );
-    assert_eq!(judged.refusal(), refused(13, 2));
-}
-
-#[test]
-fn a_record_ends_too_early() {
-    let judged = check(
-        &shop(),
-        Q,
-        &[1, 2, 2, 0],
-        "|Ann in Shop.discount within 2
-         |
-         |   1  Ann in Shop.discount         credential 1: Shop.discount <- Shop.accredited.student; middle School
-         |   2    School in Shop.accredited  credential 2: Shop.accredited <- School
-         |>> 3    Ann in School.student
-         |>>      no numbers are left for node 3
-         |
-         |refused 11 at 3: no numbers are left for node 3",
-    );
-    assert_eq!(judged.refusal(), refused(11, 3));
-    check(
-        &shop(),
-        Q,
-        &[1, 2, 2, 0, 3],
-        "|Ann in Shop.discount within 2
-         |
-         |   1  Ann in Shop.discount         credential 1: Shop.discount <- Shop.accredited.student; middle School
-         |   2    School in Shop.accredited  credential 2: Shop.accredited <- School
-         |>> 3    Ann in School.student      credential 3: School.student <- Ann
-         |>>      only one number is left for node 3
-         |
-         |refused 11 at 3: only one number is left for node 3",
-    );
-    check(
-        &shop(),
-        Q,
-        &[],
-        "|Ann in Shop.discount within 2
-         |
-         |>> 1  Ann in Shop.discount
-         |>>    no numbers are left for node 1
-         |
-         |refused 11 at 1: no numbers are left for node 1",
-    );
-}
-
-#[test]
 fn a_record_goes_on_after_the_tree() {
     let judged = check(
         &shop(),
@@ -247,25 +84,13 @@ fn a_record_goes_on_after_the_tree() {
 }
 
 #[test]
-fn a_credential_names_another_principal() {
-    let judged = check(
-        &shop(),
-        Q,
-        &[1, 4, 2, 0, 3, 0],
-        "|Ann in Shop.discount within 2
-         |
-         |   1  Ann in Shop.discount      credential 1: Shop.discount <- Shop.accredited.student; middle Ann
-         |>> 2    Ann in Shop.accredited  credential 2: Shop.accredited <- School
-         |>>      credential 2 names another principal, School
-         |
-         |refused 12 at 2: credential 2 names another principal, School",
-    );
-    assert_eq!(judged.refusal(), refused(12, 2));
-}
-
-#[test]
-fn a_node_does_not_fit_its_goal() {
-    let cases: [(&[u16], &str); 5] = [
+fn a_record_is_stopped_at_a_node() {
+    let cases: [(&[u16], &str); 7] = [
+        (&[], "refused 11 at 1: no numbers are left for node 1"),
+        (
+            &[1, 2, 2, 0, 3],
+            "refused 11 at 3: only one number is left for node 3",
+        ),
         (&[5, 0], "refused 12 at 1: there is no credential 5"),
         (
             &[1, 2, 3, 0],
@@ -299,7 +124,7 @@ fn nothing_is_read_where_the_table_or_the_query_is_refused() {
         &R,
         "|Ann in Shop.discount within 17
          |
-         |refused 8 at 4: the query's depth is out of range",
+         |refused 8 at 4: the query's depth limit is out of range",
     );
     let mut wallet = shop();
     wallet.table.credentials[2].body = Body::Parts(9);
@@ -309,235 +134,8 @@ fn nothing_is_read_where_the_table_or_the_query_is_refused() {
         &R,
         "|Ann in Shop.discount within 2
          |
-         |refused 4 at 3: credential 3 has a field outside what its kind allows",
+         |refused 4 at 3: a field of credential 3 is outside what its kind allows",
     );
-}
-
-/// City.bidder is for those who are City.solvent, City.clean and City.solvent
-/// again; City.clean holds all of Court.clean, and this City.bidder.
-fn tender() -> Wallet {
-    let (bidder, solvent, clean, records) = (role(1, 1), role(1, 2), role(1, 3), role(2, 3));
-    let mut table = Table {
-        credentials: vec![
-            credential(bidder, Body::Parts(1)),
-            credential(solvent, Body::Member(3)),
-            credential(clean, Body::Contained(records)),
-            credential(records, Body::Member(3)),
-            credential(records, Body::Contained(bidder)),
-        ],
-        cells: chain(&[solvent, clean, solvent]),
-        automata: vec![
-            Automaton {
-                start: 1,
-                accept: 5,
-                mark: Mark::EveryWord,
-            },
-            Automaton {
-                start: 3,
-                accept: 2,
-                mark: Mark::EveryWord,
-            },
-        ],
-        edges: vec![
-            edge(1, 0, Label::Any, 0),
-            edge(1, 0, Label::Not(clean), 2),
-            edge(2, 0, Label::Any, 0),
-            edge(2, 0, Label::Only(solvent), 1),
-        ],
-    };
-    table.credentials[1].automaton = 2;
-    table.credentials[3].automaton = 1;
-    table.credentials[4].automaton = 1;
-    Wallet {
-        table,
-        names: names(
-            &[(1, "City"), (2, "Court"), (3, "Mason")],
-            &[(1, "bidder"), (2, "solvent"), (3, "clean")],
-        ),
-        ..Wallet::default()
-    }
-}
-
-const BID: Query = Query {
-    principal: 3,
-    owner: 1,
-    name: 1,
-    depth: 16,
-};
-
-#[test]
-fn roles_and_intersections_have_their_children() {
-    let judged = check(
-        &tender(),
-        BID,
-        &[1, 0, 2, 0, 3, 0, 4, 0, 2, 0],
-        "|Mason in City.bidder within 16
-         |
-         |   1  Mason in City.bidder      credential 1: City.bidder <- City.solvent & City.clean & City.solvent
-         |   2    Mason in City.solvent   credential 2: City.solvent <- Mason under constraint-2
-         |   3    Mason in City.clean     credential 3: City.clean <- Court.clean
-         |   4      Mason in Court.clean  credential 4: Court.clean <- Mason under constraint-1
-         |   5    Mason in City.solvent   credential 2: City.solvent <- Mason under constraint-2
-         |
-         |words
-         |   1  City.bidder, City.solvent
-         |   2  City.bidder, City.clean, Court.clean
-         |   3  City.bidder, City.solvent
-         |
-         |constraint constraint-1, attached to credential 4, accepts in {0 2}
-         |   1  accepted: {0} City.bidder {0 2} City.solvent {0 2}
-         |   2  accepted: {0} City.bidder {0 2} City.clean {0} Court.clean {0 2}
-         |   3  accepted: {0} City.bidder {0 2} City.solvent {0 2}
-         |
-         |constraint constraint-2, attached to credential 2, accepts in {1}
-         |   1  accepted: {0 1} City.bidder {0} City.solvent {0 1}
-         |>> 2  rejected: {0 1} City.bidder {0} City.clean {0} Court.clean {0}
-         |   3  accepted: {0 1} City.bidder {0} City.solvent {0 1}
-         |
-         |refused 14 at 2: constraint constraint-2 rejects 1 of 3 words",
-    );
-    assert_eq!(judged.refusal(), refused(14, 2));
-}
-
-#[test]
-fn the_word_that_is_enough_is_said() {
-    let race = race();
-    let judged = check(
-        &race,
-        asked(&race),
-        &[1, 0, 2, 0, 3, 0, 4, 4, 5, 0, 7, 0],
-        "|Dora in Race.starter within 3
-         |
-         |   1  Dora in Race.starter       credential 1, line 1: Race.starter <- Race.entered & Race.fit
-         |   2    Dora in Race.entered     credential 2, line 2: Race.entered <- Club.member
-         |   3      Dora in Club.member    credential 3, line 3: Club.member <- Dora under through-centre
-         |   4    Dora in Race.fit         credential 4, line 4: Race.fit <- Race.doctor.passed; middle Centre
-         |   5      Centre in Race.doctor  credential 5, line 5: Race.doctor <- Centre
-         |   6      Dora in Centre.passed  credential 7, line 7: Centre.passed <- Dora under for-races
-         |
-         |words
-         |   1  Race.starter, Race.entered, Club.member
-         |   2  Race.starter, Race.fit, Race.doctor
-         |   3  Race.starter, Race.fit, Centre.passed
-         |
-         |constraint through-centre, attached to credential 3, accepts in {in-centre}, demands some word
-         |   1  rejected: {out} Race.starter {out} Race.entered {out} Club.member {out}
-         |   2  rejected: {out} Race.starter {out} Race.fit {out} Race.doctor {out}
-         |   3  accepted: {out} Race.starter {out} Race.fit {out} Centre.passed {out in-centre}; met by this word
-         |
-         |constraint for-races, attached to credential 7, accepts in {race}
-         |   1  accepted: {new} Race.starter {race} Race.entered {race} Club.member {race}
-         |   2  accepted: {new} Race.starter {race} Race.fit {race} Race.doctor {race}
-         |   3  accepted: {new} Race.starter {race} Race.fit {race} Centre.passed {race}
-         |
-         |accepted: used set 95 = credentials 1, 2, 3, 4, 5, 7",
-    );
-    let short = short(&race, &judged);
-    let met = "\nconstraint through-centre is met by word 3: \
-        Race.starter, Race.fit, Centre.passed\naccepted: used set 95 ";
-    assert!(short.contains(met), "{short}");
-}
-
-#[test]
-fn where_one_word_is_enough_all_are_at_fault_if_none_is_accepted() {
-    let race = race();
-    let judged = check(
-        &race,
-        asked(&race),
-        &[1, 0, 2, 0, 3, 0, 4, 5, 6, 0, 8, 0],
-        "|Dora in Race.starter within 3
-         |
-         |   1  Dora in Race.starter       credential 1, line 1: Race.starter <- Race.entered & Race.fit
-         |   2    Dora in Race.entered     credential 2, line 2: Race.entered <- Club.member
-         |   3      Dora in Club.member    credential 3, line 3: Club.member <- Dora under through-centre
-         |   4    Dora in Race.fit         credential 4, line 4: Race.fit <- Race.doctor.passed; middle Physio
-         |   5      Physio in Race.doctor  credential 6, line 6: Race.doctor <- Physio
-         |   6      Dora in Physio.passed  credential 8, line 8: Physio.passed <- Dora
-         |
-         |words
-         |   1  Race.starter, Race.entered, Club.member
-         |   2  Race.starter, Race.fit, Race.doctor
-         |   3  Race.starter, Race.fit, Physio.passed
-         |
-         |constraint through-centre, attached to credential 3, accepts in {in-centre}, demands some word
-         |>> 1  rejected: {out} Race.starter {out} Race.entered {out} Club.member {out}
-         |>> 2  rejected: {out} Race.starter {out} Race.fit {out} Race.doctor {out}
-         |>> 3  rejected: {out} Race.starter {out} Race.fit {out} Physio.passed {out}
-         |
-         |refused 14 at 1: constraint through-centre accepts none of 3 words",
-    );
-    assert_eq!(judged.refusal(), refused(14, 1));
-    assert!(!short(&race, &judged).contains("is met by"));
-}
-
-#[test]
-fn a_pair_is_already_on_the_branch() {
-    check(
-        &tender(),
-        BID,
-        &[1, 0, 2, 0, 3, 0, 5, 0, 1, 0, 2, 0, 3, 0, 4, 0, 2, 0, 2, 0],
-        "|Mason in City.bidder within 16
-         |
-         |   1  Mason in City.bidder        credential 1: City.bidder <- City.solvent & City.clean & City.solvent
-         |   2    Mason in City.solvent     credential 2: City.solvent <- Mason under constraint-2
-         |   3    Mason in City.clean       credential 3: City.clean <- Court.clean
-         |   4      Mason in Court.clean    credential 5: Court.clean <- City.bidder under constraint-1
-         |>> 5        Mason in City.bidder  credential 1: City.bidder <- City.solvent & City.clean & City.solvent
-         |>>          Mason in City.bidder is already on the branch, at node 1
-         |
-         |refused 13 at 5: Mason in City.bidder is already on the branch, at node 1",
-    );
-}
-
-/// Cleo is in Club.friend through Bob, and Bob through Ann.
-const FRIENDS: [u16; 10] = [1, 3, 1, 2, 2, 0, 3, 0, 4, 0];
-
-/// The question that a wallet has.
-fn asked(wallet: &Wallet) -> Query {
-    wallet.query.expect("a query")
-}
-
-#[test]
-fn a_role_may_come_again_with_another_principal() {
-    let club = club(3);
-    let judged = check(
-        &club,
-        asked(&club),
-        &FRIENDS,
-        "|Cleo in Club.friend within 9
-         |
-         |   1  Cleo in Club.friend     credential 1, line 1: Club.friend <- Club.friend.friend under near; middle Bob
-         |   2    Bob in Club.friend    credential 1, line 1: Club.friend <- Club.friend.friend under near; middle Ann
-         |   3      Ann in Club.friend  credential 2, line 2: Club.friend <- Ann
-         |   4      Bob in Ann.friend   credential 3, line 3: Ann.friend <- Bob
-         |   5    Cleo in Bob.friend    credential 4, line 4: Bob.friend <- Cleo
-         |
-         |words
-         |   1  Club.friend, Club.friend, Club.friend
-         |   2  Club.friend, Club.friend, Ann.friend
-         |   3  Club.friend, Bob.friend
-         |
-         |constraint near, attached to credential 1, accepts in {1 2 3 4}
-         |   1  accepted: {0} Club.friend {1} Club.friend {2} Club.friend {3}
-         |   2  accepted: {0} Club.friend {1} Club.friend {2} Ann.friend {3}
-         |   3  accepted: {0} Club.friend {1} Bob.friend {2}
-         |
-         |accepted: used set 15 = credentials 1, 2, 3, 4",
-    );
-    assert_eq!(judged.refusal(), None);
-}
-
-#[test]
-fn a_run_says_after_which_of_several_equal_roles_no_state_is_left() {
-    let club = club(1);
-    let text = text(&club, &judge(&club, asked(&club), &FRIENDS));
-    let expected = "
-        |>> 1  rejected: {0} Club.friend {1} Club.friend {} Club.friend {}; no state left after the 2nd Club.friend
-        |>> 2  rejected: {0} Club.friend {1} Club.friend {} Ann.friend {}; no state left after the 2nd Club.friend
-        |>> 3  rejected: {0} Club.friend {1} Bob.friend {}; no state left after Bob.friend
-        |
-        |refused 14 at 1: constraint near rejects 3 of 3 words";
-    assert!(text.ends_with(&lines(expected)), "{text}");
 }
 
 #[test]
@@ -568,25 +166,6 @@ fn places_in_words_are_counted_role_by_role() {
             format!("the {which} Club.friend")
         );
     }
-}
-
-#[test]
-fn a_claim_may_not_rest_on_itself() {
-    let club = club(3);
-    let judged = check(
-        &club,
-        asked(&club),
-        &[1, 3, 1, 4, 1, 3],
-        "|Cleo in Club.friend within 9
-         |
-         |   1  Cleo in Club.friend      credential 1, line 1: Club.friend <- Club.friend.friend under near; middle Bob
-         |   2    Bob in Club.friend     credential 1, line 1: Club.friend <- Club.friend.friend under near; middle Cleo
-         |>> 3      Cleo in Club.friend  credential 1, line 1: Club.friend <- Club.friend.friend under near; middle Bob
-         |>>        Cleo in Club.friend is already on the branch, at node 1
-         |
-         |refused 13 at 3: Cleo in Club.friend is already on the branch, at node 1",
-    );
-    assert_eq!(judged.refusal(), refused(13, 3));
 }
 
 /// Levels of which each has the next one four times as its premise.
@@ -663,7 +242,7 @@ fn the_first_rejected_words_of_long_records_are_shown() {
 }
 
 #[test]
-fn a_word_far_behind_that_is_enough_is_shown() {
+fn a_later_word_that_is_enough_is_shown() {
     let mut wallet = wide_wallet();
     wallet.table.automata[0].mark = Mark::SomeWord;
     // The last part of level 1 is another role, which one word in four has.

@@ -63,14 +63,14 @@ impl Constraints {
 
     /// `constraint c`
     pub fn add(&mut self, name: &Word, place: Place) -> Result<(), Mistake> {
-        if let Some(index) = self.index(name) {
+        if let Some(index) = self.index(name)? {
             let first = self.all[index].name.place.line;
             return Err(name.place.mistake(
                 format_args!(
-                    "{} is already a constraint, on line {first}",
+                    "there is already a constraint {} on line {first}",
                     quoted(&name.text)
                 ),
-                "write another word, or put further edges below `edges of`",
+                "write another name, or put further edges below `edges of`",
             ));
         }
         let index = self.all.len();
@@ -93,9 +93,9 @@ impl Constraints {
 
     /// `edges of c`
     pub fn go_on(&mut self, name: &Word) -> Result<(), Mistake> {
-        let index = self.index(name).ok_or_else(|| {
+        let index = self.index(name)?.ok_or_else(|| {
             name.place.mistake(
-                format_args!("no constraint above is called {}", quoted(&name.text)),
+                format_args!("there is no constraint {} above", quoted(&name.text)),
                 "write the name of one, or its `constraint` line above",
             )
         })?;
@@ -111,8 +111,8 @@ impl Constraints {
         if let Some((earlier, line)) = own {
             let earlier = quoted(earlier.text());
             return Err(place.mistake(
-                format_args!("{earlier} stands on line {line} already"),
-                "leave one of the two lines out",
+                format_args!("{earlier} is already on line {line}"),
+                "leave out one of the two lines",
             ));
         }
         if !open.head {
@@ -136,7 +136,7 @@ impl Constraints {
         };
         if let Some(Set { line, .. }) = own {
             return Err(place.mistake(
-                format_args!("{word} stands on line {line} already"),
+                format_args!("{word} is already on line {line}"),
                 "write all its states there",
             ));
         }
@@ -178,8 +178,8 @@ impl Constraints {
     }
 
     /// The number of the constraint with a name.
-    pub fn number(&self, name: &Word) -> Option<u16> {
-        self.index(name).map(|index| index as u16 + 1)
+    pub fn number(&self, name: &Word) -> Result<Option<u16>, Mistake> {
+        Ok(self.index(name)?.map(|index| index as u16 + 1))
     }
 
     /// The automata, with the numbers of their states.
@@ -216,22 +216,23 @@ impl Constraints {
     pub fn state_names(&self) -> BTreeMap<(u16, u16), String> {
         let mut names = BTreeMap::new();
         for (automaton, constraint) in (1..).zip(&self.all) {
-            let words = constraint.states.words().into_iter();
+            let words = constraint.states.words();
             names.extend(words.map(|(number, word)| ((automaton, number), word)));
         }
         names
     }
 
-    fn index(&self, name: &Word) -> Option<usize> {
-        let same = |constraint: &Constraint| constraint.name.text == name.text;
-        self.all.iter().position(same)
+    fn index(&self, name: &Word) -> Result<Option<usize>, Mistake> {
+        let mut names = self.all.iter().map(|constraint| &constraint.name.text);
+        name.check_spelling(names.clone())?;
+        Ok(names.position(|known| *known == name.text))
     }
 }
 
 /// A line about the whole of a constraint, where its edges have begun.
 fn below_edges(place: Place, what: &str) -> Mistake {
     place.mistake(
-        format_args!("{what} stands below an edge or `edges of`"),
+        format_args!("{what} comes after an edge or `edges of`"),
         "write it right below `constraint`, above the edges",
     )
 }
@@ -239,7 +240,7 @@ fn below_edges(place: Place, what: &str) -> Mistake {
 /// A line that belongs to a constraint, outside of any.
 fn outside(place: Place, what: &str) -> Mistake {
     place.mistake(
-        format_args!("{what} stands outside of a constraint"),
-        "write `constraint` and its name above",
+        format_args!("{what} is outside any constraint"),
+        "write a `constraint` line above",
     )
 }

@@ -26,8 +26,8 @@ pub struct Draft {
     /// How many part cells there are, with those of intersections without
     /// `at cell`.
     parts: usize,
-    /// The query, and its line.
-    pub query: Option<(Query, usize)>,
+    /// The query by ranks and in words, and its line.
+    pub query: Option<(Query, QueryWords, usize)>,
 }
 
 /// A credential. The constraint that it names may stand further below.
@@ -35,21 +35,20 @@ pub struct Draft {
 pub struct CredentialDraft {
     /// The role that it defines.
     pub role: Role,
-    /// What stands behind the arrow.
+    /// What follows the arrow.
     pub body: BodyDraft,
-    /// The constraint behind `under`.
+    /// The constraint after `under`.
     pub under: Option<Word>,
     /// Its line.
     pub line: usize,
 }
 
-/// What stands behind an arrow. The cell that it names may stand further
-/// below.
+/// What follows an arrow. The cell that it names may stand further below.
 #[derive(Clone, Debug)]
 pub enum BodyDraft {
     /// Kinds 1 to 3.
     Single(Body),
-    /// Kind 4: the roles, and the cell behind `at cell`.
+    /// Kind 4: the roles, and the cell after `at cell`.
     Parts(Vec<Role>, Option<Number>),
 }
 
@@ -58,7 +57,7 @@ pub enum BodyDraft {
 pub struct CellDraft {
     /// The part's role.
     pub role: Role,
-    /// The cell behind `then`.
+    /// The cell after `then`.
     pub next: Option<Number>,
     /// Its line.
     pub line: usize,
@@ -122,14 +121,11 @@ impl Draft {
             },
             BodyWords::Parts(roles, cell) => {
                 if cell.is_none() {
-                    let places = roles.iter().map(|role| role.owner.place);
-                    places
-                        .into_iter()
-                        .try_for_each(|place| self.add_part(place))?;
+                    let mut owners = roles.iter().map(|role| &role.owner);
+                    owners.try_for_each(|owner| self.add_part(owner.place))?;
                 }
                 let roles = roles.iter().map(|role| self.words.role(role));
-                let roles = roles.collect::<Result<_, _>>()?;
-                return Ok(BodyDraft::Parts(roles, *cell));
+                return Ok(BodyDraft::Parts(roles.collect::<Result<_, _>>()?, *cell));
             }
         }))
     }
@@ -145,7 +141,7 @@ impl Draft {
         let own = self.cells.len() + 1;
         if usize::from(number.value) != own {
             return Err(number.place.mistake(
-                format_args!("this is `cell` line {own}, and its number {}", number.value),
+                format_args!("the next cell is cell {own}, not {}", number.value),
                 format_args!("write `cell {own}`: cells are numbered in the order of their lines"),
             ));
         }
@@ -168,21 +164,20 @@ impl Draft {
     }
 
     fn set_query(&mut self, words: &QueryWords, place: Place) -> Result<(), Mistake> {
-        if let Some((_, line)) = self.query {
+        if let Some((.., line)) = self.query {
             return Err(place.mistake(
-                format_args!("a query stands on line {line} already"),
-                "leave one of them out",
+                format_args!("there is already a query on line {line}"),
+                "leave out one of them",
             ));
         }
-        let principal = self.words.rank(Sort::Principal, &words.principal)?;
-        let Role { owner, name } = self.words.role(&words.role)?;
+        let [principal, owner, name] = words.names();
         let query = Query {
-            principal,
-            owner,
-            name,
+            principal: self.words.asked_rank(principal)?,
+            owner: self.words.asked_rank(owner)?,
+            name: self.words.asked_rank(name)?,
             depth: words.depth.value,
         };
-        self.query = Some((query, place.line));
+        self.query = Some((query, words.clone(), place.line));
         Ok(())
     }
 
@@ -205,10 +200,10 @@ impl Draft {
         let Some(name) = &credential.under else {
             return Ok(0);
         };
-        self.constraints.number(name).ok_or_else(|| {
+        self.constraints.number(name)?.ok_or_else(|| {
             name.place.mistake(
-                format_args!("no constraint is called {}", quoted(&name.text)),
-                "write the name of one, or a `constraint` line for it",
+                format_args!("there is no constraint {}", quoted(&name.text)),
+                "write the name of one, or add a `constraint` line for it",
             )
         })
     }

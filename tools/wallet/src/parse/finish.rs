@@ -7,12 +7,17 @@ use crate::mistake::{quoted, Mistake};
 use crate::names::Names;
 use crate::parse::draft::{BodyDraft, CellDraft, Draft};
 use crate::parse::numbering::Sort;
+use crate::parse::query::find;
 use crate::parse::reader::Number;
 use crate::table::{Body, Cell, Credential, Edge, Label, Role, Table};
 use crate::{Lines, Wallet};
 
 /// The wallet of a text that has been read to its end.
 pub fn finish(draft: &Draft) -> Result<Wallet, Mistake> {
+    let names = said(draft);
+    if let Some((_, words, _)) = &draft.query {
+        find(&names, words)?;
+    }
     let mut cells = given_cells(&draft.cells)?;
     let mut cell_lines: Vec<usize> = draft.cells.iter().map(|cell| cell.line).collect();
     let mut credentials = Vec::new();
@@ -47,9 +52,9 @@ pub fn finish(draft: &Draft) -> Result<Wallet, Mistake> {
         cells: cell_lines,
         automata: draft.constraints.lines(),
         edges: edges.map(|(_, line)| *line).collect(),
-        query: draft.query.map(|(_, line)| line),
+        query: draft.query.as_ref().map(|(.., line)| *line),
     };
-    Ok(numbered(draft, table, lines))
+    Ok(numbered(draft, table, names, lines))
 }
 
 /// The cells of the `cell` lines, each of which leads to a later one.
@@ -61,13 +66,12 @@ fn given_cells(drafts: &[CellDraft]) -> Result<Vec<Cell>, Mistake> {
             if value <= own || usize::from(value) > drafts.len() {
                 let instead = match drafts.len() {
                     last if last == usize::from(own) => {
-                        "leave `then` out, or write another `cell` line".to_string()
+                        "leave out `then`, or write another `cell` line".to_string()
                     }
                     last if last == usize::from(own) + 1 => format!("write {last}"),
                     last => format!("write a number from {} to {last}", own + 1),
                 };
-                let wrong =
-                    format!("cell {value} is not one of the `cell` lines behind cell {own}");
+                let wrong = format!("cell {value} is not among the `cell` lines after cell {own}");
                 return Err(place.mistake(wrong, instead));
             }
         }
@@ -110,7 +114,7 @@ fn check_chain(draft: &Draft, roles: &[Role], cell: Number) -> Result<(), Mistak
     if chain.is_empty() {
         return Err(cell.place.mistake(
             format_args!("there is no cell {number}"),
-            format_args!("write a line `cell {number} = ...`, or leave `at cell` out"),
+            format_args!("write a line `cell {number} = ...`, or leave out `at cell`"),
         ));
     }
     if chain != roles {
@@ -120,14 +124,14 @@ fn check_chain(draft: &Draft, roles: &[Role], cell: Number) -> Result<(), Mistak
                 "the chain at cell {number} is {}",
                 quoted(&said.join(" & "))
             ),
-            "write these roles behind the arrow, or another cell",
+            "write these roles after the arrow, or another cell",
         ));
     }
     Ok(())
 }
 
 /// The wallet, with numbers in the place of ranks.
-fn numbered(draft: &Draft, mut table: Table, lines: Lines) -> Wallet {
+fn numbered(draft: &Draft, mut table: Table, names: Names, lines: Lines) -> Wallet {
     let numbers = Numbers {
         principals: draft.words.numbers(Sort::Principal),
         names: draft.words.numbers(Sort::Name),
@@ -144,8 +148,11 @@ fn numbered(draft: &Draft, mut table: Table, lines: Lines) -> Wallet {
     }
     Wallet {
         table,
-        query: draft.query.map(|(query, _)| numbers.query(query)),
-        names: said(draft),
+        query: draft
+            .query
+            .as_ref()
+            .map(|(query, ..)| numbers.query(*query)),
+        names,
         lines,
     }
 }
@@ -210,7 +217,7 @@ impl Numbers {
     }
 }
 
-/// The names of all numbers.
+/// The names of all numbers, but for those that only the query names.
 fn said(draft: &Draft) -> Names {
     Names {
         principals: draft.words.named(Sort::Principal),

@@ -4,7 +4,8 @@
 use crate::limits::{CELLS, DEPTH, NAMES, STATES};
 use crate::mistake::{quoted, Mistake, Place};
 use crate::parse::credential;
-use crate::parse::reader::{kept, Number, Reader, Word};
+use crate::parse::numbering::Sort;
+use crate::parse::reader::{Number, Reader, Word};
 use crate::parse::statement::{LabelWords, QueryWords, RoleWords, StateWord, Statement};
 use crate::table::Mark;
 use crate::tokens::{Sign, Token};
@@ -19,85 +20,60 @@ pub const QUERY: &str = "`D in A.r within 2`";
 /// Reads a line that has at least one token.
 pub fn statement(line: usize, tokens: &[Token]) -> Result<Statement, Mistake> {
     let reader = |shape| Reader::new(line, tokens, shape);
-    let has = |sign: &Sign| tokens.iter().any(|token| token.sign == *sign);
-    let has_word = |word: &str| has(&Sign::Word(word.to_string()));
-    if let Some(mark) = demanded(tokens) {
-        return demand(reader(DEMAND), mark);
-    }
-    match beginning(line, tokens)? {
+    let texts: Vec<&str> = tokens.iter().map(|token| token.sign.text()).collect();
+    match kind(&texts) {
+        "every" => demand(reader(DEMAND), Mark::EveryWord),
+        "some" => demand(reader(DEMAND), Mark::SomeWord),
         "principals" => {
-            numbered(reader("`principals A = 1, B = 2`"), "a principal").map(Statement::Principals)
+            let shape = "`principals A = 1, B = 2`";
+            numbered(reader(shape), Sort::Principal).map(Statement::Principals)
         }
-        "names" => numbered(reader("`names r = 1, s = 2`"), "a role name").map(Statement::Names),
+        "names" => {
+            let shape = "`names r = 1, s = 2`";
+            numbered(reader(shape), Sort::Name).map(Statement::Names)
+        }
         "constraint" => constraint(reader("`constraint c`")),
         "start" => states(reader("`start 0 2`")).map(Statement::Start),
         "accept" => states(reader("`accept 1`")).map(Statement::Accept),
         "cell" => cell(reader("`cell 1 = B.s then 2` or `cell 2 = C.t`")),
         "edges" => edges_of(reader("`edges of c`")),
-        _ if has(&Sign::Arrow) => credential::read(reader(CREDENTIAL)),
-        _ if has(&Sign::Dashes) || has(&Sign::Onward) => edge(reader(EDGE)),
-        _ if has_word("in") || has_word("within") => query(reader(QUERY)).map(Statement::Query),
+        "<-" => credential::read(reader(CREDENTIAL)),
+        "--" => edge(reader(EDGE)),
+        "in" => query(reader(QUERY)).map(Statement::Query),
         _ => Err(unknown(line, tokens)),
     }
 }
 
-/// What a line demands that begins like `every word` or `some word`. These words
-/// may be names as well, and then the line goes on with a sign or with `in`.
-fn demanded(tokens: &[Token]) -> Option<Mark> {
-    let mut words = tokens.iter().map(|token| match &token.sign {
-        Sign::Word(word) => word.as_str(),
-        _ => "",
-    });
-    let mark = match words.next()? {
-        "every" => Mark::EveryWord,
-        "some" => Mark::SomeWord,
-        _ => return None,
+/// The word or sign by which a line's kind is known, empty if it is of none. The
+/// word at its beginning decides, unless the line goes on as after a name.
+fn kind<'a>(texts: &[&'a str]) -> &'a str {
+    let beginnings = "every some principals names constraint start accept cell edges";
+    let first = texts.first().copied().unwrap_or_default();
+    let is_name = match texts {
+        [_, "." | "<-" | "--" | "-->", ..] | [_, "in", _, "." | "within", ..] => true,
+        ["every" | "some", second, ..] => ["in", "within", "=", "&", ","].contains(second),
+        _ => false,
     };
-    match words.next() {
-        Some("" | "in" | "within") => None,
-        _ => Some(mark),
+    if !is_name && beginnings.split(' ').any(|word| word == first) {
+        return first;
     }
-}
-
-/// The word with which a line begins, empty if it begins with no word. A word
-/// that begins lines of some kind is no name.
-fn beginning(line: usize, tokens: &[Token]) -> Result<&str, Mistake> {
-    let Some((first, rest)) = tokens.split_first() else {
-        return Ok("");
-    };
-    let Sign::Word(word) = &first.sign else {
-        return Ok("");
-    };
-    let column = first.column;
-    let place = Place { line, column };
-    let begins = [
-        "principals",
-        "names",
-        "constraint",
-        "start",
-        "accept",
-        "cell",
-        "edges",
-    ];
-    match rest.first().map(|token| &token.sign) {
-        _ if !begins.contains(&word.as_str()) => Ok(""),
-        Some(Sign::Dot) => Err(kept(place, word, "a principal")),
-        Some(Sign::Dashes) => Err(kept(place, word, "a state")),
-        Some(Sign::Word(second)) if second == "in" => Err(kept(place, word, "a principal")),
-        _ => Ok(word),
+    let has = |text: &str| texts.contains(&text);
+    match texts.iter().find(|text| ["<-", "--", "-->"].contains(text)) {
+        Some(&"<-") => "<-",
+        Some(_) => "--",
+        None if has("within") => "in",
+        None if texts.get(1) == Some(&".") => "<-",
+        None if has("in") => "in",
+        None if first.starts_with(|digit: char| digit.is_ascii_digit()) => "--",
+        None => "",
     }
 }
 
 /// A line of no known kind.
 fn unknown(line: usize, tokens: &[Token]) -> Mistake {
-    let first = tokens.first();
-    let column = first.map_or(1, |token| token.column);
-    let text = first.map_or("", |token| token.sign.text());
+    let column = tokens.first().map_or(1, |token| token.column);
     Place { line, column }.mistake(
-        format_args!(
-            "no line of a wallet begins with {} and goes on like this",
-            quoted(text)
-        ),
+        "cannot tell what kind of line this is",
         format_args!(
             "write a credential like `A.r <- D`, a query like {QUERY}, an edge like \
              `0 -- any --> 1`, {DEMAND}, or begin with `principals`, `names`, `constraint`, \
@@ -107,14 +83,15 @@ fn unknown(line: usize, tokens: &[Token]) -> Mistake {
 }
 
 /// `principals A = 1, B = 2`, or `names` with role names.
-fn numbered(mut reader: Reader, what: &str) -> Result<Vec<(Word, Number)>, Mistake> {
+fn numbered(mut reader: Reader, sort: Sort) -> Result<Vec<(Word, Number)>, Mistake> {
     let mut all = Vec::new();
+    let number = format!("{}'s number", sort.one());
     reader.pass();
     loop {
-        let word = reader.name(what)?;
-        reader.sign(&Sign::Equals)?;
-        all.push((word, reader.number("its number", 1..=NAMES)?));
-        if !reader.passes(&Sign::Comma) {
+        let word = reader.name(sort.one())?;
+        reader.expect("=")?;
+        all.push((word, reader.number(&number, 1..=NAMES)?));
+        if !reader.passes(",") {
             break;
         }
     }
@@ -133,7 +110,7 @@ fn constraint(mut reader: Reader) -> Result<Statement, Mistake> {
 /// `every word` or `some word`
 fn demand(mut reader: Reader, mark: Mark) -> Result<Statement, Mistake> {
     reader.pass();
-    reader.kept("word")?;
+    reader.expect("word")?;
     reader.end()?;
     Ok(Statement::Demand(mark))
 }
@@ -141,7 +118,7 @@ fn demand(mut reader: Reader, mark: Mark) -> Result<Statement, Mistake> {
 /// `edges of c`
 fn edges_of(mut reader: Reader) -> Result<Statement, Mistake> {
     reader.pass();
-    reader.kept("of")?;
+    reader.expect("of")?;
     let word = reader.name("a constraint")?;
     reader.end()?;
     Ok(Statement::EdgesOf(word))
@@ -171,9 +148,9 @@ fn state(reader: &mut Reader) -> Result<StateWord, Mistake> {
 /// `0 -- A.r --> 1`
 fn edge(mut reader: Reader) -> Result<Statement, Mistake> {
     let from = state(&mut reader)?;
-    reader.sign(&Sign::Dashes)?;
+    reader.expect("--")?;
     let label = label(&mut reader)?;
-    reader.sign(&Sign::Onward)?;
+    reader.expect("-->")?;
     let to = state(&mut reader)?;
     reader.end()?;
     Ok(Statement::Edge(from, label, to))
@@ -181,56 +158,53 @@ fn edge(mut reader: Reader) -> Result<Statement, Mistake> {
 
 /// `A.r`, `not A.r`, `any` or `any of A`
 fn label(reader: &mut Reader) -> Result<LabelWords, Mistake> {
-    if reader.passes_kept("any") {
-        return match reader.passes_kept("of") {
+    if reader.passes("any") {
+        return match reader.passes("of") {
             true => owner(reader).map(LabelWords::Of),
             false => Ok(LabelWords::Any),
         };
     }
-    if reader.passes_kept("not") {
-        return match reader.next() {
-            Some(Sign::Word(word)) if word == "any" => Err(not_any(reader)),
-            _ => role(reader).map(LabelWords::Not),
+    if reader.passes("not") {
+        return match reader.is_at("any") {
+            true => Err(not_any(reader)),
+            false => role(reader).map(LabelWords::Not),
         };
     }
     role(reader).map(LabelWords::Only)
 }
 
-/// The principal behind `any of`.
+/// The principal after `any of`.
 fn owner(reader: &mut Reader) -> Result<Word, Mistake> {
     let owner = reader.name("a principal")?;
-    if reader.next() == Some(&Sign::Dot) {
+    if reader.is_at(".") {
         let all = quoted(&format!("any of {}", owner.text));
         return Err(owner.place.mistake(
-            "a role stands behind `any of`, which takes an owner alone",
-            format_args!("write {all} for all roles of this owner, or leave `any of` out for one"),
+            "`any of` takes a principal, not a role",
+            format_args!("write {all} for all its roles, or leave out `any of` for one role"),
         ));
     }
     Ok(owner)
 }
 
-/// The mistake that `any` stands behind `not`.
+/// The mistake that `any` follows `not`.
 fn not_any(reader: &mut Reader) -> Mistake {
     let place = reader.place();
     reader.pass();
-    match reader.passes_kept("of") {
+    match reader.passes("of") {
         true => place.mistake(
             "there is no label `not any of`",
             "write an edge like `0 -- any of A --> 1` for every other owner A",
         ),
-        false => place.mistake(
-            "there is no label `not any`, which no role would match",
-            "leave this edge out",
-        ),
+        false => place.mistake("`not any` would match no role", "leave out this edge"),
     }
 }
 
 /// `D in A.r within 2`
 pub fn query(mut reader: Reader) -> Result<QueryWords, Mistake> {
     let principal = reader.name("a principal")?;
-    reader.kept("in")?;
+    reader.expect("in")?;
     let role = role(&mut reader)?;
-    reader.kept("within")?;
+    reader.expect("within")?;
     let depth = reader.number("a depth", 1..=DEPTH)?;
     reader.end()?;
     Ok(QueryWords {
@@ -243,22 +217,26 @@ pub fn query(mut reader: Reader) -> Result<QueryWords, Mistake> {
 /// `cell 1 = B.s then 2`
 fn cell(mut reader: Reader) -> Result<Statement, Mistake> {
     reader.pass();
-    let number = reader.number("a part cell", 1..=CELLS as u16)?;
-    reader.sign(&Sign::Equals)?;
+    let number = cell_number(&mut reader)?;
+    reader.expect("=")?;
     let role = role(&mut reader)?;
-    let next = if reader.passes_kept("then") {
-        Some(reader.number("a part cell", 1..=CELLS as u16)?)
-    } else {
-        None
+    let next = match reader.passes("then") {
+        true => Some(cell_number(&mut reader)?),
+        false => None,
     };
     reader.end()?;
     Ok(Statement::Cell(number, role, next))
 }
 
+/// The number of a part cell.
+pub fn cell_number(reader: &mut Reader) -> Result<Number, Mistake> {
+    reader.number("a part cell", 1..=CELLS as u16)
+}
+
 /// `A.r`
 pub fn role(reader: &mut Reader) -> Result<RoleWords, Mistake> {
     let owner = reader.name("a role's owner")?;
-    reader.sign(&Sign::Dot)?;
+    reader.expect(".")?;
     let name = reader.name("a role name")?;
     Ok(RoleWords { owner, name })
 }

@@ -59,11 +59,20 @@ pub struct Vocabulary {
 struct Entry {
     word: String,
     given: Option<Number>,
+    /// Whether a line other than the query has it.
+    used: bool,
 }
 
 impl Vocabulary {
     /// The rank of a word of this sort.
     pub fn rank(&mut self, sort: Sort, word: &Word) -> Result<u16, Mistake> {
+        let rank = self.asked_rank((sort, word))?;
+        self.entries_mut(sort)[usize::from(rank)].used = true;
+        Ok(rank)
+    }
+
+    /// The same for a word of the query, which another line must have too.
+    pub fn asked_rank(&mut self, (sort, word): (Sort, &Word)) -> Result<u16, Mistake> {
         if let Some(&(known, rank, first)) = self.known.get(&word.text) {
             if known == sort {
                 return Ok(rank);
@@ -79,6 +88,7 @@ impl Vocabulary {
                 "write another word for one of them",
             ));
         }
+        word.check_spelling(self.known.keys())?;
         let entries = self.entries_mut(sort);
         let rank = entries.len() as u16;
         if rank == NAMES {
@@ -90,6 +100,7 @@ impl Vocabulary {
         entries.push(Entry {
             word: word.text.clone(),
             given: None,
+            used: false,
         });
         let entry = (sort, rank, word.place);
         self.known.insert(word.text.clone(), entry);
@@ -116,7 +127,7 @@ impl Vocabulary {
                     place.line,
                     place.column
                 ),
-                "leave one of them out",
+                "leave out one of them",
             ));
         }
         let same = |given: &Number| given.value == number.value;
@@ -126,7 +137,7 @@ impl Vocabulary {
         if let Some(other) = other {
             return Err(number.place.mistake(
                 format_args!(
-                    "the number {} is already that of {}",
+                    "the number {} already belongs to {}",
                     number.value,
                     quoted(&other.word)
                 ),
@@ -154,10 +165,13 @@ impl Vocabulary {
         entries.iter().map(number).collect()
     }
 
-    /// The names of the numbers of a sort.
+    /// The names of the numbers of a sort, but for words that only the query
+    /// has.
     pub fn named(&self, sort: Sort) -> BTreeMap<u16, String> {
-        let words = self.entries(sort).iter().map(|entry| entry.word.clone());
-        self.numbers(sort).into_iter().zip(words).collect()
+        let all = self.numbers(sort).into_iter().zip(self.entries(sort));
+        let used = all.filter(|(_, entry)| entry.used);
+        used.map(|(number, entry)| (number, entry.word.clone()))
+            .collect()
     }
 
     /// A role whose owner and name are ranks, in words.

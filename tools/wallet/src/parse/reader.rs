@@ -3,7 +3,7 @@
 use std::ops::RangeInclusive;
 
 use crate::mistake::{quoted, Mistake, Place};
-use crate::tokens::{Sign, Token, KEPT};
+use crate::tokens::{alike, is_reserved, Sign, Token};
 
 /// A name, and where it stands.
 #[derive(Clone, Debug, PartialEq, Eq)]
@@ -12,6 +12,25 @@ pub struct Word {
     pub text: String,
     /// Its place.
     pub place: Place,
+}
+
+impl Word {
+    /// A mistake if one of these names looks the same but has other characters.
+    pub fn check_spelling<'a>(
+        &self,
+        mut names: impl Iterator<Item = &'a String>,
+    ) -> Result<(), Mistake> {
+        match names.find(|name| alike(name, &self.text)) {
+            None => Ok(()),
+            Some(_) => Err(self.place.mistake(
+                format_args!(
+                    "{} looks like another name of the wallet, but has other characters",
+                    quoted(&self.text)
+                ),
+                "copy one of them over the other",
+            )),
+        }
+    }
 }
 
 /// A number, and where it stands.
@@ -26,8 +45,8 @@ pub struct Number {
 /// The tokens of a line that are still to be read.
 pub struct Reader<'a> {
     line: usize,
-    /// The column behind the last token that has been read.
-    behind: usize,
+    /// The column after the last token that has been read.
+    end: usize,
     rest: &'a [Token],
     /// What is read, for messages: a line, or a query by itself.
     whole: &'static str,
@@ -40,7 +59,7 @@ impl<'a> Reader<'a> {
     pub fn new(line: usize, tokens: &'a [Token], shape: &'static str) -> Reader<'a> {
         Reader {
             line,
-            behind: 1,
+            end: 1,
             rest: tokens,
             whole: "line",
             shape,
@@ -56,9 +75,9 @@ impl<'a> Reader<'a> {
         }
     }
 
-    /// The place of the next token, or behind the last one.
+    /// The place of the next token, or after the last one.
     pub fn place(&self) -> Place {
-        let column = self.rest.first().map_or(self.behind, |token| token.column);
+        let column = self.rest.first().map_or(self.end, |token| token.column);
         Place {
             line: self.line,
             column,
@@ -70,53 +89,44 @@ impl<'a> Reader<'a> {
         self.rest.first().map(|token| &token.sign)
     }
 
+    /// Whether the next sign, or reserved word, is this one.
+    pub fn is_at(&self, sign: &str) -> bool {
+        self.next().is_some_and(|next| next.text() == sign)
+    }
+
     /// Goes past the next token.
     pub fn pass(&mut self) {
         if let Some((first, rest)) = self.rest.split_first() {
-            self.behind = first.column + first.width;
+            self.end = first.column + first.width;
             self.rest = rest;
         }
     }
 
-    /// Goes past a sign if it is the next one, and tells whether it was.
-    pub fn passes(&mut self, sign: &Sign) -> bool {
-        let is_next = self.next() == Some(sign);
+    /// Goes past a sign or reserved word if it is next, and tells whether it was.
+    pub fn passes(&mut self, sign: &str) -> bool {
+        let is_next = self.is_at(sign);
         if is_next {
             self.pass();
         }
         is_next
     }
 
-    /// The same for a word that belongs to the line and names nothing.
-    pub fn passes_kept(&mut self, word: &str) -> bool {
-        let is_next = matches!(self.next(), Some(Sign::Word(text)) if text == word);
-        if is_next {
-            self.pass();
+    /// Goes past a sign or reserved word, which must be next.
+    pub fn expect(&mut self, sign: &str) -> Result<(), Mistake> {
+        match self.passes(sign) {
+            true => Ok(()),
+            false => Err(self.expected(&quoted(sign))),
         }
-        is_next
-    }
-
-    /// Goes past a sign, which must be the next one.
-    pub fn sign(&mut self, sign: &Sign) -> Result<(), Mistake> {
-        if self.passes(sign) {
-            return Ok(());
-        }
-        Err(self.expected(&quoted(sign.text())))
-    }
-
-    /// The same for a word that belongs to the line and names nothing.
-    pub fn kept(&mut self, word: &str) -> Result<(), Mistake> {
-        if self.passes_kept(word) {
-            return Ok(());
-        }
-        Err(self.expected(&quoted(word)))
     }
 
     /// Reads a name; `what` it names is for the message.
     pub fn name(&mut self, what: &str) -> Result<Word, Mistake> {
         let place = self.place();
         match self.next() {
-            Some(Sign::Word(text)) if KEPT.contains(&text.as_str()) => Err(kept(place, text, what)),
+            Some(Sign::Word(text)) if is_reserved(text) => Err(place.mistake(
+                format_args!("{} is a reserved word and cannot be {what}", quoted(text)),
+                "write another word",
+            )),
             Some(Sign::Word(text)) => {
                 self.pass();
                 Ok(Word {
@@ -148,41 +158,21 @@ impl<'a> Reader<'a> {
     pub fn end(&self) -> Result<(), Mistake> {
         match self.next() {
             None => Ok(()),
-            Some(sign) => Err(self.place().mistake(
-                format_args!("{} is too much in this {}", quoted(sign.text()), self.whole),
-                self.instead(),
-            )),
+            Some(sign) => Err(self.wrong(format!("unexpected {}", quoted(sign.text())))),
         }
     }
 
-    /// The mistake that something else stands where `what` is expected.
-    pub fn expected(&self, what: &str) -> Mistake {
-        let place = self.place();
-        match self.next() {
-            None => place.mistake(
-                format_args!("the {} ends where {what} is expected", self.whole),
-                self.instead(),
-            ),
-            Some(sign) => place.mistake(
-                format_args!("{} stands where {what} is expected", quoted(sign.text())),
-                self.instead(),
-            ),
-        }
+    /// The mistake that `what` is expected, and is not next.
+    fn expected(&self, what: &str) -> Mistake {
+        self.wrong(match self.next() {
+            None => format!("expected {what}, but the {} ends", self.whole),
+            Some(sign) => format!("expected {what}, found {}", quoted(sign.text())),
+        })
     }
 
-    /// What to write instead: something of this shape.
-    fn instead(&self) -> String {
-        format!("write a {} like {}", self.whole, self.shape)
+    /// A mistake at the next token, where a line of this shape is to be written.
+    fn wrong(&self, wrong: String) -> Mistake {
+        let instead = format_args!("write a {} like {}", self.whole, self.shape);
+        self.place().mistake(wrong, instead)
     }
-}
-
-/// The mistake that a word which is kept for the lines is used as a name.
-pub fn kept(place: Place, word: &str, what: &str) -> Mistake {
-    place.mistake(
-        format_args!(
-            "{} is kept for the lines and cannot be {what}",
-            quoted(word)
-        ),
-        "write another word",
-    )
 }

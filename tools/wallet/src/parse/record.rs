@@ -5,7 +5,8 @@
 use crate::decimal::decimal;
 use crate::mistake::{quoted, Mistake, Place};
 use crate::parse::decoded;
-use crate::parse::query::principal;
+use crate::parse::numbering::Sort;
+use crate::parse::query;
 use crate::parse::reader::Word;
 use crate::tokens::is_name;
 use crate::Wallet;
@@ -15,7 +16,7 @@ use crate::Wallet;
 pub fn record(wallet: &Wallet, text: &[u8]) -> Result<Vec<u16>, Mistake> {
     let text = text.strip_prefix("\u{FEFF}".as_bytes()).unwrap_or(text);
     let mut record = Vec::new();
-    // A comma behind which nothing stands yet.
+    // A comma after which nothing has come yet.
     let mut comma = None;
     for (line, bytes) in (1..).zip(text.split(|byte| *byte == b'\n')) {
         for (column, piece) in pieces(decoded(line, bytes)?) {
@@ -69,7 +70,8 @@ fn number(wallet: &Wallet, word: &str, place: Place, at: usize) -> Result<u16, M
         }
         _ if is_name(word) => {
             let text = word.to_string();
-            ("middle", principal(wallet, &Word { text, place }))
+            let principal = query::number(&wallet.names, Sort::Principal, &Word { text, place });
+            ("middle", principal)
         }
         _ => {
             let instead = "write one, or the name of a principal";
@@ -85,10 +87,8 @@ fn number(wallet: &Wallet, word: &str, place: Place, at: usize) -> Result<u16, M
 /// The mistake that a number is missing beside a comma.
 fn missing(comma: Place, at: usize) -> Mistake {
     comma.mistake(
-        format_args!(
-            "number {at} of the record is missing, since nothing stands before or behind a comma"
-        ),
-        "write it, or leave the comma out",
+        format_args!("number {at} of the record is missing beside a comma"),
+        "write it, or leave out the comma",
     )
 }
 
@@ -96,85 +96,67 @@ fn missing(comma: Place, at: usize) -> Mistake {
 mod tests {
     use super::{pieces, record};
     use crate::parse::parse;
-    use crate::Wallet;
 
-    const TEXT: &str = "Shop.discount <- Shop.accredited.student\n\
-        principals School = 2, \u{c9}va-1 = 64\n";
-
-    fn wallet() -> Wallet {
-        parse(TEXT.as_bytes()).expect("a wallet")
-    }
-
-    fn read(text: &str) -> Result<Vec<u16>, String> {
-        record(&wallet(), text.as_bytes()).map_err(|mistake| mistake.to_string())
+    /// Reads a record about a wallet with the principals Shop, School and Éva-1.
+    fn read(text: impl AsRef<[u8]>) -> Result<Vec<u16>, String> {
+        let wallet = "Shop.rest <- Shop.accredited.student\nprincipals School = 2, Éva-1 = 64\n";
+        let wallet = parse(wallet.as_bytes()).expect("a wallet");
+        record(&wallet, text.as_ref()).map_err(|mistake| mistake.to_string())
     }
 
     #[test]
     fn pieces_have_their_columns() {
-        let expected = [(2, "1"), (3, ","), (5, "\u{e9}2"), (8, "3"), (9, ",")];
-        assert_eq!(pieces(" 1, \u{e9}2\t3,"), expected);
-        assert_eq!(pieces("7"), [(1, "7")]);
+        let expected = [(2, "1"), (3, ","), (5, "é2"), (8, "3"), (9, ",")];
+        assert_eq!(pieces(" 1, é2\t3,"), expected);
         assert_eq!(pieces(",,"), [(1, ","), (2, ",")]);
-        assert_eq!(pieces(""), []);
         assert_eq!(pieces(" \r"), []);
     }
 
     #[test]
-    fn numbers_stand_apart_by_spaces_commas_or_line_ends() {
-        let expected = Ok(vec![1, 2, 65535]);
+    fn numbers_are_separated_by_spaces_commas_or_line_ends() {
         for text in [
             "1 2 65535",
-            "1,2,65535",
             " 1 , 2,\t65535 ",
             "1\n2\n\n65535\n",
             "1 2\r\n65535\r\n",
             "1,\n2\n,65535",
-            "\u{FEFF}1 2 65535",
-            "001 2 0065535",
+            "\u{FEFF}001 2 0065535",
         ] {
-            assert_eq!(read(text), expected, "{text:?}");
+            assert_eq!(read(text), Ok(vec![1, 2, 65535]), "{text:?}");
         }
-        for text in ["", " ", "\n\r\n\t", "\u{FEFF}"] {
+        for text in ["", "\n\r\n\t ", "\u{FEFF}"] {
             assert_eq!(read(text), Ok(vec![]), "{text:?}");
         }
     }
 
     #[test]
     fn a_middle_may_be_a_name() {
-        assert_eq!(read("1 School 2 0"), Ok(vec![1, 2, 2, 0]));
-        assert_eq!(read("1,Shop,\n2,\u{c9}va-1"), Ok(vec![1, 1, 2, 64]));
+        assert_eq!(read("1,Shop,\n2 Éva-1"), Ok(vec![1, 1, 2, 64]));
         assert_eq!(read("65535 School"), Ok(vec![65535, 2]));
     }
 
     #[test]
     fn mistakes_are_told_with_their_places() {
-        let principals = "write one of its principals: `Shop`, `School`, `\u{c9}va-1`";
-        let range = "is not a number from 0 to 65535";
-        let credential = "write the number of a credential";
-        let middle = "write one, or the name of a principal";
-        let comma = "since nothing stands before or behind a comma; \
-            write it, or leave the comma out";
-        let told = |place: &str, at: &str, words: &str| {
-            Err(format!("line {place}: number {at} of the record{words}"))
-        };
-        for (text, place, at, words) in [
-            ("1 65536", "1, column 3", "2", format!(", a middle: `65536` {range}; {middle}")),
-            ("-1", "1, column 1", "1", format!(", a credential: `-1` {range}; {credential}")),
-            ("1 2\n School", "2, column 2", "3", format!(", a credential: `School` {range}; {credential}")),
-            ("1 2;", "1, column 3", "2", format!(", a middle: `2;` {range}; {middle}")),
-            ("1 in", "1, column 3", "2", format!(", a middle: `in` {range}; {middle}")),
-            ("\u{FEFF}1 school", "1, column 3", "2", format!(", a middle: `school` is not a principal of the wallet; {principals}")),
-            ("1 0 2 student", "1, column 7", "4", format!(", a middle: `student` is a role name of the wallet, not a principal; {principals}")),
-            ("1,,2", "1, column 3", "2", format!(" is missing, {comma}")),
-            (",1", "1, column 1", "1", format!(" is missing, {comma}")),
-            ("1\n,\n,2", "3, column 1", "2", format!(" is missing, {comma}")),
-            ("1, 2,\n", "1, column 5", "3", format!(" is missing, {comma}")),
-            (",", "1, column 1", "1", format!(" is missing, {comma}")),
-        ] {
-            assert_eq!(read(text), told(place, at, &words), "{text:?}");
+        let cases = r"
+            1 65536 :: line 1, column 3: number 2 of the record, a middle: `65536` RANGE one, or the name of a principal
+            1 2; :: line 1, column 3: number 2 of the record, a middle: `2;` RANGE one, or the name of a principal
+            1 in :: line 1, column 3: number 2 of the record, a middle: `in` RANGE one, or the name of a principal
+            -1 :: line 1, column 1: number 1 of the record, a credential: `-1` RANGE the number of a credential
+            1 2\n Shop :: line 2, column 2: number 3 of the record, a credential: `Shop` RANGE the number of a credential
+            1 school :: line 1, column 3: number 2 of the record, a middle: `school` is not a principal of the wallet; write one of its principals: `School`, `Shop`, `Éva-1`
+            1 0 2 rest :: line 1, column 7: number 4 of the record, a middle: `rest` is a role name of the wallet, not a principal; write one of its principals: `Shop`, `Éva-1`, `School`
+            1,,2 :: line 1, column 3: number 2 of the record COMMA
+            ,1 :: line 1, column 1: number 1 of the record COMMA
+            1\n,\n,2 :: line 3, column 1: number 2 of the record COMMA
+            1, 2,\n :: line 1, column 5: number 3 of the record COMMA";
+        let comma = "is missing beside a comma; write it, or leave out the comma";
+        for case in cases.lines().skip(1) {
+            let (text, told) = case.trim_start().split_once(" :: ").expect("a mistake");
+            let told = told.replace("RANGE", "is not a number from 0 to 65535; write");
+            let expected = Err(told.replace("COMMA", comma));
+            assert_eq!(read(text.replace("\\n", "\n")), expected, "{text}");
         }
-        let byte = record(&wallet(), b"1 2\n\xc3\xa9 \xe9").expect_err("a mistake");
-        let words = "line 2, column 3: the byte 0xE9 is not UTF-8; write the text as UTF-8";
-        assert_eq!(byte.to_string(), words);
+        let byte = "line 1, column 3: the byte 0xE9 is not UTF-8; write the text as UTF-8";
+        assert_eq!(read(b"\xef\xbb\xbf\xc3\xa9 \xe9"), Err(byte.to_string()));
     }
 }

@@ -1,5 +1,6 @@
 //! What a line says, in words and with their places.
 
+use crate::parse::numbering::Sort;
 use crate::parse::reader::{Number, Word};
 use crate::table::Mark;
 
@@ -12,7 +13,7 @@ pub struct RoleWords {
     pub name: Word,
 }
 
-/// What stands behind a credential's arrow, in words.
+/// What follows a credential's arrow, in words.
 #[derive(Clone, Debug, PartialEq, Eq)]
 pub enum BodyWords {
     /// `D`
@@ -21,7 +22,7 @@ pub enum BodyWords {
     Contained(RoleWords),
     /// `A.s.t`, where A is the role's owner.
     Linked(RoleWords, Word),
-    /// `B.s & C.t`, and the cell behind `at cell`.
+    /// `B.s & C.t`, and the cell after `at cell`.
     Parts(Vec<RoleWords>, Option<Number>),
 }
 
@@ -58,10 +59,21 @@ pub struct QueryWords {
     pub depth: Number,
 }
 
+impl QueryWords {
+    /// The principal, the role's owner and its name, each with what it is.
+    pub fn names(&self) -> [(Sort, &Word); 3] {
+        [
+            (Sort::Principal, &self.principal),
+            (Sort::Principal, &self.role.owner),
+            (Sort::Name, &self.role.name),
+        ]
+    }
+}
+
 /// What a line says.
 #[derive(Clone, Debug, PartialEq, Eq)]
 pub enum Statement {
-    /// `A.r <- ...`, and the constraint behind `under`.
+    /// `A.r <- ...`, and the constraint after `under`.
     Credential(RoleWords, BodyWords, Option<Word>),
     /// `constraint c`
     Constraint(Word),

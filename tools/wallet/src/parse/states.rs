@@ -19,6 +19,15 @@ enum State {
     Word(String),
 }
 
+impl State {
+    fn word(&self) -> Option<&String> {
+        match self {
+            State::Word(word) => Some(word),
+            State::Number(_) => None,
+        }
+    }
+}
+
 impl States {
     /// The rank of a state.
     pub fn rank(&mut self, word: &StateWord) -> Result<u16, Mistake> {
@@ -29,10 +38,13 @@ impl States {
         if let Some(rank) = self.all.iter().position(|known| *known == state) {
             return Ok(rank as u16);
         }
+        if let StateWord::Word(word) = word {
+            word.check_spelling(self.all.iter().filter_map(State::word))?;
+        }
         if self.all.len() == usize::from(STATES) {
-            let word_text = quoted(&word.text());
+            let text = quoted(&word.text());
             return Err(word.place().mistake(
-                format_args!("{word_text} would be the 17th state of its constraint"),
+                format_args!("{text} would be the 17th state of its constraint"),
                 "write at most 16",
             ));
         }
@@ -47,8 +59,8 @@ impl States {
             let bit = 1 << self.rank(word)?;
             if set & bit != 0 {
                 return Err(word.place().mistake(
-                    format_args!("state {} stands on this line twice", quoted(&word.text())),
-                    "leave one of them out",
+                    format_args!("state {} is on this line twice", quoted(&word.text())),
+                    "leave out one of them",
                 ));
             }
             set |= bit;
@@ -69,14 +81,9 @@ impl States {
     }
 
     /// The words among the states, with their numbers.
-    pub fn words(&self) -> Vec<(u16, String)> {
-        let mut words = Vec::new();
-        for (state, number) in self.all.iter().zip(self.numbers()) {
-            if let State::Word(word) = state {
-                words.push((number, word.clone()));
-            }
-        }
-        words
+    pub fn words(&self) -> impl Iterator<Item = (u16, String)> + '_ {
+        let states = self.numbers().into_iter().zip(&self.all);
+        states.filter_map(|(number, state)| Some((number, state.word()?.clone())))
     }
 
     /// A set of ranks as a set of numbers.

@@ -6,7 +6,7 @@ use std::collections::{BTreeMap, BTreeSet};
 use crate::limits::NAMES;
 use crate::names::Names;
 use crate::table::{Body, Label, Role, Table};
-use crate::tokens::is_name;
+use crate::tokens::{alike, is_name};
 use crate::Wallet;
 
 /// Names for every principal, role name and constraint of a wallet, no word
@@ -43,15 +43,16 @@ pub fn kept(
     let in_range = given.iter().filter(|(number, _)| range.contains(number));
     let mut names = BTreeMap::new();
     for (number, name) in in_range {
-        if is_name(name) && taken.insert(name.clone()) {
+        let differs = !taken.iter().any(|other| alike(other, name));
+        if is_name(name) && differs && taken.insert(name.clone()) {
             names.insert(*number, name.clone());
         }
     }
     names
 }
 
-/// Makes names for numbers without one, of the number and what stands before
-/// it; and of another number behind it, if that name is taken.
+/// Makes names for numbers without one, of a beginning and the number; and of
+/// another number after it, if that name is taken.
 fn name_others(
     names: &mut BTreeMap<u16, String>,
     numbers: &BTreeSet<u16>,

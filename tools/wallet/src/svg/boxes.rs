@@ -2,15 +2,11 @@
 //! under a box the word that ends there, or why the record is stopped there.
 
 use crate::derivation::{numbered, Judged, Node};
+use crate::svg::lines::{broken, columns, widest_piece, FURTHER};
 use crate::table::Body;
 use crate::tree::{dead, goal};
 use crate::words::{roles, run, Word, Words};
 use crate::Wallet;
-
-/// A line that goes on with the one above is indented by this.
-const FURTHER: &str = "  ";
-/// These words stay on a line with the word behind them.
-const TIED: [&str; 6] = ["<-", "&", "under", "in", "node", "the"];
 
 /// What is written at a node.
 #[derive(Clone, Debug, Default)]
@@ -23,8 +19,8 @@ pub struct Sheet {
     pub credential: Vec<String>,
     /// What stands under the box.
     pub under: Vec<String>,
-    /// What stands on the branch that leads to the box.
-    pub branch: Option<String>,
+    /// What stands on the branch that leads to the box; nothing on most.
+    pub branch: Vec<String>,
     /// Whether something is to be seen at a glance.
     pub tone: Tone,
 }
@@ -48,20 +44,34 @@ impl Sheet {
         let lines = below.chain(&self.under);
         let lines = lines.map(|line| columns(line)).max().unwrap_or(0);
         let first = self.goal.first().map_or(0, |line| columns(line));
-        lines.max(first + 1 + columns(&self.number))
+        lines.max(first + self.beside())
     }
 
-    /// The same with lines of at most so many columns; of more where a piece
-    /// of a line needs that.
+    /// The columns that the number takes beside the goal.
+    fn beside(&self) -> usize {
+        columns(&self.number) + 1
+    }
+
+    /// How many columns the box needs so that no word is broken.
+    pub fn whole(&self) -> usize {
+        let goal = self.goal.iter().map(|line| widest_piece(line));
+        let goal = goal.map(|widest| widest + self.beside());
+        let others = self.credential.iter().chain(&self.under);
+        let widest = goal.chain(others.map(|line| widest_piece(line))).max();
+        widest.unwrap_or(0) + columns(FURTHER)
+    }
+
+    /// The same with lines of at most so many columns.
     pub fn broken(&self, limit: usize) -> Sheet {
-        let lines = self.goal.iter().chain(&self.credential).chain(&self.under);
-        let pieces = lines.flat_map(|line| pieces(line));
-        let widest = pieces.map(|piece| columns(&piece)).max().unwrap_or(0);
-        let limit = limit.max(widest + columns(FURTHER));
+        let lines = |lines: &[String], limit| {
+            let lines = lines.iter().flat_map(|line| broken(line, limit));
+            lines.collect()
+        };
         Sheet {
-            goal: broken(&self.goal, limit),
-            credential: broken(&self.credential, limit),
-            under: broken(&self.under, limit),
+            goal: lines(&self.goal, limit.saturating_sub(self.beside())),
+            credential: lines(&self.credential, limit),
+            under: lines(&self.under, limit),
+            branch: lines(&self.branch, limit),
             ..self.clone()
         }
     }
@@ -74,7 +84,7 @@ pub fn sheets(wallet: &Wallet, judged: &Judged, words: &Words) -> Vec<Sheet> {
         number: node.number.to_string(),
         goal: vec![goal(&wallet.names, node)],
         credential: credential(wallet, node).into_iter().collect(),
-        branch: middle(wallet, nodes, node),
+        branch: middle(wallet, nodes, node).into_iter().collect(),
         ..Sheet::default()
     };
     let mut sheets: Vec<Sheet> = nodes.iter().map(sheet).collect();
@@ -118,7 +128,7 @@ fn middle(wallet: &Wallet, nodes: &[Node], node: &Node) -> Option<String> {
     let parent = nodes.get(node.parent?)?;
     let credential = numbered(&wallet.table, parent.credential?)?;
     let linked = matches!(credential.body, Body::Linked { .. });
-    // The first child comes right behind its parent.
+    // The first child comes right after its parent.
     let first = parent.number + 1 == node.number;
     let name = wallet.names.principal(parent.middle?);
     (linked && first).then(|| format!("middle {name}"))
@@ -140,46 +150,4 @@ fn judgements(wallet: &Wallet, judged: &Judged, words: &Words, word: &Word) -> V
         lines.extend(dead(&wallet.names, &roles, &sets));
     }
     lines
-}
-
-/// Lines broken where they have more than so many columns.
-fn broken(lines: &[String], limit: usize) -> Vec<String> {
-    let mut shorter: Vec<String> = Vec::new();
-    for line in lines {
-        let mut present = String::new();
-        for piece in pieces(line) {
-            if present.is_empty() {
-                present = piece;
-            } else if columns(&present) + 1 + columns(&piece) <= limit {
-                present = format!("{present} {piece}");
-            } else {
-                shorter.push(std::mem::replace(&mut present, format!("{FURTHER}{piece}")));
-            }
-        }
-        shorter.push(present);
-    }
-    shorter
-}
-
-/// The pieces of a line that stay whole: its words, but the tied ones and what
-/// begins with a digit, `2:` or `2nd`, together with the word behind them.
-fn pieces(line: &str) -> Vec<String> {
-    let mut pieces: Vec<String> = Vec::new();
-    let mut tied = false;
-    for word in line.split_whitespace() {
-        match pieces.last_mut() {
-            Some(piece) if tied => *piece = format!("{piece} {word}"),
-            _ => pieces.push(word.to_string()),
-        }
-        tied = TIED.contains(&word) || word.starts_with(|sign: char| sign.is_ascii_digit());
-    }
-    pieces
-}
-
-/// How many columns a text takes in a fixed-width font. Scripts whose letters
-/// take two begin at U+1100, and the sign that stands for a control may take
-/// two as well.
-pub fn columns(text: &str) -> usize {
-    let wide = |letter: &char| *letter >= '\u{1100}' || letter.is_control();
-    text.chars().count() + text.chars().filter(wide).count()
 }

@@ -19,7 +19,7 @@ pub struct Extent {
 }
 
 /// The middles of the nodes, and how wide the tree is; its left edge is at 0.
-pub struct Placed {
+pub struct Tree {
     /// The middle of each node.
     pub middles: Vec<Pixels>,
     /// The children of each node, by index.
@@ -41,7 +41,7 @@ struct Subtree {
 }
 
 /// Places a tree.
-pub fn place(extents: &[Extent]) -> Placed {
+pub fn place(extents: &[Extent]) -> Tree {
     let children = children(extents);
     let subtrees = subtrees(extents, &children);
     let mut middles = vec![0; extents.len()];
@@ -58,7 +58,7 @@ pub fn place(extents: &[Extent]) -> Placed {
     let right = (0..extents.len()).map(|index| edges(index).1).max();
     let (left, right) = (left.unwrap_or(0), right.unwrap_or(0));
     middles.iter_mut().for_each(|middle| *middle -= left);
-    Placed {
+    Tree {
         middles,
         children,
         width: right - left,

@@ -3,8 +3,9 @@
 
 use std::fmt::Write;
 
-use crate::svg::boxes::columns;
+use crate::markup::escaped;
 use crate::svg::layout::Pixels;
+use crate::svg::lines::columns;
 
 /// The size of the font.
 pub const FONT: Pixels = 12;
@@ -14,7 +15,7 @@ pub const LARGE: Pixels = 14;
 const SMALL: Pixels = 10;
 
 // The colours: of text, of lines and remarks, behind everything, behind the
-// words, and of what is accepted or good enough and what is at fault.
+// words, and of what is accepted or good enough and of what is at fault.
 pub const INK: &str = "#1f2328";
 pub const PALE: &str = "#636c76";
 pub const WHITE: &str = "#ffffff";
@@ -44,58 +45,50 @@ pub struct Marks {
 
 impl Marks {
     /// A white picture of this size, with a title and a description.
+    ///
+    /// Everything else stands half a pixel further right and down, so that the
+    /// strokes are sharp at full size. They are wide enough to be seen at half
+    /// size, and are drawn with shades: without them programs leave out strokes
+    /// that fall between two pixels. Their ends are square, so that they meet in
+    /// corners and where one part of a picture follows another.
     pub fn new(width: Pixels, height: Pixels, title: &str, description: &str) -> Marks {
         let svg = format!(
             "<svg xmlns=\"http://www.w3.org/2000/svg\" role=\"img\" width=\"{width}\" \
              height=\"{height}\" viewBox=\"0 0 {width} {height}\" \
              font-family=\"'DejaVu Sans Mono', Menlo, Consolas, monospace\" \
-             font-size=\"{FONT}\" shape-rendering=\"crispEdges\">\n\
+             font-size=\"{FONT}\">\n\
              <title>{}</title>\n\
-             <desc>{}</desc>\n",
+             <desc>{}</desc>\n\
+             <rect width=\"{width}\" height=\"{height}\" fill=\"{WHITE}\"/>\n\
+             <g transform=\"translate(0.5 0.5)\" stroke-width=\"1.5\" \
+             stroke-linecap=\"square\">\n",
             escaped(title),
             escaped(description)
         );
-        let mut marks = Marks { svg };
-        marks.patch(Rectangle {
-            left: 0,
-            top: 0,
-            width,
-            height,
-        });
-        marks
+        Marks { svg }
     }
 
     /// The whole document.
     pub fn finish(mut self) -> String {
-        self.svg.push_str("</svg>\n");
+        self.svg.push_str("</g>\n</svg>\n");
         self.svg
     }
 
-    /// A white rectangle without an edge.
-    pub fn patch(&mut self, place: Rectangle) {
-        self.filled(place, WHITE, "");
-    }
-
-    /// A rectangle with an edge; a thick one of some colour, if it is marked with
-    /// that.
+    /// A rectangle; with a thicker edge of some colour, if it is marked with that.
     pub fn rectangle(&mut self, place: Rectangle, fill: &str, mark: Option<&str>) {
-        let edge = match mark {
-            Some(colour) => format!(" stroke=\"{colour}\" stroke-width=\"2\""),
-            None => format!(" stroke=\"{PALE}\""),
-        };
-        self.filled(place, fill, &edge);
-    }
-
-    fn filled(&mut self, place: Rectangle, fill: &str, edge: &str) {
         let Rectangle {
             left,
             top,
             width,
             height,
         } = place;
+        let edge = match mark {
+            Some(colour) => format!("stroke=\"{colour}\" stroke-width=\"2.5\""),
+            None => format!("stroke=\"{PALE}\""),
+        };
         self.add(format_args!(
             "<rect x=\"{left}\" y=\"{top}\" width=\"{width}\" height=\"{height}\" \
-             fill=\"{fill}\"{edge}/>"
+             fill=\"{fill}\" {edge}/>"
         ));
     }
 
@@ -158,22 +151,8 @@ pub fn line_width(columns: usize, size: Pixels) -> Pixels {
     (columns as Pixels * size * 605 + 999) / 1_000
 }
 
-/// A text as SVG has it: the signs of the markup by their names, and what may
-/// not stand in a document at all by U+FFFD.
-fn escaped(text: &str) -> String {
-    let mut escaped = String::new();
-    for letter in text.chars() {
-        match letter {
-            '&' => escaped.push_str("&amp;"),
-            '<' => escaped.push_str("&lt;"),
-            '>' => escaped.push_str("&gt;"),
-            '"' => escaped.push_str("&quot;"),
-            '\'' => escaped.push_str("&apos;"),
-            '\0'..='\u{1f}' | '\u{7f}'..='\u{9f}' | '\u{fffe}' | '\u{ffff}' => {
-                escaped.push('\u{fffd}');
-            }
-            letter => escaped.push(letter),
-        }
-    }
-    escaped
+/// How many columns fit into a width in a font of this size.
+pub fn fitting_columns(width: Pixels, size: Pixels) -> usize {
+    let fits = |columns: &usize| line_width(*columns, size) <= width;
+    (1..).take_while(fits).count()
 }

@@ -1,7 +1,7 @@
 //! The difference of two texts, for people to read.
 
 /// The lines of both texts: those they share with two spaces before them,
-/// those of the first alone behind `- `, those of the second alone behind `+ `.
+/// those of the first alone after `- `, those of the second alone after `+ `.
 /// Only what they share at the beginning and at the end counts as shared.
 pub fn difference(first: &[String], second: &[String]) -> String {
     let shared = |pairs: &mut dyn Iterator<Item = (&String, &String)>| {

@@ -9,7 +9,7 @@
 pub struct Command {
     /// The page's line on which it stands, from 1.
     pub line: usize,
-    /// What stands behind the `$ `.
+    /// What stands after the `$ `.
     pub text: String,
     /// The lines below it: what it prints.
     pub output: Vec<String>,

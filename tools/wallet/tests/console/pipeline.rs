@@ -86,8 +86,8 @@ fn pieces(command: &str) -> Result<Vec<Piece>, String> {
             continue;
         }
         let before = index == 0 || part.is_empty() || part.starts_with(' ');
-        let behind = index == last || part.ends_with(' ');
-        if !before || !behind {
+        let after = index == last || part.ends_with(' ');
+        if !before || !after {
             return Err(format!("no space between {part} and a quote"));
         }
         for word in part.split_whitespace() {
@@ -119,7 +119,7 @@ fn stages(command: &str) -> Result<Vec<Stage>, String> {
         .collect()
 }
 
-/// One program: its words, and the files behind `<` and `>`.
+/// One program: its words, and the files after `<` and `>`.
 fn stage(pieces: &[Piece]) -> Result<Stage, String> {
     let mut stage = Stage::default();
     let mut pieces = pieces.iter();
@@ -134,7 +134,7 @@ fn stage(pieces: &[Piece]) -> Result<Stage, String> {
         };
         match pieces.next() {
             Some(Piece::Word(file)) => *place = Some(file.clone()),
-            _ => return Err(format!("no file behind {sign}")),
+            _ => return Err(format!("no file after {sign}")),
         }
     }
     Ok(stage)

@@ -1,5 +1,5 @@
-//! A reader of the little XML that pictures are written in. It takes nothing
-//! that is not well-formed.
+//! A reader of the little XML that pictures and pages are written in. It takes
+//! nothing that is not well-formed.
 
 use std::collections::BTreeMap;
 
@@ -48,6 +48,17 @@ pub fn elements(document: &str) -> Vec<Element> {
     elements
 }
 
+/// The text of a document in its order, without its tags.
+pub fn said(document: &str) -> String {
+    let mut said = String::new();
+    let mut rest = document;
+    while let Some(begin) = rest.find('<') {
+        said += &plain(&rest[..begin]);
+        rest = &rest[begin + tag_end(&rest[begin..]) + 1..];
+    }
+    said + &plain(rest)
+}
+
 /// Where a tag ends. An end in quotes is none.
 fn tag_end(rest: &str) -> usize {
     let mut quoted = false;
@@ -65,7 +76,7 @@ fn tag_end(rest: &str) -> usize {
 /// The element of a tag.
 fn element(tag: &str, depth: usize) -> Element {
     let (name, mut rest) = tag.split_once(' ').unwrap_or((tag, ""));
-    assert!(!name.is_empty() && name.chars().all(|letter| letter.is_ascii_alphabetic()));
+    assert!(!name.is_empty() && name.chars().all(|letter| letter.is_ascii_alphanumeric()));
     let mut attributes = BTreeMap::new();
     while !rest.is_empty() {
         let (key, behind) = rest.split_once("=\"").expect("a quoted attribute");
@@ -95,7 +106,7 @@ fn text(text: &str, elements: &mut [Element], open: &[usize]) {
 /// A text without its escapes. There is no other use of `&`.
 fn plain(text: &str) -> String {
     assert!(!text.contains('>'), "a bare > in {text}");
-    let allowed = |letter: char| letter == '\n' || !letter.is_control();
+    let allowed = |letter: char| matches!(letter, '\n' | '\t') || !letter.is_control();
     assert!(text.chars().all(allowed), "{text:?}");
     let mut plain = String::new();
     let mut rest = text;

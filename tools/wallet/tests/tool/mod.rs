@@ -2,6 +2,8 @@
 
 #![allow(dead_code)]
 
+pub mod json;
+
 use std::fs;
 use std::io::Write;
 use std::path::{Path, PathBuf};
@@ -38,10 +40,11 @@ pub fn run_program(program: &str, arguments: &[&str], input: &[u8]) -> Done {
         .spawn()
         .expect("the program");
     let mut stdin = child.stdin.take().expect("its standard input");
-    // It may end before it has read everything.
-    let _ = stdin.write_all(input);
-    drop(stdin);
-    let output = child.wait_with_output().expect("its output");
+    let output = std::thread::scope(|scope| {
+        // It may write before it has read everything, and end before that too.
+        scope.spawn(move || stdin.write_all(input).is_ok());
+        child.wait_with_output().expect("its output")
+    });
     Done {
         code: output.status.code(),
         out: output.stdout,
@@ -52,6 +55,30 @@ pub fn run_program(program: &str, arguments: &[&str], input: &[u8]) -> Done {
 /// Runs the tool on some input.
 pub fn run(arguments: &[&str], input: &[u8]) -> Done {
     run_program(env!("CARGO_BIN_EXE_wallet"), arguments, input)
+}
+
+/// What the tool wrote to standard output, and that it ended with 0.
+#[track_caller]
+pub fn accepted(arguments: &[&str], input: &[u8]) -> String {
+    let done = run(arguments, input);
+    let ended = (done.code, done.err.as_str());
+    assert_eq!(ended, (Some(0), ""), "{arguments:?}");
+    done.text()
+}
+
+/// A refusal in the place of the answer.
+#[track_caller]
+pub fn refused(done: &Done, words: &str) {
+    let answer = (done.code, done.text(), done.err.as_str());
+    assert_eq!(answer, (Some(1), format!("{words}\n"), ""));
+}
+
+/// A refusal where nothing can stand in the place of the answer.
+#[track_caller]
+pub fn refused_apart(done: &Done, words: &str) {
+    let answer = (done.code, done.text(), done.err.clone());
+    let told = format!("wallet: {words}\n");
+    assert_eq!(answer, (Some(1), String::new(), told));
 }
 
 /// A file for a test to write, which is not there yet.
@@ -86,4 +113,13 @@ pub fn wrong(arguments: &[&str], input: &[u8]) -> String {
         assert!(!path.exists(), "{arguments:?}");
     }
     run(arguments, input).err
+}
+
+/// A text as the pages have it below their prose.
+pub fn indented(text: &str) -> String {
+    let lines = text.lines().map(|line| match line {
+        "" => "\n".to_string(),
+        line => format!("    {line}\n"),
+    });
+    lines.collect()
 }
