@@ -1,15 +1,9 @@
-use mathlib.Core.Path.{_∙_, sym}
-use Rattle.sets.proofs.Tests.{or-first, or-off}
-use borrow.Author.Needs.{needs}
+-- `goals::is_enough` meets its contract: the family has what can be met at best, or all that is wanted. Assumes nothing.
 use mathlib.Core.Path.{_∙_, sym}
 use Rattle.sets.proofs.Tests.{or-first, or-off}
 use borrow.Author.Needs.{needs}
 use Rattle.goals.proofs.is_enough.Statement.{statement}
 use Rattle.goals.proofs.is_enough.Tie as tie
-use Rattle.goals.proofs.is_enough.Reads as reads
-use Rattle.goals.proofs.is_enough.Lts as lts
-use Rattle.families.proofs.Family.has.Reads as has-reads
-use Rattle.families.proofs.Family.is_part.Reads as is-part-reads
 
 has-requires : tie.Need-has-requires
 has-requires c κs = search needs

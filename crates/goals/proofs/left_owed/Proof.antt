@@ -1,9 +1,7 @@
+-- `goals::left_owed` meets its contract: what is left of the owed are those that are not dead. Assumes nothing.
 use Rattle.goals.proofs.Testing.{left-those}
-use borrow.Author.Needs.{needs}
 use Rattle.goals.proofs.left_owed.Statement.{statement}
 use Rattle.goals.proofs.left_owed.Tie as tie
-use Rattle.goals.proofs.left_owed.Reads as reads
-use Rattle.goals.proofs.left_owed.Lts as lts
 
 returns : tie.Need-returns
 returns c = left-those _ _ (c .pre)

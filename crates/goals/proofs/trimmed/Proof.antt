@@ -1,13 +1,8 @@
-use Rattle.goals.proofs.Testing.{trimmed-none, trimmed-one}
-use borrow.Author.Needs.{needs}
+-- `goals::trimmed` meets its contract: the whole owed set stands for the family that has it. Assumes nothing.
 use Rattle.goals.proofs.Testing.{trimmed-none, trimmed-one}
 use borrow.Author.Needs.{needs}
 use Rattle.goals.proofs.trimmed.Statement.{statement}
 use Rattle.goals.proofs.trimmed.Tie as tie
-use Rattle.goals.proofs.trimmed.Reads as reads
-use Rattle.goals.proofs.trimmed.Lts as lts
-use Rattle.families.proofs.Family.has.Reads as has-reads
-use Rattle.families.proofs.Family.only.Reads as only-reads
 
 has-requires : tie.Need-has-requires
 has-requires c κs = search needs
@@ -16,7 +11,9 @@ only-requires : tie.Need-only-requires
 only-requires c κs = search needs
 
 returns : tie.Need-returns
-returns c = trimmed-one _ _ _ (c .before .before .before .pre) (c .before .before .has .ensures) (c .before .if1 .taken) (c .only .ensures)
+returns c =
+    let tested = c .before .before in
+    trimmed-one _ _ _ (tested .before .pre) (tested .has .ensures) (c .before .if1 .taken) (c .only .ensures)
 
 returns-2 : tie.Need-returns-2
 returns-2 c = trimmed-none _ _

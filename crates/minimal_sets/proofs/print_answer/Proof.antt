@@ -1,7 +1,6 @@
 -- `minimal_sets::print_answer` is safe: what is printed is within the buffer. Assumes nothing.
 use mathlib.Core.Path.{sym}
 use borrow.Author.Needs.{needs}
-use borrow.Author.Needs.{needs}
 use lib.Seq.{length-take-le}
 use Rattle.printing.proofs.Puts.{filled-within}
 use Rattle.minimal_sets.proofs.print_answer.Statement.{statement}
