@@ -274,8 +274,9 @@ fn lists() -> Vec<Case> {
     ]
 }
 
-/// Every refusal of a table, 1 to 7, by one damage to the wallet; label 4 with a
-/// name, with 0 and with 65 for its owner, and a label that there is not.
+/// The refusals of a table but 17 (see `by_mark`), each by one damage to the
+/// wallet; label 4 with a name, with owner 0 and with owner 65, and a label that
+/// does not exist.
 fn refused_tables() -> Vec<Case> {
     let wallet = wallet().numbers();
     vec![

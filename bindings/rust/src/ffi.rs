@@ -1,5 +1,5 @@
-//! The calls through the C interface: the only unsafe code there is. What the
-//! calls promise stands at the public functions, in `calls.rs`.
+//! The calls through the C interface: the only unsafe code of this crate. What
+//! the calls promise is said at the public functions, in `calls.rs`.
 
 #![allow(unsafe_code)]
 
