@@ -132,7 +132,7 @@ fn least_credential(
     let mut i = 0;
     while i < last {
         if goals::may_use(index, terms.allowed, place, i) {
-            let found = search::credential_search(
+            let answer = search::credential_search(
                 table,
                 index,
                 arcs,
@@ -145,7 +145,7 @@ fn least_credential(
                 above,
                 memory,
             );
-            if found.meets(wanted) {
+            if answer.found.meets(wanted) {
                 return i;
             }
         }

@@ -180,7 +180,7 @@ fn leads_on(
         above,
         memory,
     );
-    if one.is_none() {
+    if one.found.is_none() {
         return false;
     }
     let two = search::goal_search(
@@ -196,6 +196,6 @@ fn leads_on(
         above,
         memory,
     );
-    let both = one.joined(two);
+    let both = one.found.joined(two.found);
     both.meets(wanted)
 }

@@ -16,7 +16,7 @@ use Rattle.table.specs.Limits.{mostAutomata, mostCredentials}
 use Rattle.automata.specs.declared.StateSets.{StateSets}
 use Rattle.members.specs.declared.above.Above.{Above}
 use Rattle.members.proofs.Reading.{below-next}
-use Rattle.failures.specs.Failures.{Kept, Recalled, SlotIn, familyCell, metCell, slotCell, slotCells, stateCell}
+use Rattle.failures.specs.Failures.{Kept, Recalled, SlotIn, blockingCell, familyCell, slotCell, slotCells, stateCell}
 use Rattle.failures.specs.Cells.{CoveredAt, StatesAt, Written}
 
 -- a cell by two ways to count it
@@ -29,7 +29,7 @@ pub record StatesTo (memory : List ℕ) (k : ℕ) (s : StateSets) (n : ℕ) : Ty
   pub each : (j : ℕ) → j < n → getD memory (stateCell k j) 0 ≡ getD (s .sets) j 0
 
 pub record CoveredTo (memory : List ℕ) (k : ℕ) (above : Above) (n : ℕ) : Type 0 where
-  pub each : (r : ℕ) → r < n → part (getD memory (metCell k r) 0) (getD (above .persons) r 0) ≡ true
+  pub each : (r : ℕ) → r < n → part (getD memory (blockingCell k r) 0) (getD (above .persons) r 0) ≡ true
 
 pub states-none : (memory : List ℕ) (k : ℕ) (s : StateSets) → StatesTo memory k s 0
 states-none memory k s = record { each = λ j l. absurd (omega arith) }
@@ -45,13 +45,13 @@ pub covered-none : (memory : List ℕ) (k : ℕ) (above : Above) → CoveredTo m
 covered-none memory k above = record { each = λ r l. absurd (omega arith) }
 
 pub covered-next : (memory : List ℕ) (k r : ℕ) (above : Above) → CoveredTo memory k above r
-    → bitAnd (getD memory (metCell k 0 + r) 0) (getD (above .persons) r 0) ≡ getD memory (metCell k 0 + r) 0
+    → bitAnd (getD memory (blockingCell k 0 + r) 0) (getD (above .persons) r 0) ≡ getD memory (blockingCell k 0 + r) 0
     → CoveredTo memory k above (r + 1)
 unfolding part
 covered-next memory k r above so-far same =
     record {
-      each = below-next (λ (i : ℕ). part (getD memory (metCell k i) 0) (getD (above .persons) i 0) ≡ true) r (so-far .each)
-          (rw (one-cell memory (metCell k r) (metCell k 0 + r) (omega arith)) (eq-eqb _ _ same));
+      each = below-next (λ (i : ℕ). part (getD memory (blockingCell k i) 0) (getD (above .persons) i 0) ≡ true) r (so-far .each)
+          (rw (one-cell memory (blockingCell k r) (blockingCell k 0 + r) (omega arith)) (eq-eqb _ _ same));
     }
 
 -- and so are the three first cells, which have been read as left, who and at
@@ -135,16 +135,16 @@ away : (k from count x : ℕ) → slotCells * k ≤ from → from + count ≤ sl
 away k from count x low high = ⊎-elim (λ l. inl (omega arith)) (λ l. inr (omega arith))
 
 -- the four stretches of a slot are written one after another
-module _ (k person place levels : ℕ) (s : StateSets) (met : Above) (found : Family) (old one two three new : List ℕ)
+module _ (k person place levels : ℕ) (s : StateSets) (blocking : Above) (found : Family) (old one two three new : List ℕ)
     (first : Written (slotCells * k) 3 (levels ∷ person ∷ place ∷ []) old one)
     (second : Written (stateCell k 0) mostAutomata (s .sets) one two)
-    (third : Written (metCell k 0) mostCredentials (met .persons) two three)
+    (third : Written (blockingCell k 0) mostCredentials (blocking .persons) two three)
     (fourth : Written (familyCell k 0) familyWords (found .words) three new) where
   -- what stands before a stretch is not written after it
   third-kept : (x : ℕ) → x < familyCell k 0 → getD new x 0 ≡ getD three x 0
   third-kept x l = fourth .others x (inl l)
 
-  second-kept : (x : ℕ) → x < metCell k 0 → getD new x 0 ≡ getD two x 0
+  second-kept : (x : ℕ) → x < blockingCell k 0 → getD new x 0 ≡ getD two x 0
   second-kept x l = third-kept x (omega arith) ∙ third .others x (inl l)
 
   first-kept : (x : ℕ) → x < stateCell k 0 → getD new x 0 ≡ getD one x 0
@@ -153,7 +153,7 @@ module _ (k person place levels : ℕ) (s : StateSets) (met : Above) (found : Fa
   first-is : (x y : ℕ) → x < 3 → y ≡ slotCells * k + x → getD new y 0 ≡ getD (levels ∷ person ∷ place ∷ []) x 0
   first-is x y few e = rw e (first-kept (slotCells * k + x) (omega arith) ∙ first .each x few)
 
-  pub kept : Kept k person place levels s met found old new
+  pub kept : Kept k person place levels s blocking found old new
   kept =
       record {
         room = fourth .room ∙ third .room ∙ second .room ∙ first .room;
@@ -164,14 +164,14 @@ module _ (k person place levels : ℕ) (s : StateSets) (met : Above) (found : Fa
           states-are = λ j l.
               one-cell new (stateCell k j) (stateCell k 0 + j) (omega arith)
               ∙ second-kept (stateCell k 0 + j) (omega arith) ∙ second .each j l;
-          met-is = λ r l.
-              one-cell new (metCell k r) (metCell k 0 + r) (omega arith)
-              ∙ third-kept (metCell k 0 + r) (omega arith) ∙ third .each r l;
+          blocking-is = λ r l.
+              one-cell new (blockingCell k r) (blockingCell k 0 + r) (omega arith)
+              ∙ third-kept (blockingCell k 0 + r) (omega arith) ∙ third .each r l;
           family-is = λ j l. one-cell new (familyCell k j) (familyCell k 0 + j) (omega arith) ∙ fourth .each j l;
         };
         others = λ x out.
             fourth .others x (away k (familyCell k 0) familyWords x (omega arith) (omega arith) out)
-            ∙ third .others x (away k (metCell k 0) mostCredentials x (omega arith) (omega arith) out)
+            ∙ third .others x (away k (blockingCell k 0) mostCredentials x (omega arith) (omega arith) out)
             ∙ second .others x (away k (stateCell k 0) mostAutomata x (omega arith) (omega arith) out)
             ∙ first .others x (away k (slotCells * k) 3 x (omega arith) (omega arith) out);
       }

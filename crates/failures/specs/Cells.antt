@@ -9,16 +9,16 @@ use Rattle.sets.specs.Sets.{part}
 use Rattle.table.specs.Limits.{mostAutomata, mostCredentials}
 use Rattle.automata.specs.declared.StateSets.{StateSets}
 use Rattle.members.specs.declared.above.Above.{Above}
-use Rattle.failures.specs.Failures.{metCell, stateCell}
+use Rattle.failures.specs.Failures.{blockingCell, stateCell}
 
 -- slot k has these state sets
 abbrev pub StatesAt : List ℕ → ℕ → StateSets → Type 0
 StatesAt memory k s = (j : ℕ) → j < mostAutomata → getD memory (stateCell k j) 0 ≡ getD (s .sets) j 0
 
--- each pair that stood in the way in slot k stands on this branch
+-- each blocking pair of slot k is on this branch
 abbrev pub CoveredAt : List ℕ → ℕ → Above → Type 0
 CoveredAt memory k above =
-    (r : ℕ) → r < mostCredentials → part (getD memory (metCell k r) 0) (getD (above .persons) r 0) ≡ true
+    (r : ℕ) → r < mostCredentials → part (getD memory (blockingCell k r) 0) (getD (above .persons) r 0) ≡ true
 
 -- from cell `from` on the first `count` values are written, and no other cell
 pub record Written (from count : ℕ) (values before after : List ℕ) : Type 0 where

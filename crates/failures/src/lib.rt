@@ -1,6 +1,7 @@
 // What a search remembers of the goals that it asked: how many levels were left, from which state sets they were asked, which
-// pairs of the branch stood in the way, and a family of sets of automata. Below every branch that has these pairs they can meet
-// no set that the family does not cover; where it has none, they fail. specs/Failures.antt says what the cells hold.
+// pairs of the branch stood in the way (the blocking pairs), and a family of sets of automata. Below every branch that has the
+// blocking pairs the goal can meet no set that the family does not cover; where the family has no set, it fails.
+// specs/Failures.antt says what the cells hold.
 use automata::StateSets;
 use families::Family;
 use members::Above;
@@ -11,8 +12,8 @@ ghost use mathlib.Core.Bool.{true};
 ghost use Prim.Native.Nat.{_<_, _≤_};
 ghost use Rattle.families.specs.Families.{familyWords};
 ghost use Rattle.table.specs.Limits.{mostAutomata, mostCredentials, mostDepth};
-ghost use Rattle.failures.specs.Failures.{FamilyAt, Joined, Kept, MetAt, Recalled, SlotIn, SlotsIn, Spared};
-ghost use Rattle.failures.specs.Failures.{familyCell, metCell, stateCell};
+ghost use Rattle.failures.specs.Failures.{BlockingAt, FamilyAt, Joined, Kept, Recalled, SlotIn, SlotsIn, Spared};
+ghost use Rattle.failures.specs.Failures.{blockingCell, familyCell, stateCell};
 ghost use Rattle.failures.specs.Cells.{CoveredAt, StatesAt, Written};
 
 // A memory is slots of forty cells each, at least one.
@@ -20,7 +21,7 @@ pub const SLOT_CELLS: usize = 40;
 
 const FIRST_STATE: usize = 4;
 
-const FIRST_MET: usize = 12;
+const FIRST_BLOCKING: usize = 12;
 
 const FIRST_WORD: usize = 32;
 
@@ -136,16 +137,16 @@ fn same_states(memory: &[u32], k: usize, states: StateSets) -> bool
     true
 }
 
-// Each pair that stood in the way in slot k stands on this branch.
+// Each blocking pair of slot k is on this branch.
 fn is_covered(memory: &[u32], k: usize, above: Above) -> bool
     requires { ⌜ SlotIn (now memory) k ⌝ }
     ensures { λ r. ⌜ (r ≡ true → CoveredAt (now (memory .entry)) k above) ⌝ }
 {
-    let from = SLOT_CELLS * k + FIRST_MET;
+    let from = SLOT_CELLS * k + FIRST_BLOCKING;
     let mut r = 0;
     while r < ROLES {
-        let met = memory[from + r];
-        if met & above.persons[r] != met {
+        let blocking = memory[from + r];
+        if blocking & above.persons[r] != blocking {
             return false;
         }
         r += 1;
@@ -153,12 +154,12 @@ fn is_covered(memory: &[u32], k: usize, above: Above) -> bool
     true
 }
 
-// The pairs that stood in the way, as slot k has them.
-pub fn met_at(memory: &[u32], k: usize) -> Above
+// The blocking pairs of slot k.
+pub fn blocking_at(memory: &[u32], k: usize) -> Above
     requires { ⌜ SlotIn (now memory) k ⌝ }
-    ensures { λ r. ⌜ MetAt (now (memory .entry)) k r ⌝ }
+    ensures { λ r. ⌜ BlockingAt (now (memory .entry)) k r ⌝ }
 {
-    let from = SLOT_CELLS * k + FIRST_MET;
+    let from = SLOT_CELLS * k + FIRST_BLOCKING;
     let mut persons = [0; ROLES];
     let mut r = 0;
     while r < ROLES {
@@ -183,7 +184,7 @@ pub fn family_at(memory: &[u32], k: usize) -> Family
     Family { words: words }
 }
 
-// Keeps in slot k that the goal can meet no set that the family does not cover.
+// Keeps in slot k that the goal can meet no set that the family does not cover, below every branch that has the blocking pairs.
 pub fn keep(
     memory: &mut [u32],
     k: usize,
@@ -191,19 +192,19 @@ pub fn keep(
     place: usize,
     levels: usize,
     states: StateSets,
-    met: Above,
+    blocking: Above,
     found: Family,
 )
     requires { ⌜ SlotIn (now memory) k ⌝ }
     requires { ⌜ (person < mostCredentials) × ((place < mostCredentials) × (levels ≤ mostDepth)) ⌝ }
-    ensures { λ r. ⌜ Kept k person place levels states met found (now (memory .entry)) (now (memory .exit)) ⌝ }
+    ensures { λ r. ⌜ Kept k person place levels states blocking found (now (memory .entry)) (now (memory .exit)) ⌝ }
 {
     let at = SLOT_CELLS * k;
     memory[at] = levels as u32;
     memory[at + 1] = person as u32;
     memory[at + 2] = place as u32;
     put_states(memory, k, states);
-    put_met(memory, k, met);
+    put_blocking(memory, k, blocking);
     put_family(memory, k, found);
 }
 
@@ -220,15 +221,15 @@ fn put_states(memory: &mut [u32], k: usize, states: StateSets)
     }
 }
 
-// Writes the pairs that stood in the way into slot k.
-fn put_met(memory: &mut [u32], k: usize, met: Above)
+// Writes the blocking pairs into slot k.
+fn put_blocking(memory: &mut [u32], k: usize, blocking: Above)
     requires { ⌜ SlotIn (now memory) k ⌝ }
-    ensures { λ r. ⌜ Written (metCell k 0) mostCredentials (met .persons) (now (memory .entry)) (now (memory .exit)) ⌝ }
+    ensures { λ r. ⌜ Written (blockingCell k 0) mostCredentials (blocking .persons) (now (memory .entry)) (now (memory .exit)) ⌝ }
 {
-    let from = SLOT_CELLS * k + FIRST_MET;
+    let from = SLOT_CELLS * k + FIRST_BLOCKING;
     let mut r = 0;
     while r < ROLES {
-        memory[from + r] = met.persons[r];
+        memory[from + r] = blocking.persons[r];
         r += 1;
     }
 }

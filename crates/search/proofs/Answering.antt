@@ -44,16 +44,16 @@ use Rattle.search.proofs.Judging.{and-left, and-right, judged-enough, j
 use Rattle.search.proofs.Judging.{judged-same, judged-trimmed, no-sets, none-covered, some-covered}
 
 -- where nothing is owed there is one set to be met, the empty one
-module _ {O : ℕ} (unowed : O ≡ 0) {test : ℕ → Above → Bool} {above : Above} {found : Family} {met : Above} where
-  pub zero-proved : FamilyOf (eqb 0) found → met ≡ nothingAbove → test 0 above ≡ true → Judged O test above found met
+module _ {O : ℕ} (unowed : O ≡ 0) {test : ℕ → Above → Bool} {above : Above} {found : Family} {blocking : Above} where
+  pub zero-proved : FamilyOf (eqb 0) found → blocking ≡ nothingAbove → test 0 above ≡ true → Judged O test above found blocking
   zero-proved only nothing is =
       judged-only 0 (omega arith) only (part-zero O) nothing is
       (λ X owed out b. absurd (false-true (sym out ∙ rw (part-none O X unowed owed) (part-refl 0))))
 
-  pub zero-failed : FamilyOf (λ X. false) found → Covers met above → Fails (test 0) met → Judged O test above found met
+  pub zero-failed : FamilyOf (λ X. false) found → Covers blocking above → Fails (test 0) blocking → Judged O test above found blocking
   zero-failed none covered fails = judged-failed none covered (λ X owed. rw (part-none O X unowed owed) fails)
 
-  pub zero-passes : Judged O test above found met → {told : Bool} → told ≡ not (anyBelow (inFamily found) allSets) → told ≡ false
+  pub zero-passes : Judged O test above found blocking → {told : Bool} → told ≡ not (anyBelow (inFamily found) allSets) → told ≡ false
       → test 0 above ≡ true
   zero-passes judged e some =
       let (X, few, is) = any-shows (inFamily found) allSets (has-some (anyBelow (inFamily found) allSets) (sym e ∙ some)) in
@@ -64,8 +64,8 @@ module _ {O : ℕ} (unowed : O ≡ 0) {test : ℕ → Above → Bool} {above : A
       has-some false h = absurd (false-true (sym h))
 
 -- nothing can be met: the goal fails
-pub none-fails : {O : ℕ} {test : ℕ → Above → Bool} {above : Above} {found : Family} {met : Above} → Judged O test above found met
-    → {told : Bool} → told ≡ not (anyBelow (inFamily found) allSets) → told ≡ true → Fails (test 0) met
+pub none-fails : {O : ℕ} {test : ℕ → Above → Bool} {above : Above} {found : Family} {blocking : Above} → Judged O test above found blocking
+    → {told : Bool} → told ≡ not (anyBelow (inFamily found) allSets) → told ≡ true → Fails (test 0) blocking
 none-fails {O} {found = found} judged {told} e none =
     judged .bounds 0 (part-zero O) (none-covered found (no-sets found told e none) 0)
 
@@ -79,10 +79,10 @@ module _ (t : List ℕ) (S A O levels : ℕ) (s : StateSets) where
   at-less b p Y Y′ less h = and-both (and-first _ _ h) (proves-less t S A O levels b s _ Y Y′ less (and-second _ _ h))
 
   -- one of them fails: they fail together
-  pub shared-failed : (pairs : List Pair) (k : ℕ) → k < length pairs → {above met : Above} {found : Family}
-      → FamilyOf (λ X. false) found → Covers met above
-      → Fails (goalTest t S A O levels s (getD pairs k (pair 0 0) .person) (getD pairs k (pair 0 0) .place) 0) met
-      → Judged O (sharedTest t S A O levels s pairs) above found met
+  pub shared-failed : (pairs : List Pair) (k : ℕ) → k < length pairs → {above blocking : Above} {found : Family}
+      → FamilyOf (λ X. false) found → Covers blocking above
+      → Fails (goalTest t S A O levels s (getD pairs k (pair 0 0) .person) (getD pairs k (pair 0 0) .place) 0) blocking
+      → Judged O (sharedTest t S A O levels s pairs) above found blocking
   shared-failed pairs k there none covered fails =
       judged-failed none covered (λ X owed b wide covers.
       refuted _ (λ h.
@@ -90,17 +90,17 @@ module _ (t : List ℕ) (S A O levels : ℕ) (s : StateSets) where
       ∙ shares-member (at b) O (pair 0 0) (λ p Y. at-less b p Y 0 (part-zero Y)) pairs X h k there)))
 
   -- no goal at all
-  pub shared-none : {above met : Above} {found : Family} → FamilyOf (eqb 0) found → met ≡ nothingAbove
-      → Judged O (sharedTest t S A O levels s []) above found met
+  pub shared-none : {above blocking : Above} {found : Family} → FamilyOf (eqb 0) found → blocking ≡ nothingAbove
+      → Judged O (sharedTest t S A O levels s []) above found blocking
   unfolding shares
   shared-none only nothing =
       judged-only 0 (omega arith) only (part-zero O) nothing refl
       (λ X owed out b. ne-eqb X 0 (λ e. false-true (sym out ∙ rw e (part-refl 0))))
 
   -- two goals where nothing is owed: the first is proved, so the second decides
-  pub second-decides : (unowed : O ≡ 0) (p q : Pair) {above met : Above} {found : Family} → at above p 0 ≡ true
-      → Judged O (goalTest t S A O levels s (q .person) (q .place)) above found met
-      → Judged O (sharedTest t S A O levels s (p ∷ q ∷ [])) above found met
+  pub second-decides : (unowed : O ≡ 0) (p q : Pair) {above blocking : Above} {found : Family} → at above p 0 ≡ true
+      → Judged O (goalTest t S A O levels s (q .person) (q .place)) above found blocking
+      → Judged O (sharedTest t S A O levels s (p ∷ q ∷ [])) above found blocking
   unfolding shares
   second-decides unowed p q {above} is judged =
       record {
@@ -122,10 +122,10 @@ module _ (t : List ℕ) (S A O levels : ℕ) (s : StateSets) where
       }
 
   -- one goal before those that share already
-  pub shared-next : (persons places : List ℕ) (len k : ℕ) → suc k ≤ len → {above met met′ both : Above} {f rest r trimmed : Family}
-      → FamilyOf (joins f rest) r → Trimmed r O trimmed → Joined met met′ both
-      → Judged O (goalTest t S A O levels s (getD persons k 0) (getD places k 0)) above f met
-      → Judged O (sharedTest t S A O levels s (pairsFrom persons places (len - suc k) (suc k))) above rest met′
+  pub shared-next : (persons places : List ℕ) (len k : ℕ) → suc k ≤ len → {above blocking blocking′ both : Above} {f rest r trimmed : Family}
+      → FamilyOf (joins f rest) r → Trimmed r O trimmed → Joined blocking blocking′ both
+      → Judged O (goalTest t S A O levels s (getD persons k 0) (getD places k 0)) above f blocking
+      → Judged O (sharedTest t S A O levels s (pairsFrom persons places (len - suc k) (suc k))) above rest blocking′
       → Judged O (sharedTest t S A O levels s (pairsFrom persons places (len - k) k)) above trimmed both
   shared-next persons places len k there {rest = rest} all trims joined one others =
       let next : k + 1 ≡ suc k = omega arith in
@@ -136,30 +136,30 @@ module _ (t : List ℕ) (S A O levels : ℕ) (s : StateSets) where
       (λ b Y Y′. at-less b _ Y Y′) all joined one others))
 
   -- what each of the goals can meet, with one more
-  pub later-next : (asked : Asked) (k : ℕ) → {above met met′ both : Above} (each : List Family) {f : Family} → k < length each
-      → Joined met met′ both → Covers met above → Covers met′ above
-      → Judged O (goalTest t S A O levels s (getD (asked .persons) k 0) (getD (asked .places) k 0)) above f met
-      → LaterJudged t S A O levels s asked (suc k) above each met′
+  pub later-next : (asked : Asked) (k : ℕ) → {above blocking blocking′ both : Above} (each : List Family) {f : Family} → k < length each
+      → Joined blocking blocking′ both → Covers blocking above → Covers blocking′ above
+      → Judged O (goalTest t S A O levels s (getD (asked .persons) k 0) (getD (asked .places) k 0)) above f blocking
+      → LaterJudged t S A O levels s asked (suc k) above each blocking′
       → LaterJudged t S A O levels s asked k above (set each k f) both
-  later-next asked k {above} {met} {met′} {both} each {f} room joined covered covered′ one later j from there = go (ℕ-discrete j k)
+  later-next asked k {above} {blocking} {blocking′} {both} each {f} room joined covered covered′ one later j from there = go (ℕ-discrete j k)
     where
       all-covered : Covers both above
-      all-covered = covered-both met met′ both joined above covered covered′
+      all-covered = covered-both blocking blocking′ both joined above covered covered′
 
       go : Dec (j ≡ k)
           → Judged O (goalTest t S A O levels s (getD (asked .persons) j 0) (getD (asked .places) j 0)) above
           (getD (set each k f) j noFamily) both
       go (yes same) =
           rw (same, getD-set-same each k f noFamily room)
-          (judged-more met both (λ test. fails-first met met′ both joined) all-covered one)
+          (judged-more blocking both (λ test. fails-first blocking blocking′ both joined) all-covered one)
       go (no other) =
           rw (getD-set-other each k j f noFamily other)
-          (judged-more met′ both (λ test. fails-second met met′ both joined) all-covered (later j (omega (arith, other)) there))
+          (judged-more blocking′ both (λ test. fails-second blocking blocking′ both joined) all-covered (later j (omega (arith, other)) there))
 
   -- a goal that is the same as a later one
-  pub same-judged : (asked : Asked) (k r : ℕ) → SameLater asked k r → (r ≡ k → ⊥) → {above met : Above} (each : List Family)
-      → LaterJudged t S A O levels s asked (suc k) above each met
-      → Judged O (goalTest t S A O levels s (getD (asked .persons) k 0) (getD (asked .places) k 0)) above (getD each r noFamily) met
+  pub same-judged : (asked : Asked) (k r : ℕ) → SameLater asked k r → (r ≡ k → ⊥) → {above blocking : Above} (each : List Family)
+      → LaterJudged t S A O levels s asked (suc k) above each blocking
+      → Judged O (goalTest t S A O levels s (getD (asked .persons) k 0) (getD (asked .places) k 0)) above (getD each r noFamily) blocking
   same-judged asked k r same other each later =
       rw (← same .person-is, ← same .place-is) (later r (omega (arith, same .later, other)) (same .there))
 
@@ -230,11 +230,11 @@ module _ (t : List ℕ) (A : ℕ) (s : StateSets) (X : ℕ) where
 
 -- a word ends: what it meets of the owed automata, where the credential names the principal and the imposed ones accept it
 pub word-judged : {t index arcs rows : List ℕ} {S levels last : ℕ} → Searched t index arcs rows S levels last → {person i : ℕ}
-    → Tried t person i → credential t (suc i) .kind ≡ 1 → (A O : ℕ) → O < allSets → (s : StateSets) {above met : Above} {found : Family}
+    → Tried t person i → credential t (suc i) .kind ≡ 1 → (A O : ℕ) → O < allSets → (s : StateSets) {above blocking : Above} {found : Family}
     → FamilyOf (λ X. eqb (getD index (askedCell i 0) 0) person and part A (acceptingSet t s)
-    and eqb (bitAnd O (acceptingSet t s)) X) found → met ≡ nothingAbove
-    → Judged O (ownTest t S A O levels s person i) above found met
-word-judged {t} {index} {S = S} {levels} searched {person} {i} tried kind A O few s {above} {met} {found} all nothing =
+    and eqb (bitAnd O (acceptingSet t s)) X) found → blocking ≡ nothingAbove
+    → Judged O (ownTest t S A O levels s person i) above found blocking
+word-judged {t} {index} {S = S} {levels} searched {person} {i} tried kind A O few s {above} {blocking} {found} all nothing =
     go (eqb (getD index (askedCell i 0) 0) person) refl (part A acc) refl
   where
     acc : ℕ
@@ -250,7 +250,7 @@ word-judged {t} {index} {S = S} {levels} searched {person} {i} tried kind A O fe
     is X b = cell-named searched tried A O b s X kind
 
     go : (a : Bool) → eqb (getD index (askedCell i 0) 0) person ≡ a → (b : Bool) → part A acc ≡ b
-        → Judged O own above found met
+        → Judged O own above found blocking
     go false e b f =
         judged-never (λ X less. all X less ∙ and-is-off _ e) nothing (λ X owed b′. is X b′ ∙ and-is-off _ e)
     go true e false f =
@@ -269,14 +269,14 @@ pub imposed-demanded : (A X k : ℕ) → inSet A k ≡ true → inSet (bitOr A X
 imposed-demanded A X k h = inSet-or A X k ∙ or-first _ h
 
 -- all that is owed bounds what can be met
-pub only-bounds : {O : ℕ} → O < allSets → (test : ℕ → Above → Bool) (found : Family) (met : Above) → FamilyOf (eqb O) found
-    → Bounds O test found met
-only-bounds {O} few test found met only X owed missed =
+pub only-bounds : {O : ℕ} → O < allSets → (test : ℕ → Above → Bool) (found : Family) (blocking : Above) → FamilyOf (eqb O) found
+    → Bounds O test found blocking
+only-bounds {O} few test found blocking only X owed missed =
     absurd (false-true (sym missed ∙ covers-only found O few only X ∙ owed))
 
 -- no middle is tried yet
-pub links-none : (t index : List ℕ) (S A O levels person i : ℕ) (s : StateSets) {above met : Above} {found : Family}
-    → FamilyOf (λ X. false) found → met ≡ nothingAbove → Judged O (linkedTest t index S A O levels s person i 0) above found met
+pub links-none : (t index : List ℕ) (S A O levels person i : ℕ) (s : StateSets) {above blocking : Above} {found : Family}
+    → FamilyOf (λ X. false) found → blocking ≡ nothingAbove → Judged O (linkedTest t index S A O levels s person i 0) above found blocking
 unfolding anyBelow
 links-none t index S A O levels person i s none nothing = judged-never none nothing (λ X owed b. refl)
 
@@ -290,32 +290,32 @@ two-or-four kind three = ⊎-elim (λ two. omega arith) (λ four. omega arith) k
 -- what some middle proves, credential i + 1 of kind 3 does
 module _ {t index arcs rows : List ℕ} {S levels last : ℕ} (searched : Searched t index arcs rows S levels last) {person i : ℕ}
     (tried : Tried t person i) (kind : credential t (suc i) .kind ≡ 3) (A O : ℕ) (s : StateSets) where
-  pub linked-all : (j : ℕ) → j ≡ credentials t → {above met : Above} {found : Family}
-      → Judged O (linkedTest t index S A O levels s person i j) above found met
-      → Judged O (ownTest t S A O levels s person i) above found met
+  pub linked-all : (j : ℕ) → j ≡ credentials t → {above blocking : Above} {found : Family}
+      → Judged O (linkedTest t index S A O levels s person i j) above found blocking
+      → Judged O (ownTest t S A O levels s person i) above found blocking
   linked-all j all judged =
       judged-same (λ X b. sym (cell-middles searched tried A O b s X kind)) (rw all at judged)
 
   -- all that is owed is found
-  pub linked-enough : O < allSets → {above met : Above} {found : Family}
+  pub linked-enough : O < allSets → {above blocking : Above} {found : Family}
       → Finds O (linkedTest t index S A O levels s person i (credentials t)) above found → {has : Bool} → has ≡ inFamily found O
-      → has ≡ true → met ≡ nothingAbove → Judged O (ownTest t S A O levels s person i) above found met
+      → has ≡ true → blocking ≡ nothingAbove → Judged O (ownTest t S A O levels s person i) above found blocking
   linked-enough few finds e on nothing =
       linked-all (credentials t) refl (judged-enough O few finds nothing (sym e ∙ on)
       (λ X owed more b. absurd (false-true (sym more ∙ owed))))
 
 -- the goals behind the last one are none
-pub shared-end : (t : List ℕ) (S A O levels : ℕ) (s : StateSets) (persons places : List ℕ) (len : ℕ) {above met : Above} {found : Family}
-    → FamilyOf (eqb 0) found → met ≡ nothingAbove
-    → Judged O (sharedTest t S A O levels s (pairsFrom persons places (len - len) len)) above found met
+pub shared-end : (t : List ℕ) (S A O levels : ℕ) (s : StateSets) (persons places : List ℕ) (len : ℕ) {above blocking : Above} {found : Family}
+    → FamilyOf (eqb 0) found → blocking ≡ nothingAbove
+    → Judged O (sharedTest t S A O levels s (pairsFrom persons places (len - len) len)) above found blocking
 shared-end t S A O levels s persons places len only nothing =
     rw (asked-end persons places len len (omega arith)) (shared-none t S A O levels s only nothing)
 
 -- goal k of those that are asked fails: they fail together
 pub asked-failed : (t : List ℕ) (S A O levels : ℕ) (s : StateSets) (asked : Asked) (k : ℕ) → k < asked .len
-    → {above met : Above} {found : Family} → FamilyOf (λ X. false) found → Covers met above
-    → Fails (goalTest t S A O levels s (getD (asked .persons) k 0) (getD (asked .places) k 0) 0) met
-    → Judged O (sharedTest t S A O levels s (askedPairs asked)) above found met
+    → {above blocking : Above} {found : Family} → FamilyOf (λ X. false) found → Covers blocking above
+    → Fails (goalTest t S A O levels s (getD (asked .persons) k 0) (getD (asked .places) k 0) 0) blocking
+    → Judged O (sharedTest t S A O levels s (askedPairs asked)) above found blocking
 unfolding askedPairs
 asked-failed t S A O levels s asked k l none covered fails =
     let here = pair-at (asked .persons) (asked .places) (asked .len) 0 k l in
@@ -324,9 +324,9 @@ asked-failed t S A O levels s asked k l none covered fails =
 
 -- all goals that are asked
 pub asked-all : (t : List ℕ) (S A O levels : ℕ) (s : StateSets) (asked : Asked) (k : ℕ) → k ≡ 0
-    → {above met : Above} {found : Family}
-    → Judged O (sharedTest t S A O levels s (pairsFrom (asked .persons) (asked .places) (asked .len - k) k)) above found met
-    → Judged O (sharedTest t S A O levels s (askedPairs asked)) above found met
+    → {above blocking : Above} {found : Family}
+    → Judged O (sharedTest t S A O levels s (pairsFrom (asked .persons) (asked .places) (asked .len - k) k)) above found blocking
+    → Judged O (sharedTest t S A O levels s (askedPairs asked)) above found blocking
 unfolding askedPairs
 asked-all t S A O levels s asked k first judged =
     let whole : asked .len - 0 ≡ asked .len = omega arith in rw (first, whole) at judged

@@ -54,18 +54,18 @@ module _ {t index : List ℕ} (indexed : Indexed t index) {person place : ℕ} (
   abbrev triedOf : ℕ → ℕ → Above → Bool
   triedOf = triedTest t S A O levels s person place
 
-  pub tried-none : {above met : Above} {found : Family} → FamilyOf (λ X. false) found → met ≡ nothingAbove
-      → Judged O (triedOf 0) above found met
+  pub tried-none : {above blocking : Above} {found : Family} → FamilyOf (λ X. false) found → blocking ≡ nothingAbove
+      → Judged O (triedOf 0) above found blocking
   unfolding anyBelow
   tried-none none nothing = judged-never none nothing (λ X owed b. refl)
 
-  pub tried-all : (i : ℕ) → i ≡ credentials t → {above met : Above} {found : Family} → Judged O (triedOf i) above found met
-      → Judged O (anyTest t S A O levels s person place) above found met
+  pub tried-all : (i : ℕ) → i ≡ credentials t → {above blocking : Above} {found : Family} → Judged O (triedOf i) above found blocking
+      → Judged O (anyTest t S A O levels s person place) above found blocking
   tried-all i e judged = rw e at judged
 
   module _ (i : ℕ) (l : i < credentials t) {may : Bool} (told : may ≡ usable index S place i) where
-    pub tried-unused : may ≡ false → {above met : Above} {found : Family} → Judged O (triedOf i) above found met
-        → Judged O (triedOf (i + 1)) above found met
+    pub tried-unused : may ≡ false → {above blocking : Above} {found : Family} → Judged O (triedOf i) above found blocking
+        → Judged O (triedOf (i + 1)) above found blocking
     tried-unused off =
         judged-same (λ X b. sym (next-unused indexed stands there S i l (λ goals. shares (proves t S A O levels b s) O goals X)
         (ends t A s X) told off))
@@ -76,8 +76,8 @@ module _ {t index : List ℕ} (indexed : Indexed t index) {person place : ℕ} (
         next-tried indexed stands there S i l (λ goals. shares (proves t S A O levels b s) O goals X) (ends t A s X) told on
 
     module _ (on : may ≡ true) {above : Above} {f g r : Family} (all : FamilyOf (λ X. inFamily f X or inFamily g X) r) where
-      pub tried-next : {met met′ both : Above} → Joined met met′ both → Judged O (triedOf i) above f met
-          → Judged O (ownTest t S A O levels s person i) above g met′ → Judged O (triedOf (i + 1)) above r both
+      pub tried-next : {blocking blocking′ both : Above} → Joined blocking blocking′ both → Judged O (triedOf i) above f blocking
+          → Judged O (ownTest t S A O levels s person i) above g blocking′ → Judged O (triedOf (i + 1)) above r both
       tried-next joined = judged-or (one-more on) all joined
 
       -- what is found so far some credential proves
@@ -92,17 +92,17 @@ module _ {t index : List ℕ} (indexed : Indexed t index) {person place : ℕ} (
 -- all that can be met at best is found, or all that is wanted
 pub sought-enough : (t : List ℕ) (S A O : ℕ) → O < allSets → (levels person place : ℕ) (s : StateSets) {x : Moved}
     → x ≡ steppedOn t (bitOr A O) (credential t (suc place) .role) s → {most : ℕ} → Left O (x .dead) most
-    → {above met : Above} {wanted found : Family} {enough : Bool} → enough ≡ (inFamily found most or isPart wanted found)
-    → enough ≡ true → Finds O (anyTest t S A O levels (x .states) person place) above found → met ≡ nothingAbove
-    → Sought O (anyTest t S A O levels (x .states) person place) above wanted found met
-sought-enough t S A O few levels person place s {x} told {most} left {above} {met} {wanted} {found} e on finds nothing =
+    → {above blocking : Above} {wanted found : Family} {enough : Bool} → enough ≡ (inFamily found most or isPart wanted found)
+    → enough ≡ true → Finds O (anyTest t S A O levels (x .states) person place) above found → blocking ≡ nothingAbove
+    → Sought O (anyTest t S A O levels (x .states) person place) above wanted found blocking
+sought-enough t S A O few levels person place s {x} told {most} left {above} {blocking} {wanted} {found} e on finds nothing =
     record {
       finds = finds;
       covered = rw nothing (covers-none above);
       bounds = λ less. best less .bounds;
     }
   where
-    best : isPart wanted found ≡ false → Judged O (anyTest t S A O levels (x .states) person place) above found met
+    best : isPart wanted found ≡ false → Judged O (anyTest t S A O levels (x .states) person place) above found blocking
     best less =
         judged-enough most (left .few) finds nothing (at-best (inFamily found most) (sym e ∙ on))
         (λ X owed more b.
@@ -115,15 +115,15 @@ sought-enough t S A O few levels person place s {x} told {most} left {above} {me
         at-best has h = or-either (λ is. is) (λ all. absurd (false-true (sym less ∙ all))) h
 
 -- an answer has more than what is wanted
-pub sought-judged : {O : ℕ} {test : ℕ → Above → Bool} {above met : Above} {wanted found : Family} → Judged O test above found met
-    → Sought O test above wanted found met
+pub sought-judged : {O : ℕ} {test : ℕ → Above → Bool} {above blocking : Above} {wanted found : Family} → Judged O test above found blocking
+    → Sought O test above wanted found blocking
 sought-judged judged = record { finds = judged .finds; covered = judged .covered; bounds = λ less. judged .bounds }
 
 -- the state sets that the code holds are those behind the goal's role
-pub sought-moved : (t : List ℕ) (S A O levels person place : ℕ) (s : StateSets) {x : Moved} {above met : Above} {wanted found : Family}
+pub sought-moved : (t : List ℕ) (S A O levels person place : ℕ) (s : StateSets) {x : Moved} {above blocking : Above} {wanted found : Family}
     → x ≡ steppedOn t (bitOr A O) (credential t (suc place) .role) s
-    → Sought O (anyTest t S A O levels (x .states) person place) above wanted found met
-    → Sought O (anyTest t S A O levels (stepped t (bitOr A O) (credential t (suc place) .role) s) person place) above wanted found met
+    → Sought O (anyTest t S A O levels (x .states) person place) above wanted found blocking
+    → Sought O (anyTest t S A O levels (stepped t (bitOr A O) (credential t (suc place) .role) s) person place) above wanted found blocking
 sought-moved t S A O levels person place s told sought = rw (steps t (bitOr A O) _ s told) at sought
 
 -- levels are left, the role is defined, and the rows have the principal
@@ -181,8 +181,8 @@ module _ (t : List ℕ) (S A O levels : ℕ) (s : StateSets) (person place : ℕ
     abbrev below : ℕ → Above → Bool
     below = anyTest t S A O (levels - 1) (stepped t (bitOr A O) (credential t (suc place) .role) s) person place
 
-    module _ {above met : Above} {wanted found : Family} (new : pairAbove above person place ≡ false)
-        (sought : Sought O below (withPair above person place) wanted found met) where
+    module _ {above blocking : Above} {wanted found : Family} (new : pairAbove above person place ≡ false)
+        (sought : Sought O below (withPair above person place) wanted found blocking) where
       finds-goal : Finds O (goalTest t S A O levels s person place) above found
       finds-goal =
           record {
@@ -206,14 +206,14 @@ module _ (t : List ℕ) (S A O levels : ℕ) (s : StateSets) (person place : ℕ
           }
 
       -- or less
-      pub goal-less : Wide above → (rest : Above) → Spared met person place rest → {told : Bool} → told ≡ isPart wanted found
+      pub goal-less : Wide above → (rest : Above) → Spared blocking person place rest → {told : Bool} → told ≡ isPart wanted found
           → told ≡ false → Judged O (goalTest t S A O levels s person place) above found rest
       goal-less wide rest spared e off =
           record {
             finds = finds-goal;
-            covered = covered-above person place met rest spared above wide (sought .covered);
+            covered = covered-above person place blocking rest spared above wide (sought .covered);
             bounds = λ X owed missed.
-                fails-above person place met rest spared
+                fails-above person place blocking rest spared
                 (λ b none. sym (place-step t S A O levels b s person place X stands (may .there) (may .left)) ∙ and-none _ none)
                 (sought .bounds (sym e ∙ off) X owed missed);
           }
@@ -225,15 +225,15 @@ linkedTest t index S A O levels s person i j = λ X b.
 
 module _ {t index arcs rows : List ℕ} {S levels last person i row j first second : ℕ} {told : Bool}
     (middle : Middle t index arcs rows S levels last person i row j first second told) (A O : ℕ) (s : StateSets) where
-  pub link-skipped : told ≡ false → {above met : Above} {found : Family}
-      → Judged O (linkedTest t index S A O levels s person i j) above found met
-      → Judged O (linkedTest t index S A O levels s person i (j + 1)) above found met
+  pub link-skipped : told ≡ false → {above blocking : Above} {found : Family}
+      → Judged O (linkedTest t index S A O levels s person i j) above found blocking
+      → Judged O (linkedTest t index S A O levels s person i (j + 1)) above found blocking
   link-skipped off = judged-same (λ X b. sym (linked-skipped middle A O b s X off))
 
   module _ (on : told ≡ true) {above : Above} {f g r : Family} (all : FamilyOf (λ X. inFamily f X or inFamily g X) r) where
-    pub link-next : {met met′ both : Above} → Joined met met′ both
-        → Judged O (linkedTest t index S A O levels s person i j) above f met
-        → Judged O (sharedTest t S A O levels s (pair j first ∷ pair person second ∷ [])) above g met′
+    pub link-next : {blocking blocking′ both : Above} → Joined blocking blocking′ both
+        → Judged O (linkedTest t index S A O levels s person i j) above f blocking
+        → Judged O (sharedTest t S A O levels s (pair j first ∷ pair person second ∷ [])) above g blocking′
         → Judged O (linkedTest t index S A O levels s person i (j + 1)) above r both
     link-next joined = judged-or (λ X b. linked-tried middle A O b s X on) all joined
 

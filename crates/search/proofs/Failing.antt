@@ -23,7 +23,7 @@ use Rattle.families.specs.Families.{allSets, covers}
 use Rattle.families.specs.declared.Family.{Family}
 use Rattle.families.proofs.Words.{same-sets}
 use Rattle.families.proofs.Covering.{covers-more}
-use Rattle.failures.specs.Failures.{FamilyAt, Holds, Joined, Kept, MetAt, Recalled, SlotIn, Spared, slotCell, slotCells}
+use Rattle.failures.specs.Failures.{FamilyAt, Holds, Joined, Kept, BlockingAt, Recalled, SlotIn, Spared, slotCell, slotCells}
 use Rattle.members.specs.Members.{Blank}
 use Rattle.search.specs.Search.{goalAt, provesAt}
 use Rattle.search.specs.Failing.{Bounds, Covers, Failed, Fails, Remembered, Wide}
@@ -38,12 +38,12 @@ pub failed-always : {test : Above → Bool} (above : Above) → ((b : Above) →
 failed-always above never = record { covered = covers-none above; fails = λ b wide covers. never b }
 
 -- a failure is one of the branch itself
-pub failed-here : {test : Above → Bool} {above met : Above} → Wide above → Failed test above met → test above ≡ false
+pub failed-here : {test : Above → Bool} {above blocking : Above} → Wide above → Failed test above blocking → test above ≡ false
 failed-here {above = above} wide failed = failed .fails above wide (failed .covered)
 
 -- where a test fails whenever another does
-pub failed-so : {test test′ : Above → Bool} {above met : Above} → ((b : Above) → test b ≡ false → test′ b ≡ false)
-    → Failed test above met → Failed test′ above met
+pub failed-so : {test test′ : Above → Bool} {above blocking : Above} → ((b : Above) → test b ≡ false → test′ b ≡ false)
+    → Failed test above blocking → Failed test′ above blocking
 failed-so so failed =
     record { covered = failed .covered; fails = λ b wide covers. so b (failed .fails b wide covers) }
 
@@ -69,18 +69,18 @@ module _ (person place : ℕ) (p r : ℕ) where
   same = eqb person p and eqb place r
 
 -- a goal that failed once it was on the branch: it does not stand in its own way
-module _ (person place : ℕ) (met rest : Above) (spared : Spared met person place rest) where
-  kept : (p r : ℕ) → r < mostCredentials → pairAbove met p r ≡ true → same person place p r ≡ false → pairAbove rest p r ≡ true
+module _ (person place : ℕ) (blocking rest : Above) (spared : Spared blocking person place rest) where
+  kept : (p r : ℕ) → r < mostCredentials → pairAbove blocking p r ≡ true → same person place p r ≡ false → pairAbove rest p r ≡ true
   kept p r l on other = spared p r l ∙ and-both on (ap not other)
 
   -- what is met below it is met above it, but for itself
-  pub covered-above : (above : Above) → Wide above → Covers met (withPair above person place) → Covers rest above
+  pub covered-above : (above : Above) → Wide above → Covers blocking (withPair above person place) → Covers rest above
   covered-above above wide covers p r l on =
       let both = sym (spared p r l) ∙ on in
       let deeper = sym (with-pair above person place p r (omega (arith, wide))) ∙ covers p r l (and-first _ _ both) in
       or-either (λ here. here) (λ itself. absurd (false-true (sym (ap not itself) ∙ and-second _ _ both))) deeper
 
-  covers-below : (above : Above) → Wide above → Covers rest above → Covers met (withPair above person place)
+  covers-below : (above : Above) → Wide above → Covers rest above → Covers blocking (withPair above person place)
   covers-below above wide covers p r l on =
       with-pair above person place p r (omega (arith, wide)) ∙ go (same person place p r) refl
     where
@@ -89,7 +89,7 @@ module _ (person place : ℕ) (met rest : Above) (spared : Spared met person pla
       go false e = or-first false (covers p r l (kept p r l on e))
 
   pub fails-above : {below test : Above → Bool} → ((b : Above) → below (withPair b person place) ≡ false → test b ≡ false)
-      → Fails below met → Fails test rest
+      → Fails below blocking → Fails test rest
   fails-above so fails b wide covers =
       so b (fails (withPair b person place) (pair-room b person place ∙ wide) (covers-below b wide covers))
 
@@ -110,13 +110,13 @@ failed-again person place above inside again on =
     here = with-pair nothingAbove person place person place (omega (arith, nothing-room))
 
     itself : (p r : ℕ) → r < mostCredentials → pairAbove (withPair nothingAbove person place) p r ≡ true → pairAbove above p r ≡ true
-    itself p r l met =
+    itself p r l blocking =
         or-either (λ none. absurd (false-true (sym (nothing-pair p r) ∙ none)))
         (λ pair.
         let who = eqb-true person p (and-first _ _ pair) in
         let where-to = eqb-true place r (and-second _ _ pair) in
         rw (who, where-to) at on)
-        (sym (with-pair nothingAbove person place p r (omega (arith, nothing-room))) ∙ met)
+        (sym (with-pair nothingAbove person place p r (omega (arith, nothing-room))) ∙ blocking)
 
 -- what a goal is asked to meet, with so many levels left
 module _ (t : List ℕ) (S A O : ℕ) where
@@ -139,51 +139,51 @@ module _ (t : List ℕ) (S A O : ℕ) where
       record {
         few = few;
         room = room;
-        each = λ k person place levels s met found l eight holds X owed missed above wide covers.
+        each = λ k person place levels s blocking found l eight holds X owed missed above wide covers.
             sym (level-none t S A O levels above s person place X (sym (holds .levels-is) ∙ blank (slotCell k 0)));
       }
 
   -- a slot that speaks of the goal tells what it can meet here
   module _ {memory : List ℕ} {k person place levels : ℕ} {s : StateSets} {above : Above} (remembered : Remembered t S A O memory)
-      (recalled : Recalled memory k person place levels s above) (met : Above) (met-at : MetAt memory k met) where
-    pub recalled-covered : Covers met above
+      (recalled : Recalled memory k person place levels s above) (blocking : Above) (blocking-at : BlockingAt memory k blocking) where
+    pub recalled-covered : Covers blocking above
     unfolding pairAbove
-    recalled-covered p r few on = part-member _ _ p (recalled .covered r few) (rw (met-at r few) at on)
+    recalled-covered p r few on = part-member _ _ p (recalled .covered r few) (rw (blocking-at r few) at on)
 
     pub recalled-bounds : SlotIn memory k → length (s .sets) ≡ mostAutomata → (found : Family) → FamilyAt memory k found
-        → Bounds O (asks levels s person place) found met
+        → Bounds O (asks levels s person place) found blocking
     recalled-bounds l eight found family-at X owed missed b wide covers =
         fewer-fail levels _ (recalled .enough) b s person place X
-        (remembered .each k person place _ s met found l eight holds X owed missed b wide covers)
+        (remembered .each k person place _ s blocking found l eight holds X owed missed b wide covers)
       where
-        holds : Holds memory k person place (getD memory (slotCell k 0) 0) s met found
+        holds : Holds memory k person place (getD memory (slotCell k 0) 0) s blocking found
         holds =
             record {
               levels-is = refl;
               person-is = recalled .person-is;
               place-is = recalled .place-is;
               states-are = recalled .states-are;
-              met-is = λ r few. sym (met-at r few);
+              blocking-is = λ r few. sym (blocking-at r few);
               family-is = λ j few. sym (family-at j few);
             }
 
   -- a slot is written with a goal and what it can meet
-  module _ {before after : List ℕ} {k person place levels : ℕ} {s : StateSets} {met : Above} {found : Family}
-      (remembered : Remembered t S A O before) (kept-at : Kept k person place levels s met found before after)
-      (eight : length (s .sets) ≡ mostAutomata) (bounds : Bounds O (asks levels s person place) found met) where
+  module _ {before after : List ℕ} {k person place levels : ℕ} {s : StateSets} {blocking : Above} {found : Family}
+      (remembered : Remembered t S A O before) (kept-at : Kept k person place levels s blocking found before after)
+      (eight : length (s .sets) ≡ mostAutomata) (bounds : Bounds O (asks levels s person place) found blocking) where
     -- the slot itself
-    module _ (person′ place′ levels′ : ℕ) (s′ : StateSets) (met′ : Above) (found′ : Family)
-        (eight′ : length (s′ .sets) ≡ mostAutomata) (holds : Holds after k person′ place′ levels′ s′ met′ found′) where
+    module _ (person′ place′ levels′ : ℕ) (s′ : StateSets) (blocking′ : Above) (found′ : Family)
+        (eight′ : length (s′ .sets) ≡ mostAutomata) (holds : Holds after k person′ place′ levels′ s′ blocking′ found′) where
       same-states : s ≡ s′
       same-states =
           ap (λ x. record { sets = x }) (ext-getD 0 (s .sets) (s′ .sets) (eight ∙ sym eight′) (λ j l.
           let few : j < mostAutomata = omega (arith, eight) in
           sym (kept-at .holds .states-are j few) ∙ holds .states-are j few))
 
-      same-met : (b : Above) → Covers met′ b → Covers met b
+      same-blocking : (b : Above) → Covers blocking′ b → Covers blocking b
       unfolding pairAbove
-      same-met b covers p r l on =
-          covers p r l (rw (sym (kept-at .holds .met-is r l) ∙ holds .met-is r l) at on)
+      same-blocking b covers p r l on =
+          covers p r l (rw (sym (kept-at .holds .blocking-is r l) ∙ holds .blocking-is r l) at on)
 
       -- what the slot's family does not cover, the family does not
       same-missed : (X : ℕ) → covers found′ X ≡ false → covers found X ≡ false
@@ -193,7 +193,7 @@ module _ (t : List ℕ) (S A O : ℕ) where
           ∙ covers-more found found′
           (λ Y few is. same-sets found′ found (λ j l. sym (holds .family-is j l) ∙ kept-at .holds .family-is j l) Y few ∙ is) X on))
 
-      here-bounds : Bounds O (asks levels′ s′ person′ place′) found′ met′
+      here-bounds : Bounds O (asks levels′ s′ person′ place′) found′ blocking′
       here-bounds X owed missed b wide covers =
           rw (
             ← same-states,
@@ -201,18 +201,18 @@ module _ (t : List ℕ) (S A O : ℕ) where
             ← (sym (kept-at .holds .person-is) ∙ holds .person-is),
             ← (sym (kept-at .holds .place-is) ∙ holds .place-is),
           )
-          (bounds X owed (same-missed X missed) b wide (same-met b covers))
+          (bounds X owed (same-missed X missed) b wide (same-blocking b covers))
 
     -- another slot
-    other-slot : (k′ person′ place′ levels′ : ℕ) (s′ : StateSets) (met′ : Above) (found′ : Family) → (k′ ≡ k → ⊥)
-        → Holds after k′ person′ place′ levels′ s′ met′ found′ → Holds before k′ person′ place′ levels′ s′ met′ found′
-    other-slot k′ person′ place′ levels′ s′ met′ found′ other holds =
+    other-slot : (k′ person′ place′ levels′ : ℕ) (s′ : StateSets) (blocking′ : Above) (found′ : Family) → (k′ ≡ k → ⊥)
+        → Holds after k′ person′ place′ levels′ s′ blocking′ found′ → Holds before k′ person′ place′ levels′ s′ blocking′ found′
+    other-slot k′ person′ place′ levels′ s′ blocking′ found′ other holds =
         record {
           levels-is = sym (cell 0 (omega arith)) ∙ holds .levels-is;
           person-is = sym (cell 1 (omega arith)) ∙ holds .person-is;
           place-is = sym (cell 2 (omega arith)) ∙ holds .place-is;
           states-are = λ j l. sym (cell (4 + j) (omega arith)) ∙ holds .states-are j l;
-          met-is = λ r l. sym (cell (12 + r) (omega arith)) ∙ holds .met-is r l;
+          blocking-is = λ r l. sym (cell (12 + r) (omega arith)) ∙ holds .blocking-is r l;
           family-is = λ j l. sym (cell (32 + j) (omega arith)) ∙ holds .family-is j l;
         }
       where
@@ -227,13 +227,13 @@ module _ (t : List ℕ) (S A O : ℕ) where
     pub remembered-more : Remembered t S A O after
     remembered-more = record { few = remembered .few; room = rw (kept-at .room) (remembered .room); each = each }
       where
-        each : (k′ person′ place′ levels′ : ℕ) (s′ : StateSets) (met′ : Above) (found′ : Family) → SlotIn after k′
-            → length (s′ .sets) ≡ mostAutomata → Holds after k′ person′ place′ levels′ s′ met′ found′
-            → Bounds O (asks levels′ s′ person′ place′) found′ met′
-        each k′ person′ place′ levels′ s′ met′ found′ l eight′ holds = go (ℕ-discrete k′ k)
+        each : (k′ person′ place′ levels′ : ℕ) (s′ : StateSets) (blocking′ : Above) (found′ : Family) → SlotIn after k′
+            → length (s′ .sets) ≡ mostAutomata → Holds after k′ person′ place′ levels′ s′ blocking′ found′
+            → Bounds O (asks levels′ s′ person′ place′) found′ blocking′
+        each k′ person′ place′ levels′ s′ blocking′ found′ l eight′ holds = go (ℕ-discrete k′ k)
           where
-            go : Dec (k′ ≡ k) → Bounds O (asks levels′ s′ person′ place′) found′ met′
-            go (yes e) = here-bounds person′ place′ levels′ s′ met′ found′ eight′ (rw e at holds)
+            go : Dec (k′ ≡ k) → Bounds O (asks levels′ s′ person′ place′) found′ blocking′
+            go (yes e) = here-bounds person′ place′ levels′ s′ blocking′ found′ eight′ (rw e at holds)
             go (no other) =
-                remembered .each k′ person′ place′ levels′ s′ met′ found′ (rw (kept-at .room) at l) eight′
-                (other-slot k′ person′ place′ levels′ s′ met′ found′ other holds)
+                remembered .each k′ person′ place′ levels′ s′ blocking′ found′ (rw (kept-at .room) at l) eight′
+                (other-slot k′ person′ place′ levels′ s′ blocking′ found′ other holds)

@@ -55,8 +55,8 @@ no-sets f r told none X few = any-not (inFamily f) allSets X (not-true _ (sym to
 
 module _ {O : ℕ} {test : ℕ → Above → Bool} {above : Above} where
   -- nothing can be met
-  pub judged-failed : {found : Family} {met : Above} → FamilyOf (λ X. false) found → Covers met above
-      → ((X : ℕ) → part X O ≡ true → Fails (test X) met) → Judged O test above found met
+  pub judged-failed : {found : Family} {blocking : Above} → FamilyOf (λ X. false) found → Covers blocking above
+      → ((X : ℕ) → part X O ≡ true → Fails (test X) blocking) → Judged O test above found blocking
   judged-failed {found} none covered fails =
       record {
         finds = record { inside = inside-none found O none; passes = λ X few is. absurd (false-true (sym (none X few) ∙ is)) };
@@ -65,15 +65,15 @@ module _ {O : ℕ} {test : ℕ → Above → Bool} {above : Above} where
       }
 
   -- below no branch
-  pub judged-never : {found : Family} {met : Above} → FamilyOf (λ X. false) found → met ≡ nothingAbove
-      → ((X : ℕ) → part X O ≡ true → (b : Above) → test X b ≡ false) → Judged O test above found met
+  pub judged-never : {found : Family} {blocking : Above} → FamilyOf (λ X. false) found → blocking ≡ nothingAbove
+      → ((X : ℕ) → part X O ≡ true → (b : Above) → test X b ≡ false) → Judged O test above found blocking
   judged-never none nothing never =
       judged-failed none (rw nothing (covers-none above)) (λ X owed b wide covers. never X owed b)
 
   -- this set can be met, and no other that is not a part of it, below every branch
-  pub judged-only : {found : Family} {met : Above} (M : ℕ) → M < allSets → FamilyOf (eqb M) found → part M O ≡ true
-      → met ≡ nothingAbove → test M above ≡ true
-      → ((X : ℕ) → part X O ≡ true → part X M ≡ false → (b : Above) → test X b ≡ false) → Judged O test above found met
+  pub judged-only : {found : Family} {blocking : Above} (M : ℕ) → M < allSets → FamilyOf (eqb M) found → part M O ≡ true
+      → blocking ≡ nothingAbove → test M above ≡ true
+      → ((X : ℕ) → part X O ≡ true → part X M ≡ false → (b : Above) → test X b ≡ false) → Judged O test above found blocking
   judged-only {found} M few only owed nothing is others =
       record {
         finds =
@@ -86,9 +86,9 @@ module _ {O : ℕ} {test : ℕ → Above → Bool} {above : Above} where
       }
 
   -- all that can be met at best is found
-  pub judged-enough : {found : Family} {met : Above} (most : ℕ) → most < allSets → Finds O test above found
-      → met ≡ nothingAbove → inFamily found most ≡ true
-      → ((X : ℕ) → part X O ≡ true → part X most ≡ false → (b : Above) → test X b ≡ false) → Judged O test above found met
+  pub judged-enough : {found : Family} {blocking : Above} (most : ℕ) → most < allSets → Finds O test above found
+      → blocking ≡ nothingAbove → inFamily found most ≡ true
+      → ((X : ℕ) → part X O ≡ true → part X most ≡ false → (b : Above) → test X b ≡ false) → Judged O test above found blocking
   judged-enough {found} most few finds nothing has others =
       record {
         finds = finds;
@@ -98,7 +98,7 @@ module _ {O : ℕ} {test : ℕ → Above → Bool} {above : Above} where
       }
 
   -- the answer of one branch
-  pub judged-told : {found : Family} {met : Above} → Wide above → Judged O test above found met → Told O test above found
+  pub judged-told : {found : Family} {blocking : Above} → Wide above → Judged O test above found blocking → Told O test above found
   judged-told {found} wide judged =
       record {
         finds = judged .finds;
@@ -111,14 +111,14 @@ module _ {O : ℕ} {test : ℕ → Above → Bool} {above : Above} where
       not-missed false never = absurd (never refl)
 
   -- nothing else is found where more pairs stood in the way
-  pub judged-more : {found : Family} (met more : Above) → ((test : Above → Bool) → Fails test met → Fails test more)
-      → Covers more above → Judged O test above found met → Judged O test above found more
-  judged-more met more stays covered judged =
+  pub judged-more : {found : Family} (blocking more : Above) → ((test : Above → Bool) → Fails test blocking → Fails test more)
+      → Covers more above → Judged O test above found blocking → Judged O test above found more
+  judged-more blocking more stays covered judged =
       record { finds = judged .finds; covered = covered; bounds = λ X owed missed. stays (test X) (judged .bounds X owed missed) }
 
   -- fewer sets that cover as much
-  pub judged-trimmed : {found rest : Family} {met : Above} → Trimmed found O rest → Judged O test above found met
-      → Judged O test above rest met
+  pub judged-trimmed : {found rest : Family} {blocking : Above} → Trimmed found O rest → Judged O test above found blocking
+      → Judged O test above rest blocking
   judged-trimmed {found} {rest} trimmed judged =
       record {
         finds =
@@ -132,8 +132,8 @@ module _ {O : ℕ} {test : ℕ → Above → Bool} {above : Above} where
       }
 
 -- where two tests are the same
-pub judged-same : {O : ℕ} {test test′ : ℕ → Above → Bool} {above : Above} {found : Family} {met : Above}
-    → ((X : ℕ) (b : Above) → test X b ≡ test′ X b) → Judged O test above found met → Judged O test′ above found met
+pub judged-same : {O : ℕ} {test test′ : ℕ → Above → Bool} {above : Above} {found : Family} {blocking : Above}
+    → ((X : ℕ) (b : Above) → test X b ≡ test′ X b) → Judged O test above found blocking → Judged O test′ above found blocking
 judged-same {above = above} same judged =
     record {
       finds =
@@ -164,18 +164,18 @@ module _ {O : ℕ} {first second third : ℕ → Above → Bool} {above : Above}
             (sym (all X few) ∙ is);
       }
 
-  pub judged-or : {met met′ both : Above} → Joined met met′ both → Judged O first above f met → Judged O second above g met′
+  pub judged-or : {blocking blocking′ both : Above} → Joined blocking blocking′ both → Judged O first above f blocking → Judged O second above g blocking′
       → Judged O third above r both
-  judged-or {met} {met′} {both} joined one other =
+  judged-or {blocking} {blocking′} {both} joined one other =
       record {
         finds = finds-or (one .finds) (other .finds);
-        covered = covered-both met met′ both joined above (one .covered) (other .covered);
+        covered = covered-both blocking blocking′ both joined above (one .covered) (other .covered);
         bounds = λ X owed missed b wide covers.
             let missed-first = refuted (missed-by f X) (λ on. false-true (sym missed ∙ covers-more f r (or-before f g r all) X on)) in
             let missed-second = refuted (missed-by g X) (λ on. false-true (sym missed ∙ covers-more g r (or-other f g r all) X on)) in
             either X b
-            ∙ neither (fails-first met met′ both joined (one .bounds X owed missed-first) b wide covers)
-            (fails-second met met′ both joined (other .bounds X owed missed-second) b wide covers);
+            ∙ neither (fails-first blocking blocking′ both joined (one .bounds X owed missed-first) b wide covers)
+            (fails-second blocking blocking′ both joined (other .bounds X owed missed-second) b wide covers);
       }
     where
       missed-by : Family → ℕ → Bool
@@ -201,22 +201,22 @@ module _ {G : Type 0} (O : ℕ) (at : Above → G → ℕ → Bool) {above : Abo
             (rw union (part-refl X));
       }
 
-  pub judged-joined : {met met′ both : Above} → Joined met met′ both → Judged O (λ X b. at b g X) above f met
-      → Judged O (λ X b. shares (at b) O goals X) above rest met′
+  pub judged-joined : {blocking blocking′ both : Above} → Joined blocking blocking′ both → Judged O (λ X b. at b g X) above f blocking
+      → Judged O (λ X b. shares (at b) O goals X) above rest blocking′
       → Judged O (λ X b. shares (at b) O (g ∷ goals) X) above r both
-  judged-joined {met} {met′} {both} joined one others =
+  judged-joined {blocking} {blocking′} {both} joined one others =
       record {
         finds = finds-joined (one .finds) (others .finds);
-        covered = covered-both met met′ both joined above (one .covered) (others .covered);
+        covered = covered-both blocking blocking′ both joined above (one .covered) (others .covered);
         bounds = λ X owed missed b wide covers.
             refuted _ (λ h.
             let by = shares-shows (at b) O g goals X h in
             let Y = bitAnd X (by .first) in
             let Z = bitAnd X (by .others) in
             let in-O : (W : ℕ) → part (bitAnd X W) O ≡ true = λ W. part-trans (bitAnd X W) X O (and-left X W) owed in
-            let in-f = caught (λ b. at b g Y) f Y met (one .bounds Y (in-O (by .first))) (fails-first met met′ both joined) b wide covers
+            let in-f = caught (λ b. at b g Y) f Y blocking (one .bounds Y (in-O (by .first))) (fails-first blocking blocking′ both joined) b wide covers
             (less b (by .first) Y (and-right X (by .first)) (by .proves-first)) in
-            let in-rest = caught (λ b. shares (at b) O goals Z) rest Z met′ (others .bounds Z (in-O (by .others))) (fails-second met met′ both joined) b wide covers
+            let in-rest = caught (λ b. shares (at b) O goals Z) rest Z blocking′ (others .bounds Z (in-O (by .others))) (fails-second blocking blocking′ both joined) b wide covers
             (shares-less (at b) O goals (by .others) Z (and-right X (by .others)) (by .proves-others)) in
             false-true (sym missed
             ∙ covers-joined f rest r all X Y Z (both-cover X (by .first) (by .others) (by .together)) in-f in-rest));

@@ -27,20 +27,20 @@ Wide above = length (above .persons) ≡ mostCredentials
 
 -- every pair of these stands on the branch
 abbrev pub Covers : Above → Above → Type 0
-Covers met above = (p r : ℕ) → r < mostCredentials → pairAbove met p r ≡ true → pairAbove above p r ≡ true
+Covers blocking above = (p r : ℕ) → r < mostCredentials → pairAbove blocking p r ≡ true → pairAbove above p r ≡ true
 
 -- below every branch on which these pairs stand, the test fails
 abbrev pub Fails : (Above → Bool) → Above → Type 0
-Fails test met = (above : Above) → Wide above → Covers met above → test above ≡ false
+Fails test blocking = (above : Above) → Wide above → Covers blocking above → test above ≡ false
 
 -- and they stand on this one
-pub record Failed (test : Above → Bool) (above met : Above) : Type 0 where
-  pub covered : Covers met above
-  pub fails : Fails test met
+pub record Failed (test : Above → Bool) (above blocking : Above) : Type 0 where
+  pub covered : Covers blocking above
+  pub fails : Fails test blocking
 
 -- what the family does not cover of the parts of O fails below every branch on which these pairs stand
 abbrev pub Bounds : ℕ → (ℕ → Above → Bool) → Family → Above → Type 0
-Bounds O test found met = (X : ℕ) → part X O ≡ true → covers found X ≡ false → Fails (test X) met
+Bounds O test found blocking = (X : ℕ) → part X O ≡ true → covers found X ≡ false → Fails (test X) blocking
 
 -- each set of the family is a part of O, and can be met below this branch
 pub record Finds (O : ℕ) (test : ℕ → Above → Bool) (above : Above) (found : Family) : Type 0 where
@@ -48,25 +48,25 @@ pub record Finds (O : ℕ) (test : ℕ → Above → Bool) (above : Above) (foun
   pub passes : (X : ℕ) → X < allSets → inFamily found X ≡ true → test X above ≡ true
 
 -- the answer to a test below a branch: what can be met, and what stood in the way of all else
-pub record Judged (O : ℕ) (test : ℕ → Above → Bool) (above : Above) (found : Family) (met : Above) : Type 0 where
+pub record Judged (O : ℕ) (test : ℕ → Above → Bool) (above : Above) (found : Family) (blocking : Above) : Type 0 where
   pub finds : Finds O test above found
-  pub covered : Covers met above
-  pub bounds : Bounds O test found met
+  pub covered : Covers blocking above
+  pub bounds : Bounds O test found blocking
 
 -- the same where nobody asks for more than the family `wanted`: what is found may have all of that
-pub record Sought (O : ℕ) (test : ℕ → Above → Bool) (above : Above) (wanted found : Family) (met : Above) : Type 0 where
+pub record Sought (O : ℕ) (test : ℕ → Above → Bool) (above : Above) (wanted found : Family) (blocking : Above) : Type 0 where
   pub finds : Finds O test above found
-  pub covered : Covers met above
-  pub bounds : isPart wanted found ≡ false → Bounds O test found met
+  pub covered : Covers blocking above
+  pub bounds : isPart wanted found ≡ false → Bounds O test found blocking
 
 -- the memory has room for a slot, and each of its slots has a goal, and a family that has all that it can meet where what it has met
 -- stands on the branch
 pub record Remembered (t : List ℕ) (S A O : ℕ) (memory : List ℕ) : Type 0 where
   pub few : O < allSets
   pub room : SlotIn memory 0
-  pub each : (k person place levels : ℕ) (s : StateSets) (met : Above) (found : Family) → SlotIn memory k
-      → length (s .sets) ≡ mostAutomata → Holds memory k person place levels s met found
-      → Bounds O (λ X above. provesAt t S A O levels above s person place X) found met
+  pub each : (k person place levels : ℕ) (s : StateSets) (blocking : Above) (found : Family) → SlotIn memory k
+      → length (s .sets) ≡ mostAutomata → Holds memory k person place levels s blocking found
+      → Bounds O (λ X above. provesAt t S A O levels above s person place X) found blocking
 
 -- what a search tells of a branch: sets that can be met below it, and each that can is included in one of them
 pub record Told (O : ℕ) (test : ℕ → Above → Bool) (above : Above) (found : Family) : Type 0 where
@@ -106,6 +106,6 @@ noFamily = record { words = [] }
 
 -- what each of the goals that are asked can meet, from goal k on
 abbrev pub LaterJudged : List ℕ → ℕ → ℕ → ℕ → ℕ → StateSets → Asked → ℕ → Above → List Family → Above → Type 0
-LaterJudged t S A O levels s asked k above each met =
+LaterJudged t S A O levels s asked k above each blocking =
     (j : ℕ) → k ≤ j → j < asked .len
-    → Judged O (goalTest t S A O levels s (getD (asked .persons) j 0) (getD (asked .places) j 0)) above (getD each j noFamily) met
+    → Judged O (goalTest t S A O levels s (getD (asked .persons) j 0) (getD (asked .places) j 0)) above (getD each j noFamily) blocking

@@ -12,6 +12,9 @@ use automata::StateSets;
 use families::Family;
 use goals::Terms;
 use members::Above;
+pub use seeking::Answer;
+pub use seeking::credential_search;
+pub use seeking::goal_search;
 use sets::CredentialSet;
 use sets::StateSet;
 use table::Number;
@@ -25,8 +28,8 @@ ghost use Rattle.members.specs.Above.{nothingAbove};
 ghost use Rattle.table.specs.Holding.{WellFormed};
 ghost use Rattle.table.specs.Checks.{Valid};
 ghost use Rattle.members.specs.Members.{Aimed, Indexed, Members};
-ghost use Rattle.search.specs.Search.{Prepared, Searched, Stands, TellsMet, Tried, provable};
-ghost use Rattle.search.specs.Failing.{Remembered, Told, goalTest, ownTest};
+ghost use Rattle.search.specs.Search.{Prepared, Searched, Stands, TellsMet, provable};
+ghost use Rattle.search.specs.Failing.{Remembered, Told, goalTest};
 
 // Whether some derivation of the queried membership uses only allowed credentials, where no automaton is imposed and none owed: the
 // table of members tells it by itself.
@@ -106,81 +109,6 @@ pub fn query_search(
     )
 }
 
-// What can be met where the principal at `person` is proved to be in the role at `place`, with so many levels left, by some allowed
-// credential, and the pairs `above` stand on the branch. The memory may have what searches on the same terms have kept.
-pub fn goal_search(
-    table: &[Number],
-    index: &[u8],
-    arcs: &[StateSet],
-    rows: &[CredentialSet],
-    terms: Terms,
-    person: usize,
-    place: usize,
-    levels: usize,
-    states: StateSets,
-    above: Above,
-    memory: &mut [u32],
-) -> Family
-    requires { ⌜ Searched (now table) (now index) (now arcs) (now rows) (terms .allowed) levels (terms .last) ⌝ }
-    requires { ⌜ Stands (now table) person place ⌝ }
-    requires { ⌜ Remembered (now table) (terms .allowed) (terms .constraints) (terms .owed) (now memory) ⌝ }
-    ensures { λ r. ⌜ Told (terms .owed) (goalTest (now (table .entry)) (terms .allowed) (terms .constraints) (terms .owed)
-        levels states person place) above r
-        × Remembered (now (table .entry)) (terms .allowed) (terms .constraints) (terms .owed) (now (memory .exit)) ⌝ }
-{
-    let answer = seeking::seek_goal(
-        table,
-        index,
-        arcs,
-        rows,
-        terms,
-        person,
-        place,
-        levels,
-        states,
-        above,
-        memory,
-    );
-    answer.found
-}
-
-// What can be met where credential i + 1 proves the goal, with some middle; so many levels are left for what it asks.
-pub fn credential_search(
-    table: &[Number],
-    index: &[u8],
-    arcs: &[StateSet],
-    rows: &[CredentialSet],
-    terms: Terms,
-    person: usize,
-    i: usize,
-    levels: usize,
-    states: StateSets,
-    above: Above,
-    memory: &mut [u32],
-) -> Family
-    requires { ⌜ Searched (now table) (now index) (now arcs) (now rows) (terms .allowed) levels (terms .last) ⌝ }
-    requires { ⌜ Tried (now table) person i ⌝ }
-    requires { ⌜ Remembered (now table) (terms .allowed) (terms .constraints) (terms .owed) (now memory) ⌝ }
-    ensures { λ r. ⌜ Told (terms .owed) (ownTest (now (table .entry)) (terms .allowed) (terms .constraints) (terms .owed)
-        levels states person i) above r
-        × Remembered (now (table .entry)) (terms .allowed) (terms .constraints) (terms .owed) (now (memory .exit)) ⌝ }
-{
-    let answer = seeking::seek_through(
-        table,
-        index,
-        arcs,
-        rows,
-        terms,
-        person,
-        i,
-        levels,
-        states,
-        above,
-        memory,
-    );
-    answer.found
-}
-
 // What can be met where the principal at `person` is proved to be in the role at `place`, from the start of all words on.
 fn from_start(
     table: &[Number],
@@ -199,7 +127,7 @@ fn from_start(
     ensures { λ r. ⌜ Told (terms .owed) (goalTest (now (table .entry)) (terms .allowed) (terms .constraints) (terms .owed)
         levels (startingSets (now (table .entry))) person place) nothingAbove r ⌝ }
 {
-    goal_search(
+    let answer = seeking::goal_search(
         table,
         index,
         arcs,
@@ -211,5 +139,6 @@ fn from_start(
         StateSets::start(table),
         Above::nothing(),
         memory,
-    )
+    );
+    answer.found
 }

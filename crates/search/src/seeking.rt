@@ -39,13 +39,13 @@ ghost use Rattle.search.specs.Failing.{LaterJudged, sharedTest};
 // of all that these do not include.
 pub struct Answer {
     pub found: Family,
-    pub met: Above,
+    pub blocking: Above,
 }
 
 // The principal at `person` in the role at `place`, with so many levels left. Only what the table of members has is sought, no
 // pair twice on the branch, and nothing that is known to fail here: of a goal that is remembered no more is wanted than what it could
 // meet then, and otherwise all that is owed.
-pub fn seek_goal(
+pub fn goal_search(
     table: &[Number],
     index: &[u8],
     arcs: &[StateSet],
@@ -61,7 +61,7 @@ pub fn seek_goal(
     requires { ⌜ Searched (now table) (now index) (now arcs) (now rows) (terms .allowed) levels (terms .last) ⌝ }
     requires { ⌜ Stands (now table) person place ⌝ }
     requires { ⌜ Remembered (now table) (terms .allowed) (terms .constraints) (terms .owed) (now memory) ⌝ }
-    ensures { λ r. ⌜ Judged (terms .owed) (goalTest (now (table .entry)) (terms .allowed) (terms .constraints) (terms .owed) levels states person place) above (r .found) (r .met)
+    ensures { λ r. ⌜ Judged (terms .owed) (goalTest (now (table .entry)) (terms .allowed) (terms .constraints) (terms .owed) levels states person place) above (r .found) (r .blocking)
         × Remembered (now (table .entry)) (terms .allowed) (terms .constraints) (terms .owed) (now (memory .exit)) ⌝ }
 {
     if !goals::may_be_proved(table, rows, terms.last, person, place, levels) {
@@ -73,7 +73,7 @@ pub fn seek_goal(
     }
     let slot = failures::slot(person, place, states, failures::slot_count(memory));
     if !failures::recalls(memory, slot, person, place, levels, states, above) {
-        return seek_wanted(
+        return wanted_search(
             table,
             index,
             arcs,
@@ -91,18 +91,18 @@ pub fn seek_goal(
         );
     }
     let known = failures::family_at(memory, slot);
-    let met = failures::met_at(memory, slot);
+    let blocking = failures::blocking_at(memory, slot);
     if known.is_none() {
-        return failed(met);
+        return failed(blocking);
     }
-    seek_wanted(
+    wanted_search(
         table,
         index,
         arcs,
         rows,
         terms,
         known,
-        met,
+        blocking,
         slot,
         person,
         place,
@@ -115,14 +115,14 @@ pub fn seek_goal(
 
 // The same goal once more, of which it is known that where the pairs `met` stand it can meet no more than `wanted`. Less is
 // remembered.
-fn seek_wanted(
+fn wanted_search(
     table: &[Number],
     index: &[u8],
     arcs: &[StateSet],
     rows: &[CredentialSet],
     terms: Terms,
     wanted: Family,
-    met: Above,
+    blocking: Above,
     slot: usize,
     person: usize,
     place: usize,
@@ -134,14 +134,14 @@ fn seek_wanted(
     requires { ⌜ Searched (now table) (now index) (now arcs) (now rows) (terms .allowed) levels (terms .last) ⌝ }
     requires { ⌜ Stands (now table) person place × Open (now table) levels person place ⌝ }
     requires { ⌜ (pairAbove above person place ≡ false) × SlotIn (now memory) slot ⌝ }
-    requires { ⌜ Covers met above × Bounds (terms .owed) (goalTest (now table) (terms .allowed) (terms .constraints) (terms .owed)
-        levels states person place) wanted met ⌝ }
+    requires { ⌜ Covers blocking above × Bounds (terms .owed) (goalTest (now table) (terms .allowed) (terms .constraints) (terms .owed)
+        levels states person place) wanted blocking ⌝ }
     requires { ⌜ Remembered (now table) (terms .allowed) (terms .constraints) (terms .owed) (now memory) ⌝ }
     ensures { λ r. ⌜ Judged (terms .owed) (goalTest (now (table .entry)) (terms .allowed) (terms .constraints) (terms .owed)
-        levels states person place) above (r .found) (r .met)
+        levels states person place) above (r .found) (r .blocking)
         × Remembered (now (table .entry)) (terms .allowed) (terms .constraints) (terms .owed) (now (memory .exit)) ⌝ }
 {
-    let answer = seek_below(
+    let answer = definers_search(
         table,
         index,
         arcs,
@@ -157,9 +157,9 @@ fn seek_wanted(
     );
     let found = answer.found;
     if wanted.is_part(found) {
-        return answered(found, met);
+        return answered(found, blocking);
     }
-    let less = failures::without(answer.met, person, place);
+    let less = failures::without(answer.blocking, person, place);
     failures::keep(memory, slot, person, place, levels, states, less, found);
     answered(found, less)
 }
@@ -167,7 +167,7 @@ fn seek_wanted(
 // Some allowed credential proves the goal, which stands on the branch now; so many levels are left for what it asks. Where an
 // imposed automaton is dead no word is accepted, so the branch is left; an owed one that is dead is met no more, so nobody waits for
 // it. No more credentials are tried once all that is wanted is found.
-fn seek_below(
+fn definers_search(
     table: &[Number],
     index: &[u8],
     arcs: &[StateSet],
@@ -186,7 +186,7 @@ fn seek_below(
     requires { ⌜ Remembered (now table) (terms .allowed) (terms .constraints) (terms .owed) (now memory) ⌝ }
     ensures { λ r. ⌜ Sought (terms .owed) (anyTest (now (table .entry)) (terms .allowed) (terms .constraints) (terms .owed) levels
         (stepped (now (table .entry)) (bitOr (terms .constraints) (terms .owed))
-        (credential (now (table .entry)) (suc place) .role) states) person place) above wanted (r .found) (r .met)
+        (credential (now (table .entry)) (suc place) .role) states) person place) above wanted (r .found) (r .blocking)
         × Remembered (now (table .entry)) (terms .allowed) (terms .constraints) (terms .owed) (now (memory .exit)) ⌝ }
 {
     let below = goals::stepped(table, arcs, terms.constraints | terms.owed, place, states);
@@ -196,11 +196,11 @@ fn seek_below(
     let most = goals::left_owed(terms.owed, below.dead);
     let n = layout::credentials(table);
     let mut found = Family::none();
-    let mut met = Above::nothing();
+    let mut blocking = Above::nothing();
     let mut i = 0;
     while i < n {
         if goals::may_use(index, terms.allowed, place, i) {
-            let answer = seek_through(
+            let answer = credential_search(
                 table,
                 index,
                 arcs,
@@ -217,15 +217,15 @@ fn seek_below(
             if goals::is_enough(found, most, wanted) {
                 return answered(found, Above::nothing());
             }
-            met = failures::joined(met, answer.met);
+            blocking = failures::joined(blocking, answer.blocking);
         }
         i += 1;
     }
-    answered(found, met)
+    answered(found, blocking)
 }
 
 // Credential i + 1 proves the goal, with some middle; so many levels are left for what it asks.
-pub fn seek_through(
+pub fn credential_search(
     table: &[Number],
     index: &[u8],
     arcs: &[StateSet],
@@ -241,7 +241,7 @@ pub fn seek_through(
     requires { ⌜ Searched (now table) (now index) (now arcs) (now rows) (terms .allowed) levels (terms .last) ⌝ }
     requires { ⌜ Tried (now table) person i ⌝ }
     requires { ⌜ Remembered (now table) (terms .allowed) (terms .constraints) (terms .owed) (now memory) ⌝ }
-    ensures { λ r. ⌜ Judged (terms .owed) (ownTest (now (table .entry)) (terms .allowed) (terms .constraints) (terms .owed) levels states person i) above (r .found) (r .met)
+    ensures { λ r. ⌜ Judged (terms .owed) (ownTest (now (table .entry)) (terms .allowed) (terms .constraints) (terms .owed) levels states person i) above (r .found) (r .blocking)
         × Remembered (now (table .entry)) (terms .allowed) (terms .constraints) (terms .owed) (now (memory .exit)) ⌝ }
 {
     let credential = layout::credential(table, i + 1);
@@ -251,7 +251,7 @@ pub fn seek_through(
             goals::ends_word(table, index, arcs, terms, person, i, states),
             Above::nothing(),
         ),
-        SIMPLE_CONTAINMENT => seek_parts(
+        SIMPLE_CONTAINMENT => parts_search(
             table,
             index,
             arcs,
@@ -264,7 +264,7 @@ pub fn seek_through(
             above,
             memory,
         ),
-        LINKING_CONTAINMENT => seek_linked(
+        LINKING_CONTAINMENT => linked_search(
             table,
             index,
             arcs,
@@ -277,7 +277,7 @@ pub fn seek_through(
             above,
             memory,
         ),
-        INTERSECTION_CONTAINMENT => seek_parts(
+        INTERSECTION_CONTAINMENT => parts_search(
             table,
             index,
             arcs,
@@ -295,7 +295,7 @@ pub fn seek_through(
 }
 
 // Credential i + 1, of kind 2 or 4, proves the goal: the principal is in each of the roles that it asks.
-fn seek_parts(
+fn parts_search(
     table: &[Number],
     index: &[u8],
     arcs: &[StateSet],
@@ -312,7 +312,7 @@ fn seek_parts(
     requires { ⌜ Tried (now table) person i ⌝ }
     requires { ⌜ (credential (now table) (suc i) .kind ≡ 2) ⊎ (credential (now table) (suc i) .kind ≡ 4) ⌝ }
     requires { ⌜ Remembered (now table) (terms .allowed) (terms .constraints) (terms .owed) (now memory) ⌝ }
-    ensures { λ r. ⌜ Judged (terms .owed) (ownTest (now (table .entry)) (terms .allowed) (terms .constraints) (terms .owed) levels states person i) above (r .found) (r .met)
+    ensures { λ r. ⌜ Judged (terms .owed) (ownTest (now (table .entry)) (terms .allowed) (terms .constraints) (terms .owed) levels states person i) above (r .found) (r .blocking)
         × Remembered (now (table .entry)) (terms .allowed) (terms .constraints) (terms .owed) (now (memory .exit)) ⌝ }
 {
     if !goals::are_listed(index, rows, terms.last, person, i, levels) {
@@ -320,7 +320,7 @@ fn seek_parts(
     }
     if 0 < terms.owed {
         let asked = asking::roles_asked(table, index, person, i);
-        return seek_shared(
+        return shared_search(
             table,
             index,
             arcs,
@@ -336,7 +336,7 @@ fn seek_parts(
     let mut k = 0;
     while k < 4 {
         if !goals::is_asked_before(index, i, k) {
-            let answer = seek_goal(
+            let answer = goal_search(
                 table,
                 index,
                 arcs,
@@ -350,7 +350,7 @@ fn seek_parts(
                 memory,
             );
             if answer.found.is_none() {
-                return failed(answer.met);
+                return failed(answer.blocking);
             }
         }
         k += 1;
@@ -359,7 +359,7 @@ fn seek_parts(
 }
 
 // Credential i + 1, of kind 3, proves the goal: some middle is in its first role, and the principal in the middle's second.
-fn seek_linked(
+fn linked_search(
     table: &[Number],
     index: &[u8],
     arcs: &[StateSet],
@@ -376,19 +376,19 @@ fn seek_linked(
     requires { ⌜ Tried (now table) person i ⌝ }
     requires { ⌜ credential (now table) (suc i) .kind ≡ 3 ⌝ }
     requires { ⌜ Remembered (now table) (terms .allowed) (terms .constraints) (terms .owed) (now memory) ⌝ }
-    ensures { λ r. ⌜ Judged (terms .owed) (ownTest (now (table .entry)) (terms .allowed) (terms .constraints) (terms .owed) levels states person i) above (r .found) (r .met)
+    ensures { λ r. ⌜ Judged (terms .owed) (ownTest (now (table .entry)) (terms .allowed) (terms .constraints) (terms .owed) levels states person i) above (r .found) (r .blocking)
         × Remembered (now (table .entry)) (terms .allowed) (terms .constraints) (terms .owed) (now (memory .exit)) ⌝ }
 {
     let n = layout::credentials(table);
     let row = goals::row_of(levels, terms.last);
     let first = members::asked_cell(index, i, 0);
     let mut found = Family::none();
-    let mut met = Above::nothing();
+    let mut blocking = Above::nothing();
     let mut j = 0;
     while j < n {
         let second = members::link_cell(index, i, j);
         if goals::is_middle(table, index, rows, row, person, j, first, second) {
-            let link = seek_link(
+            let link = link_search(
                 table,
                 index,
                 arcs,
@@ -407,15 +407,15 @@ fn seek_linked(
             if found.has(terms.owed) {
                 return answered(found, Above::nothing());
             }
-            met = failures::joined(met, link.met);
+            blocking = failures::joined(blocking, link.blocking);
         }
         j += 1;
     }
-    answered(found, met)
+    answered(found, blocking)
 }
 
 // The principal at `middle` is in the role at `first`, and the one at `person` in the role at `second`.
-fn seek_link(
+fn link_search(
     table: &[Number],
     index: &[u8],
     arcs: &[StateSet],
@@ -434,12 +434,12 @@ fn seek_link(
     requires { ⌜ Stands (now table) middle first × Stands (now table) person second ⌝ }
     requires { ⌜ Remembered (now table) (terms .allowed) (terms .constraints) (terms .owed) (now memory) ⌝ }
     ensures { λ r. ⌜ Judged (terms .owed) (sharedTest (now (table .entry)) (terms .allowed) (terms .constraints) (terms .owed)
-        levels states (pair middle first ∷ pair person second ∷ [])) above (r .found) (r .met)
+        levels states (pair middle first ∷ pair person second ∷ [])) above (r .found) (r .blocking)
         × Remembered (now (table .entry)) (terms .allowed) (terms .constraints) (terms .owed) (now (memory .exit)) ⌝ }
 {
     if terms.owed != 0 {
         let asked = asking::link_asked(middle, first, person, second);
-        return seek_shared(
+        return shared_search(
             table,
             index,
             arcs,
@@ -452,7 +452,7 @@ fn seek_link(
             memory,
         );
     }
-    let answer = seek_goal(
+    let answer = goal_search(
         table,
         index,
         arcs,
@@ -466,9 +466,9 @@ fn seek_link(
         memory,
     );
     if answer.found.is_none() {
-        return failed(answer.met);
+        return failed(answer.blocking);
     }
-    seek_goal(
+    goal_search(
         table,
         index,
         arcs,
@@ -485,7 +485,7 @@ fn seek_link(
 
 // All goals that are asked, which share out what is owed: two of them may meet two different automata, also where they are the same
 // goal twice. The same goal is sought once.
-fn seek_shared(
+fn shared_search(
     table: &[Number],
     index: &[u8],
     arcs: &[StateSet],
@@ -501,16 +501,16 @@ fn seek_shared(
     requires { ⌜ Fits asked × AllStand (now table) (askedPairs asked) ⌝ }
     requires { ⌜ Remembered (now table) (terms .allowed) (terms .constraints) (terms .owed) (now memory) ⌝ }
     ensures { λ r. ⌜ Judged (terms .owed) (sharedTest (now (table .entry)) (terms .allowed) (terms .constraints) (terms .owed)
-        levels states (askedPairs asked)) above (r .found) (r .met)
+        levels states (askedPairs asked)) above (r .found) (r .blocking)
         × Remembered (now (table .entry)) (terms .allowed) (terms .constraints) (terms .owed) (now (memory .exit)) ⌝ }
 {
     let mut each = [Family::none(); layout::MOST_PARTS];
     let mut found = Family::only(0);
-    let mut met = Above::nothing();
+    let mut blocking = Above::nothing();
     let mut k = asked.len;
     while 0 < k {
         k -= 1;
-        let answer = seek_asked(
+        let answer = asked_search(
             table,
             index,
             arcs,
@@ -519,7 +519,7 @@ fn seek_shared(
             asked,
             k,
             each,
-            met,
+            blocking,
             levels,
             states,
             above,
@@ -527,17 +527,17 @@ fn seek_shared(
         );
         let one = answer.found;
         if one.is_none() {
-            return failed(answer.met);
+            return failed(answer.blocking);
         }
         each[k] = one;
-        met = failures::joined(answer.met, met);
+        blocking = failures::joined(answer.blocking, blocking);
         found = goals::trimmed(one.joined(found), terms.owed);
     }
-    answered(found, met)
+    answered(found, blocking)
 }
 
 // Goal k of those that are asked, where `each` has what the later ones can meet: it is sought unless one of them is the same.
-fn seek_asked(
+fn asked_search(
     table: &[Number],
     index: &[u8],
     arcs: &[StateSet],
@@ -546,7 +546,7 @@ fn seek_asked(
     asked: Asked,
     k: usize,
     each: [Family; layout::MOST_PARTS],
-    met: Above,
+    blocking: Above,
     levels: usize,
     states: StateSets,
     above: Above,
@@ -555,19 +555,19 @@ fn seek_asked(
     requires { ⌜ Searched (now table) (now index) (now arcs) (now rows) (terms .allowed) levels (terms .last) ⌝ }
     requires { ⌜ Fits asked × AllStand (now table) (askedPairs asked) ⌝ }
     requires { ⌜ (k < asked .len) × (length each ≡ mostParts) ⌝ }
-    requires { ⌜ LaterJudged (now table) (terms .allowed) (terms .constraints) (terms .owed) levels states asked (suc k) above each met ⌝ }
+    requires { ⌜ LaterJudged (now table) (terms .allowed) (terms .constraints) (terms .owed) levels states asked (suc k) above each blocking ⌝ }
     requires { ⌜ Remembered (now table) (terms .allowed) (terms .constraints) (terms .owed) (now memory) ⌝ }
     ensures { λ r. ⌜ Judged (terms .owed) (goalTest (now (table .entry)) (terms .allowed) (terms .constraints) (terms .owed)
-        levels states (getD (asked .persons) k 0) (getD (asked .places) k 0)) above (r .found) (r .met)
+        levels states (getD (asked .persons) k 0) (getD (asked .places) k 0)) above (r .found) (r .blocking)
         × Remembered (now (table .entry)) (terms .allowed) (terms .constraints) (terms .owed) (now (memory .exit)) ⌝ }
 {
     let same = asked.same_later(k);
     if same != k {
-        return answered(each[same], met);
+        return answered(each[same], blocking);
     }
     let persons = asked.persons;
     let places = asked.places;
-    seek_goal(
+    goal_search(
         table,
         index,
         arcs,
@@ -582,30 +582,30 @@ fn seek_asked(
     )
 }
 
-fn answered(found: Family, met: Above) -> Answer
-    ensures { λ r. ⌜ (r .found ≡ found) × (r .met ≡ met) ⌝ }
+fn answered(found: Family, blocking: Above) -> Answer
+    ensures { λ r. ⌜ (r .found ≡ found) × (r .blocking ≡ blocking) ⌝ }
 {
     Answer {
         found: found,
-        met: met,
+        blocking: blocking,
     }
 }
 
 // Nothing is owed, so there is nothing to be met.
 fn proved() -> Answer
-    ensures { λ r. ⌜ FamilyOf (eqb 0) (r .found) × (r .met ≡ nothingAbove) ⌝ }
+    ensures { λ r. ⌜ FamilyOf (eqb 0) (r .found) × (r .blocking ≡ nothingAbove) ⌝ }
 {
     Answer {
         found: Family::only(0),
-        met: Above::nothing(),
+        blocking: Above::nothing(),
     }
 }
 
-fn failed(met: Above) -> Answer
-    ensures { λ r. ⌜ FamilyOf (λ X. false) (r .found) × (r .met ≡ met) ⌝ }
+fn failed(blocking: Above) -> Answer
+    ensures { λ r. ⌜ FamilyOf (λ X. false) (r .found) × (r .blocking ≡ blocking) ⌝ }
 {
     Answer {
         found: Family::none(),
-        met: met,
+        blocking: blocking,
     }
 }

@@ -317,7 +317,7 @@ fn met_from(
     let mut k = asked.len;
     while from < k {
         k -= 1;
-        let one = search::goal_search(
+        let answer = search::goal_search(
             table,
             index,
             arcs,
@@ -330,7 +330,7 @@ fn met_from(
             above,
             memory,
         );
-        met = one.joined(met);
+        met = answer.found.joined(met);
     }
     met
 }

@@ -7,9 +7,11 @@ use native.Mathlib.Omega.{arith}
 use lib.ListN.{length}
 use denote.Ref.{now}
 use Rattle.sets.specs.Logic.{anyBelow}
+use Rattle.table.specs.Limits.{mostCredentials}
 use Rattle.table.specs.Layout.{credentials}
 use Rattle.search.specs.Failing.{Remembered}
 use Rattle.search.specs.Search.{goalAt, provesWith}
+use Rattle.search.proofs.Judging.{judged-told}
 use Rattle.choice.specs.Choice.{suitsAll, suitsWord}
 use Rattle.choice.proofs.Candidates.{chosen-here, chosen-last, next-failed, next-skipped, passes-here, tried-at}
 use Rattle.choice.proofs.Wanting.{own-wanted}
@@ -42,6 +44,9 @@ Found = tie.After-last-usable Inv-loop μ-loop
 abbrev asked : Found → tie.Start Inv-loop μ-loop
 asked at = at .before .before .before .before .before .before .before
 
+wide : (at : tie.Start Inv-loop μ-loop) → length (at .args .above .persons) ≡ mostCredentials
+wide at = search needs
+
 loop-holds : tie.Need-loop-holds Inv-loop μ-loop
 unfolding anyBelow
 loop-holds c = (omega arith, refl, (refl, asked c .pre .1 .1 .1 .0))
@@ -73,8 +78,8 @@ returns c =
     let loop = way .before .before .before in
     let pre = asked (loop .before) .pre in
     let there = inside (loop .before) _ (way .before .before .loop-test .taken) in
-    let (told, remembered) = asking .credential-search .ensures in
-    let proved = own-wanted _ _ _ _ _ _ _ _ (pre .1 .1 .0) told (c .before .meets .ensures) in (
+    let (judged, remembered) = asking .credential-search .ensures in
+    let proved = own-wanted _ _ _ _ _ _ _ _ (pre .1 .1 .0) (judged-told (wide (asked (loop .before))) judged) (c .before .meets .ensures) in (
       chosen-here (pre .0 .indexed) (pre .1 .0 .0) (pre .1 .0 .1) _ _ _ _ there (loop .loop .inv .1)
           (passes-here (pre .0 .indexed) (pre .1 .0 .0) (pre .1 .0 .1) _ _ _ _ there (way .before .may-use .ensures)
           (way .if1 .taken) proved (c .if2 .taken)),
@@ -97,7 +102,7 @@ loop-again c =
     let may-use = c .before .may-use .ensures in (
       omega (arith, next),
       ⊎-elim (λ way. next-failed (pre .0 .indexed) (pre .1 .0 .0) (pre .1 .0 .1) _ _ _ _ there may-use (way .0 .taken)
-          (own-wanted _ _ _ _ _ _ _ _ (pre .1 .1 .0) (way .2 .ensures .0) (way .5 .ensures)) so-far (way .6 .left))
+          (own-wanted _ _ _ _ _ _ _ _ (pre .1 .1 .0) (judged-told (wide (asked (loop .before))) (way .2 .ensures .0)) (way .5 .ensures)) so-far (way .6 .left))
           (λ way. next-skipped (pre .0 .indexed) (pre .1 .0 .0) (pre .1 .0 .1) _ _ _ _ there may-use so-far (way .0 .left))
           (c .if1 .came),
       ⊎-elim (λ way. rw (way .7) (way .3 .given ∙ remembered .0, way .2 .ensures .1)) (λ way. rw (way .1) remembered) (c .if1 .came),

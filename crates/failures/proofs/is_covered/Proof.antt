@@ -23,14 +23,14 @@ add-from c = search needs
 loop-holds : tie.Need-loop-holds Inv-loop μ-loop
 loop-holds c = (omega arith, covered-none _ _ _)
 
-add-met : tie.Need-add-met Inv-loop μ-loop
-add-met c = search needs
+add-blocking : tie.Need-add-blocking Inv-loop μ-loop
+add-blocking c = search needs
 
-mul-met : tie.Need-mul-met Inv-loop μ-loop
-mul-met c = search needs
+mul-blocking : tie.Need-mul-blocking Inv-loop μ-loop
+mul-blocking c = search needs
 
-shared-slice-read-met : tie.Need-shared-slice-read-met Inv-loop μ-loop
-shared-slice-read-met c = search needs
+shared-slice-read-blocking : tie.Need-shared-slice-read-blocking Inv-loop μ-loop
+shared-slice-read-blocking c = search needs
 
 mul-if1 : tie.Need-mul-if1 Inv-loop μ-loop
 mul-if1 c = search needs
@@ -62,9 +62,9 @@ is-covered-spec =
     mul-from
     add-from
     loop-holds
-    add-met
-    mul-met
-    shared-slice-read-met
+    add-blocking
+    mul-blocking
+    shared-slice-read-blocking
     mul-if1
     element-copy-out-if1
     returns

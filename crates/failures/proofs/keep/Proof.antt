@@ -46,33 +46,33 @@ slice-write-memory-3 c = simp length-set (omega arith)
 put-states-requires : tie.Need-put-states-requires
 put-states-requires c κs = search needs
 
-put-met-requires : tie.Need-put-met-requires
-put-met-requires c κs =
+put-blocking-requires : tie.Need-put-blocking-requires
+put-blocking-requires c κs =
     let pre = c .before .before .before .before .before .before .pre .0 in
     rw (c .before .before .before .put-states .ensures .room) (simp length-set pre)
 
 put-family-requires : tie.Need-put-family-requires
 put-family-requires c κs =
-    let met = c .before .before .before in
-    let states = met .before .before .before .before in
+    let blocking = c .before .before .before in
+    let states = blocking .before .before .before .before in
     let pre = states .before .before .before .pre .0 in
-    rw (met .put-met .ensures .room, states .put-states .ensures .room) (simp length-set pre)
+    rw (blocking .put-blocking .ensures .room, states .put-states .ensures .room) (simp length-set pre)
 
 same-length : tie.Need-same-length
 same-length c =
     let family = c .before .before in
-    let met = family .before .before .before .before in
-    let states = met .before .before .before .before in
-    family .put-family .ensures .room ∙ met .put-met .ensures .room ∙ states .put-states .ensures .room ∙ simp length-set
+    let blocking = family .before .before .before .before in
+    let states = blocking .before .before .before .before in
+    family .put-family .ensures .room ∙ blocking .put-blocking .ensures .room ∙ states .put-states .ensures .room ∙ simp length-set
 
 returns : tie.Need-returns
 returns c =
     let family = c .before .before in
-    let met = family .before .before .before .before in
-    let states = met .before .before .before .before in
+    let blocking = family .before .before .before .before in
+    let states = blocking .before .before .before .before in
     let pre = states .before .before .before .pre .0 in
     kept _ _ _ _ _ _ _ _ _ _ _ _ (head-written _ _ _ _ _ pre) (states .put-states .ensures)
-    (met .put-met .ensures) (family .put-family .ensures)
+    (blocking .put-blocking .ensures) (family .put-family .ensures)
 
 pub keep-spec : {M : Type 1} → statement M
 keep-spec =
@@ -91,7 +91,7 @@ keep-spec =
     mul-memory-3
     slice-write-memory-3
     put-states-requires
-    put-met-requires
+    put-blocking-requires
     put-family-requires
     same-length
     returns)

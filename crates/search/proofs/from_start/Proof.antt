@@ -1,4 +1,6 @@
 -- `search::from_start` meets its contract: the goal is sought below no branch. Assumes nothing.
+use Rattle.members.proofs.Branching.{nothing-room}
+use Rattle.search.proofs.Judging.{judged-told}
 use borrow.Author.Needs.{needs}
 use Rattle.search.proofs.from_start.Statement.{statement}
 use Rattle.search.proofs.from_start.Tie as tie
@@ -16,7 +18,10 @@ same-length : tie.Need-same-length
 same-length c = search needs
 
 returns : tie.Need-returns
-returns c = rw (c .before .before .before .before .nothing .ensures, c .before .before .before .before .before .start .ensures) at (c .before .before .goal-search .ensures .0)
+returns c =
+    let sought = c .before .before .before in
+    let answer = rw (sought .before .before .nothing .ensures, sought .before .before .before .start .ensures) at (sought .goal-search .ensures .0) in
+    judged-told nothing-room answer
 
 pub from-start-spec : {M : Type 1} → statement M
 from-start-spec =

@@ -3,9 +3,11 @@ use mathlib.Core.Path.{_≡_, refl, _∙_}
 use Prim.Native.Nat.{_-_, _≤_}
 use native.Mathlib.Omega.{arith}
 use lib.ListN.{length}
+use Rattle.table.specs.Limits.{mostCredentials}
 use Rattle.search.specs.Failing.{Remembered, Told}
 use Rattle.search.specs.Asking.{pairsFrom}
 use Rattle.search.proofs.Answering.{asked-stands}
+use Rattle.search.proofs.Judging.{judged-told}
 use Rattle.walking.specs.Walked.{goalsAt, laterTest}
 use Rattle.walking.proofs.Later.{child-there, later-next, later-none}
 use borrow.Author.Needs.{needs}
@@ -25,6 +27,9 @@ abbrev μ-loop : tie.MeasureT-loop
 -- the place where the loop begins, and the one where the call was asked
 abbrev start : tie.After-only Inv-loop μ-loop → tie.Start Inv-loop μ-loop
 start at = at .before .before .before .before .before .before .before .before
+
+wide : (at : tie.Start Inv-loop μ-loop) → length (at .args .above .persons) ≡ mostCredentials
+wide at = search needs
 
 only-requires : tie.Need-only-requires Inv-loop μ-loop
 only-requires c κs = omega arith
@@ -82,8 +87,8 @@ loop-again c =
     let there = child-there (start (at .before) .pre .1 .0) in (
       omega (arith, test),
       omega (arith, few),
-      later-next _ _ _ _ _ _ _ _ _ _ (omega (arith, test)) few (there _ (omega (arith, test, few))) (c .joined .ensures) one
-          behind,
+      later-next _ _ _ _ _ _ _ _ _ _ (omega (arith, test)) few (there _ (omega (arith, test, few))) (c .joined .ensures)
+          (judged-told (wide (start (at .before))) one) behind,
       c .before .before .memory .given ∙ same,
       remembered,
     )

@@ -1,5 +1,10 @@
 -- `choice::middles::leads_on` meets its contract: both goals are asked, one after the other, and what they meet together is held
 -- to what is wanted. Assumes nothing.
+use mathlib.Core.Path.{_≡_}
+use native.Mathlib.Omega.{arith}
+use lib.ListN.{length}
+use Rattle.table.specs.Limits.{mostCredentials}
+use Rattle.search.proofs.Judging.{judged-told}
 use Rattle.choice.proofs.Linking.{first-stands, leads-none, leads-told, second-stands}
 use borrow.Author.Needs.{needs}
 use Rattle.choice.proofs.middles.leads_on.Statement.{statement}
@@ -26,6 +31,9 @@ Found = tie.After-goal-search
 abbrev asked : Found → tie.Start
 asked at = at .before .before .before .before .before .before .before .before
 
+wide : (at : tie.Start) → length (at .args .above .persons) ≡ mostCredentials
+wide at = search needs
+
 same-length : tie.Need-same-length
 same-length c = search needs
 
@@ -34,14 +42,17 @@ returns c =
     let at = c .before .before .before .before in
     let pre = asked at .pre in
     let middle = pre .1 .1 .0 in
-    let (told, remembered) = at .goal-search .ensures in (
+    let (judged, remembered) = at .goal-search .ensures in (
       leads-none (pre .0) (pre .1 .0 .0) (pre .1 .0 .1) (middle .0) (middle .1) _ _ _ (pre .1 .1 .1 .0)
-          (at .before .before .asked-cell .ensures .0) told (c .before .is-none .ensures) (c .if1 .taken),
+          (at .before .before .asked-cell .ensures .0) (judged-told (wide (asked at)) judged) (c .before .is-none .ensures) (c .if1 .taken),
       remembered,
     )
 
 link-cell-requires : tie.Need-link-cell-requires
-link-cell-requires c κs = search needs
+link-cell-requires c κs =
+    let pre = asked (c .before .before .before .before) .pre in
+    let few = pre .0 .wellFormed .sized .counted .fewCredentials in
+    (pre .0 .indexed .placed, (omega (arith, pre .1 .0 .0 .there, few), omega (arith, pre .1 .1 .0 .0, few)))
 
 goal-search-requires-2 : tie.Need-goal-search-requires-2
 goal-search-requires-2 c κs =
@@ -67,10 +78,10 @@ returns-2 c =
     let at = second .before .before .before .before .before .before .before in
     let pre = asked at .pre in
     let middle = pre .1 .1 .0 in
-    let (told, remembered) = second .goal-search2 .ensures in (
+    let (judged, remembered) = second .goal-search2 .ensures in (
       leads-told (pre .0) (pre .1 .0 .0) (pre .1 .0 .1) (middle .0) (middle .1) _ _ _ (pre .1 .1 .1 .0)
-          (at .before .before .asked-cell .ensures .0) (at .goal-search .ensures .0)
-          (second .before .before .link-cell .ensures .0) _ told (c .before .joined .ensures) (c .meets .ensures),
+          (at .before .before .asked-cell .ensures .0) (judged-told (wide (asked at)) (at .goal-search .ensures .0))
+          (second .before .before .link-cell .ensures .0) _ (judged-told (wide (asked at)) judged) (c .before .joined .ensures) (c .meets .ensures),
       remembered,
     )
 

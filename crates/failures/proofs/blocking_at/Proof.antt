@@ -1,12 +1,12 @@
--- `failures::met_at` meets its contract: the first r cells are read. Assumes nothing.
+-- `failures::blocking_at` meets its contract: the first r cells are read. Assumes nothing.
 use mathlib.Core.Path.{refl}
 use Prim.Native.Nat.{_-_, _≤_}
 use native.Mathlib.Omega.{arith}
 use Rattle.table.specs.Limits.{mostCredentials}
 use Rattle.failures.proofs.Slots.{Made, cell-next, cellsFrom, made-none}
 use borrow.Author.Needs.{needs}
-use Rattle.failures.proofs.met_at.Statement.{statement}
-use Rattle.failures.proofs.met_at.Tie as tie
+use Rattle.failures.proofs.blocking_at.Statement.{statement}
+use Rattle.failures.proofs.blocking_at.Tie as tie
 
 abbrev Inv-loop : tie.InvT-loop
 Inv-loop memory k from persons₀ r₀ persons r = (r ≤ mostCredentials) × Made mostCredentials (cellsFrom memory k 12) r persons
@@ -51,8 +51,8 @@ returns : tie.Need-returns Inv-loop μ-loop
 unfolding cellsFrom
 returns c = λ r l. c .before .loop .inv .1 .each r (omega arith)
 
-pub met-at-spec : {M : Type 1} → statement M
-met-at-spec =
+pub blocking-at-spec : {M : Type 1} → statement M
+blocking-at-spec =
     tie.close
     (tie.spec
     Inv-loop

@@ -1,20 +1,20 @@
--- `failures::put_met` meets its contract: the first r cells of the pairs are written. Assumes nothing.
+-- `failures::put_blocking` meets its contract: the first r cells of the pairs are written. Assumes nothing.
 use mathlib.Core.Path.{_≡_, refl}
 use Prim.Native.Nat.{_-_, _≤_}
 use native.Mathlib.Omega.{arith}
 use Rattle.table.specs.Limits.{mostCredentials}
-use Rattle.failures.specs.Failures.{metCell}
+use Rattle.failures.specs.Failures.{blockingCell}
 use Rattle.failures.specs.Cells.{Written}
 use Rattle.failures.proofs.Slots.{written-next, written-none}
 use borrow.Author.Needs.{needs}
-use Rattle.failures.proofs.put_met.Statement.{statement}
-use Rattle.failures.proofs.put_met.Tie as tie
+use Rattle.failures.proofs.put_blocking.Statement.{statement}
+use Rattle.failures.proofs.put_blocking.Tie as tie
 
 abbrev Inv-loop : tie.InvT-loop
-Inv-loop memory₀ k met from r₀ memory r = (r ≤ mostCredentials) × Written (metCell k 0) r (met .persons) memory₀ memory
+Inv-loop memory₀ k blocking from r₀ memory r = (r ≤ mostCredentials) × Written (blockingCell k 0) r (blocking .persons) memory₀ memory
 
 abbrev μ-loop : tie.MeasureT-loop
-μ-loop memory₀ k met from r₀ memory r = mostCredentials - r
+μ-loop memory₀ k blocking from r₀ memory r = mostCredentials - r
 
 mul-from : tie.Need-mul-from Inv-loop μ-loop
 mul-from c = search needs
@@ -55,8 +55,8 @@ same-length c = c .before .loop .inv .1 .room
 returns : tie.Need-returns Inv-loop μ-loop
 returns c = let all : c .before .loop .r ≡ mostCredentials = omega arith in rw all at (c .before .loop .inv .1)
 
-pub put-met-spec : {M : Type 1} → statement M
-put-met-spec =
+pub put-blocking-spec : {M : Type 1} → statement M
+put-blocking-spec =
     tie.close
     (tie.spec
     Inv-loop
