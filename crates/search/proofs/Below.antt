@@ -34,7 +34,7 @@ use Rattle.failures.specs.Failures.{Joined, Spared}
 use Rattle.goals.specs.Goals.{Left, mayBeProved, stepped, steppedOn, usable}
 use Rattle.search.specs.Asking.{Pair, pair}
 use Rattle.search.specs.Search.{Searched, Stands, Tried, ends, goalAt, proves, provesAt, provesWith, shares}
-use Rattle.search.specs.Failing.{Bounds, Covers, Fails, Finds, Judged, Open, Sought, Wide, anyTest, goalTest}
+use Rattle.search.specs.Failing.{Bounds, Covers, Fails, Finds, Judged, Sought, Wide, anyTest, goalTest}
 use Rattle.search.specs.Failing.{ownTest, sharedTest}
 use Rattle.search.proofs.Failing.{covered-above, covers-none, failed-again, fails-above}
 use Rattle.search.proofs.Judging.{finds-or, finds-so, judged-enough, judged-never, judged-or, judged-same}
@@ -125,6 +125,13 @@ pub sought-moved : (t : List ℕ) (S A O levels person place : ℕ) (s : StateSe
     → Sought O (anyTest t S A O levels (x .states) person place) above wanted found blocking
     → Sought O (anyTest t S A O levels (stepped t (bitOr A O) (credential t (suc place) .role) s) person place) above wanted found blocking
 sought-moved t S A O levels person place s told sought = rw (steps t (bitOr A O) _ s told) at sought
+
+-- a goal that may be sought: levels are left, and principal and role have places
+pub record Open (t : List ℕ) (levels person place : ℕ) : Type 0 where
+  pub left : levels ≡ 0 → ⊥
+  pub there : place < credentials t
+  pub few-persons : person < mostCredentials
+  pub few-places : place < mostCredentials
 
 -- levels are left, the role is defined, and the rows have the principal
 module _ (t rows : List ℕ) (last person place levels : ℕ) (may : mayBeProved t rows last person place levels ≡ true) where

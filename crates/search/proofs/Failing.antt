@@ -1,5 +1,5 @@
--- Failures, and the pairs that stood in the way: of no credential, of one more, of a goal that came on the branch; and what the
--- memory has of them.
+-- Failures and their blocking pairs: of no credential, of one more, of a goal that came on the branch; and what the memory has of
+-- them.
 use mathlib.Core.Path.{_≡_, refl, sym, ap, _∙_}
 use mathlib.Core.List.{List}
 use mathlib.Core.Bool.{Bool, true, false, not}
@@ -68,12 +68,12 @@ module _ (person place : ℕ) (p r : ℕ) where
   abbrev same : Bool
   same = eqb person p and eqb place r
 
--- a goal that failed once it was on the branch: it does not stand in its own way
+-- a goal that failed once it was on the branch: its own pair does not block it
 module _ (person place : ℕ) (blocking rest : Above) (spared : Spared blocking person place rest) where
   kept : (p r : ℕ) → r < mostCredentials → pairAbove blocking p r ≡ true → same person place p r ≡ false → pairAbove rest p r ≡ true
   kept p r l on other = spared p r l ∙ and-both on (ap not other)
 
-  -- what is met below it is met above it, but for itself
+  -- what blocks it below blocks it above, but for its own pair
   pub covered-above : (above : Above) → Wide above → Covers blocking (withPair above person place) → Covers rest above
   covered-above above wide covers p r l on =
       let both = sym (spared p r l) ∙ on in
@@ -143,7 +143,7 @@ module _ (t : List ℕ) (S A O : ℕ) where
             sym (level-none t S A O levels above s person place X (sym (holds .levels-is) ∙ blank (slotCell k 0)));
       }
 
-  -- a slot that speaks of the goal tells what it can meet here
+  -- a slot that is about the goal bounds what it can meet here
   module _ {memory : List ℕ} {k person place levels : ℕ} {s : StateSets} {above : Above} (remembered : Remembered t S A O memory)
       (recalled : Recalled memory k person place levels s above) (blocking : Above) (blocking-at : BlockingAt memory k blocking) where
     pub recalled-covered : Covers blocking above

@@ -1,5 +1,5 @@
--- Answers: which sets can be met, and what stood in the way of all others. How they are put together: of a credential more, of
--- goals that share out what is owed, of a goal that comes on the branch.
+-- Answers: which sets can be met, and the pairs that block all others. How answers are put together: for one more credential, for
+-- goals that share out what is owed, for a goal that comes on the branch.
 use mathlib.Core.Path.{_≡_, refl, sym, ap, _∙_}
 use mathlib.Core.List.{List, [], _∷_}
 use mathlib.Core.Bool.{Bool, true, false, not}
@@ -110,7 +110,7 @@ module _ {O : ℕ} {test : ℕ → Above → Bool} {above : Above} where
       not-missed true never = refl
       not-missed false never = absurd (never refl)
 
-  -- nothing else is found where more pairs stood in the way
+  -- an answer stays one with more blocking pairs
   pub judged-more : {found : Family} (blocking more : Above) → ((test : Above → Bool) → Fails test blocking → Fails test more)
       → Covers more above → Judged O test above found blocking → Judged O test above found more
   judged-more blocking more stays covered judged =

@@ -1,6 +1,6 @@
--- What the search answers and remembers. It asks which sets of automata can be met below a branch. The answer has sets that can,
--- a family, and the pairs of the branch that stood in the way of all others: what the family does not cover fails below every
--- branch that has these pairs. So a failure need not be found twice.
+-- What the search answers and remembers. It asks which sets of automata can be met below a branch. The answer has a family of sets
+-- that can, and the pairs of the branch that stood in the way of all others: the blocking pairs. What the family does not cover
+-- fails below every branch that has the blocking pairs. So a failure need not be found twice.
 use Prim.Native.Nat.{ℕ, suc, _<_, _≤_}
 use mathlib.Core.Path.{_≡_}
 use mathlib.Core.List.{List, []}
@@ -25,20 +25,20 @@ use Rattle.search.specs.Search.{ends, goalAt, proves, provesAt, provesWi
 abbrev pub Wide : Above → Type 0
 Wide above = length (above .persons) ≡ mostCredentials
 
--- every pair of these stands on the branch
+-- every blocking pair is on the branch
 abbrev pub Covers : Above → Above → Type 0
 Covers blocking above = (p r : ℕ) → r < mostCredentials → pairAbove blocking p r ≡ true → pairAbove above p r ≡ true
 
--- below every branch on which these pairs stand, the test fails
+-- the test fails below every branch that has the blocking pairs
 abbrev pub Fails : (Above → Bool) → Above → Type 0
 Fails test blocking = (above : Above) → Wide above → Covers blocking above → test above ≡ false
 
--- and they stand on this one
+-- and this branch has them
 pub record Failed (test : Above → Bool) (above blocking : Above) : Type 0 where
   pub covered : Covers blocking above
   pub fails : Fails test blocking
 
--- what the family does not cover of the parts of O fails below every branch on which these pairs stand
+-- what the family does not cover of the parts of O fails below every branch that has the blocking pairs
 abbrev pub Bounds : ℕ → (ℕ → Above → Bool) → Family → Above → Type 0
 Bounds O test found blocking = (X : ℕ) → part X O ≡ true → covers found X ≡ false → Fails (test X) blocking
 
@@ -47,7 +47,7 @@ pub record Finds (O : ℕ) (test : ℕ → Above → Bool) (above : Above) (foun
   pub inside : Inside found O
   pub passes : (X : ℕ) → X < allSets → inFamily found X ≡ true → test X above ≡ true
 
--- the answer to a test below a branch: what can be met, and what stood in the way of all else
+-- the answer to a test below a branch: what can be met, and the pairs that block all else
 pub record Judged (O : ℕ) (test : ℕ → Above → Bool) (above : Above) (found : Family) (blocking : Above) : Type 0 where
   pub finds : Finds O test above found
   pub covered : Covers blocking above
@@ -59,8 +59,8 @@ pub record Sought (O : ℕ) (test : ℕ → Above → Bool) (above : Above) (wan
   pub covered : Covers blocking above
   pub bounds : isPart wanted found ≡ false → Bounds O test found blocking
 
--- the memory has room for a slot, and each of its slots has a goal, and a family that has all that it can meet where what it has met
--- stands on the branch
+-- the memory has room for a slot, and each of its slots has a goal, its blocking pairs, and a family: an upper bound of what the goal
+-- can meet while its blocking pairs are on the branch
 pub record Remembered (t : List ℕ) (S A O : ℕ) (memory : List ℕ) : Type 0 where
   pub few : O < allSets
   pub room : SlotIn memory 0
@@ -68,7 +68,7 @@ pub record Remembered (t : List ℕ) (S A O : ℕ) (memory : List ℕ) : Type 0 
       → length (s .sets) ≡ mostAutomata → Holds memory k person place levels s blocking found
       → Bounds O (λ X above. provesAt t S A O levels above s person place X) found blocking
 
--- what a search tells of a branch: sets that can be met below it, and each that can is included in one of them
+-- what a search reports of a branch: sets that can be met below it, and each set that can is included in one of them
 pub record Told (O : ℕ) (test : ℕ → Above → Bool) (above : Above) (found : Family) : Type 0 where
   pub finds : Finds O test above found
   pub all : (X : ℕ) → part X O ≡ true → test X above ≡ true → covers found X ≡ true
@@ -77,6 +77,13 @@ pub record Told (O : ℕ) (test : ℕ → Above → Bool) (above : Above) (found
 -- met: the principal at `person` in the role at `place`
 abbrev pub goalTest : List ℕ → ℕ → ℕ → ℕ → ℕ → StateSets → ℕ → ℕ → ℕ → Above → Bool
 goalTest t S A O levels s person place = λ X above. provesAt t S A O levels above s person place X
+
+-- what a memory says of a goal below a branch, whatever table and credentials it is of: the blocking pairs are on the branch, and while
+-- they are, the goal can meet no more than the family `wanted`
+abbrev pub Recalls : ℕ → List ℕ → ℕ → ℕ → ℕ → StateSets → Above → Family → Above → Type 0
+Recalls O memory person place levels s above wanted blocking =
+    (t : List ℕ) (S A : ℕ) → Remembered t S A O memory
+    → Covers blocking above × Bounds O (goalTest t S A O levels s person place) wanted blocking
 
 -- credential i + 1 proves it to be in its role
 abbrev pub ownTest : List ℕ → ℕ → ℕ → ℕ → ℕ → StateSets → ℕ → ℕ → ℕ → Above → Bool
@@ -93,13 +100,6 @@ anyTest t S A O levels s person place = λ X above.
 abbrev pub sharedTest : List ℕ → ℕ → ℕ → ℕ → ℕ → StateSets → List Pair → ℕ → Above → Bool
 sharedTest t S A O levels s pairs = λ X above.
     shares (λ (p : Pair) Y. provesAt t S A O levels above s (p .person) (p .place) Y) O pairs X
-
--- a goal that may be sought: levels are left, and principal and role have places
-pub record Open (t : List ℕ) (levels person place : ℕ) : Type 0 where
-  pub left : levels ≡ 0 → ⊥
-  pub there : place < credentials t
-  pub few-persons : person < mostCredentials
-  pub few-places : place < mostCredentials
 
 abbrev pub noFamily : Family
 noFamily = record { words = [] }

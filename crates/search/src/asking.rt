@@ -60,7 +60,7 @@ pub fn link_asked(middle: usize, first: usize, person: usize, second: usize) -> 
 }
 
 impl Asked {
-    // A goal behind goal k that is the same one, or k itself.
+    // A goal after goal k that is the same one, or k itself.
     pub fn same_later(self, k: usize) -> usize
         requires { ⌜ Fits self × (k < self .len) ⌝ }
         ensures { λ r. ⌜ SameLater self k r ⌝ }

@@ -3,7 +3,7 @@
 // `derivation` promises: which goals a credential asks, and what may not repeat on a branch. specs/Search.antt says what the
 // answers mean, specs/Failing.antt what is remembered on the way.
 mod asking; // asking.rt: the goals that a credential asks
-mod seeking; // seeking.rt: a goal through a credential, and a credential through the goals of its premises
+mod seeking; // seeking.rt: goal search and credential search, which call each other
 
 pub use asking::Asked;
 pub use asking::link_asked;

@@ -1,13 +1,14 @@
-// The search itself: a goal through some credential, and a credential through the goals of its premises, each one level further
-// down. It finds which sets of the owed automata can be met. Where nothing is owed that is the empty set, or none at all. What could
-// not be met is remembered with the pairs of the branch that stood in the way, so that it is not sought again where they stand
-// (crate failures).
+// The search itself: `goal_search` tries the credentials that define the goal's role, `credential_search` the goals that a credential
+// asks, and the two call each other with fewer levels left. Both find which sets of the owed automata can be met. Where nothing is
+// owed that is the empty set, or no set at all. What could not be met is remembered with the pairs of the branch that stood in the
+// way, the blocking pairs, so that it is not sought again while these are on the branch (crate failures).
 use crate::asking;
 use crate::asking::Asked;
 use automata::StateSets;
 use families::Family;
 use goals::Terms;
 use members::Above;
+use sets::AutomatonSet;
 use sets::CredentialSet;
 use sets::StateSet;
 use table::INTERSECTION_CONTAINMENT;
@@ -24,27 +25,33 @@ ghost use Prim.Native.Nat.{suc, _<_};
 ghost use lib.ListN.{getD, length};
 ghost use lib.Bits.{bitOr};
 ghost use lib.Dec.{eqb};
-ghost use Rattle.families.specs.Families.{FamilyOf};
+ghost use Rattle.families.specs.Families.{FamilyOf, allSets};
 ghost use Rattle.table.specs.Limits.{mostParts};
 ghost use Rattle.table.specs.Layout.{credential, credentials};
-ghost use Rattle.members.specs.Above.{nothingAbove, pairAbove};
+ghost use Rattle.members.specs.Above.{nothingAbove};
 ghost use Rattle.failures.specs.Failures.{SlotIn};
 ghost use Rattle.goals.specs.Goals.{stepped};
 ghost use Rattle.search.specs.Asking.{Fits, askedPairs, pair};
 ghost use Rattle.search.specs.Search.{AllStand, Searched, Stands, Tried};
-ghost use Rattle.search.specs.Failing.{Bounds, Covers, Judged, Open, Remembered, Sought, anyTest, goalTest, ownTest};
-ghost use Rattle.search.specs.Failing.{LaterJudged, sharedTest};
+ghost use Rattle.search.specs.Failing.{Judged, LaterJudged, Recalls, Remembered, Sought};
+ghost use Rattle.search.specs.Failing.{anyTest, goalTest, ownTest, sharedTest};
 
-// What is found of a goal or of a credential: sets that can be met where it is proved, and which pairs of the branch stood in the way
-// of all that these do not include.
+// What is found of a goal or of a credential: sets that can be met where it is proved, and the pairs of the branch that stood in the
+// way of all other sets.
 pub struct Answer {
     pub found: Family,
     pub blocking: Above,
 }
 
-// The principal at `person` in the role at `place`, with so many levels left. Only what the table of members has is sought, no
-// pair twice on the branch, and nothing that is known to fail here: of a goal that is remembered no more is wanted than what it could
-// meet then, and otherwise all that is owed.
+// What is known of a goal before it is sought: while the blocking pairs are on the branch it can meet no more than `wanted`.
+struct Known {
+    wanted: Family,
+    blocking: Above,
+}
+
+// What can be met where the principal at `person` is proved to be in the role at `place`, with so many levels left. A goal fails
+// that the table of members does not have, that is on the branch already, or that is known to fail here. The search ends once it has
+// found all that the goal can still meet; if it finds less, that is remembered.
 pub fn goal_search(
     table: &[Number],
     index: &[u8],
@@ -72,82 +79,26 @@ pub fn goal_search(
         return failed(itself.with(person, place));
     }
     let slot = failures::slot(person, place, states, failures::slot_count(memory));
-    if !failures::recalls(memory, slot, person, place, levels, states, above) {
-        return wanted_search(
-            table,
-            index,
-            arcs,
-            rows,
-            terms,
-            Family::only(terms.owed),
-            Above::nothing(),
-            slot,
-            person,
-            place,
-            levels,
-            states,
-            above,
-            memory,
-        );
-    }
-    let known = failures::family_at(memory, slot);
-    let blocking = failures::blocking_at(memory, slot);
-    if known.is_none() {
-        return failed(blocking);
-    }
-    wanted_search(
-        table,
-        index,
-        arcs,
-        rows,
-        terms,
-        known,
-        blocking,
+    let known = recalled(
+        memory,
         slot,
+        terms.owed,
         person,
         place,
         levels,
         states,
         above,
-        memory,
-    )
-}
-
-// The same goal once more, of which it is known that where the pairs `met` stand it can meet no more than `wanted`. Less is
-// remembered.
-fn wanted_search(
-    table: &[Number],
-    index: &[u8],
-    arcs: &[StateSet],
-    rows: &[CredentialSet],
-    terms: Terms,
-    wanted: Family,
-    blocking: Above,
-    slot: usize,
-    person: usize,
-    place: usize,
-    levels: usize,
-    states: StateSets,
-    above: Above,
-    memory: &mut [u32],
-) -> Answer
-    requires { ⌜ Searched (now table) (now index) (now arcs) (now rows) (terms .allowed) levels (terms .last) ⌝ }
-    requires { ⌜ Stands (now table) person place × Open (now table) levels person place ⌝ }
-    requires { ⌜ (pairAbove above person place ≡ false) × SlotIn (now memory) slot ⌝ }
-    requires { ⌜ Covers blocking above × Bounds (terms .owed) (goalTest (now table) (terms .allowed) (terms .constraints) (terms .owed)
-        levels states person place) wanted blocking ⌝ }
-    requires { ⌜ Remembered (now table) (terms .allowed) (terms .constraints) (terms .owed) (now memory) ⌝ }
-    ensures { λ r. ⌜ Judged (terms .owed) (goalTest (now (table .entry)) (terms .allowed) (terms .constraints) (terms .owed)
-        levels states person place) above (r .found) (r .blocking)
-        × Remembered (now (table .entry)) (terms .allowed) (terms .constraints) (terms .owed) (now (memory .exit)) ⌝ }
-{
+    );
+    if known.wanted.is_none() {
+        return failed(known.blocking);
+    }
     let answer = definers_search(
         table,
         index,
         arcs,
         rows,
         terms,
-        wanted,
+        known.wanted,
         person,
         place,
         levels - 1,
@@ -156,17 +107,17 @@ fn wanted_search(
         memory,
     );
     let found = answer.found;
-    if wanted.is_part(found) {
-        return answered(found, blocking);
+    if known.wanted.is_part(found) {
+        return answered(found, known.blocking);
     }
     let less = failures::without(answer.blocking, person, place);
     failures::keep(memory, slot, person, place, levels, states, less, found);
     answered(found, less)
 }
 
-// Some allowed credential proves the goal, which stands on the branch now; so many levels are left for what it asks. Where an
-// imposed automaton is dead no word is accepted, so the branch is left; an owed one that is dead is met no more, so nobody waits for
-// it. No more credentials are tried once all that is wanted is found.
+// What can be met by the allowed credentials that define the goal's role. The goal is on the branch now, and so many levels are left
+// for what a credential asks. Where an imposed automaton is dead no word is accepted, so the branch is left; an owed one that is dead
+// can be met no more, so the search does not wait for it. No more credentials are tried once all that is wanted is found.
 fn definers_search(
     table: &[Number],
     index: &[u8],
@@ -224,7 +175,7 @@ fn definers_search(
     answered(found, blocking)
 }
 
-// Credential i + 1 proves the goal, with some middle; so many levels are left for what it asks.
+// What can be met where credential i + 1 proves the goal, with some middle; so many levels are left for what it asks.
 pub fn credential_search(
     table: &[Number],
     index: &[u8],
@@ -580,6 +531,32 @@ fn asked_search(
         above,
         memory,
     )
+}
+
+// What is known of the goal: no more can be met than the slot has, if it is about this goal, and otherwise than all that is owed.
+fn recalled(
+    memory: &[u32],
+    slot: usize,
+    owed: AutomatonSet,
+    person: usize,
+    place: usize,
+    levels: usize,
+    states: StateSets,
+    above: Above,
+) -> Known
+    requires { ⌜ SlotIn (now memory) slot × (owed < allSets) ⌝ }
+    ensures { λ r. ⌜ Recalls owed (now (memory .entry)) person place levels states above (r .wanted) (r .blocking) ⌝ }
+{
+    if failures::recalls(memory, slot, person, place, levels, states, above) {
+        return Known {
+            wanted: failures::family_at(memory, slot),
+            blocking: failures::blocking_at(memory, slot),
+        };
+    }
+    Known {
+        wanted: Family::only(owed),
+        blocking: Above::nothing(),
+    }
 }
 
 fn answered(found: Family, blocking: Above) -> Answer

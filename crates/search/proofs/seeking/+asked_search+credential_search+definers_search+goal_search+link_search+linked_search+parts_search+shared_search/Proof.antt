@@ -1,5 +1,5 @@
 -- The search meets its contracts, by the levels left: each loop knows what the credentials or middles that it has tried can meet, and
--- which pairs stood in the way of all else; or, over the goals of a credential, what those behind can meet together; and that the
+-- which pairs block all else; or, over the goals of a credential, what the later ones can meet together; and that the
 -- memory is as long as it was, and has only what is so. Assumes nothing.
 use Prim.Native.Nat.{ℕ, suc, _*_, _+_, _-_, _<_, _≤_}
 use mathlib.Core.Bool.{false}
@@ -7,13 +7,13 @@ use mathlib.Core.Logic.{inl, inr, ⊎-elim}
 use mathlib.Core.Path.{_≡_, _∙_, refl, sym}
 use native.Mathlib.Omega.{arith}
 use lib.ListN.{length, length-set}
-use borrow.Author.Tests.{not-false}
 use denote.Ref.{now}
 use borrow.Author.Needs.{needs}
 use borrow.Fn.Kinds.{In, Out}
 use borrow.Fn.PlainCycle.{Measures, is, falls, and}
 use Rattle.sets.specs.Logic.{anyBelow}
 use Rattle.table.specs.Limits.{mostAutomata, mostCredentials, mostParts}
+use Rattle.members.specs.Above.{pairAbove}
 use Rattle.failures.specs.Failures.{SlotIn}
 use Rattle.search.specs.Asking.{pairsFrom}
 use Rattle.search.specs.Search.{provesAt}
@@ -23,51 +23,45 @@ use Rattle.sets.proofs.Members.{meets-common, part-le}
 use Rattle.members.proofs.ByKind.{roles-few}
 use Rattle.search.proofs.Placing.{below-most, cell-roles, kind-other, kind-read, numbered, partMissed, row-fits}
 use Rattle.search.proofs.Placing.{searched-fewer}
-use Rattle.search.proofs.Failing.{covers-none, recalled-bounds, recalled-covered, remembered-more}
+use Rattle.search.proofs.Failing.{remembered-more}
 use Rattle.search.proofs.Judging.{judged-failed, judged-never, judged-same, no-sets, none-covered}
 use Rattle.search.proofs.Leaving.{dead-tried}
 use Rattle.search.proofs.Trying.{Middle, all-proved, part-failed, part-proved, part-repeated, parts-unlisted, stands-first}
 use Rattle.search.proofs.Trying.{stands-part, stands-second}
 use Rattle.search.proofs.Below.{goal-again, goal-known, goal-less, goal-unlisted, link-finds, link-next, link-skipped}
-use Rattle.search.proofs.Below.{linkedTest, opened, sought-enough}
+use Rattle.search.proofs.Below.{Open, linkedTest, opened, sought-enough}
 use Rattle.search.proofs.Below.{sought-judged, sought-moved, tried-all, tried-finds, tried-next, tried-none, tried-unused, triedTest}
 use Rattle.search.proofs.Answering.{asked-all, asked-failed, asked-stands, both-stand, imposed-demanded, later-next}
 use Rattle.search.proofs.Answering.{linked-all, linked-enough, links-none, shared-end, shared-next}
 use Rattle.search.proofs.Answering.{none-below, none-fails, none-owed}
-use Rattle.search.proofs.Answering.{only-bounds, roles-stand, same-judged, second-decides, shared-failed, two-or-four}
+use Rattle.search.proofs.Answering.{roles-stand, same-judged, second-decides, shared-failed, two-or-four}
 use Rattle.search.proofs.Answering.{word-judged, zero-failed, zero-passes, zero-proved}
 use Rattle.search.proofs.seeking.asked_search.Reads as asked-search
 use Rattle.search.proofs.seeking.asked_search.Kinds as asked-search-kinds
-use Rattle.search.proofs.seeking.+asked_search+credential_search+definers_search+goal_search+link_search+linked_search+parts_search+shared_search+wanted_search.Lts-asked_search as asked-search-lts
+use Rattle.search.proofs.seeking.+asked_search+credential_search+definers_search+goal_search+link_search+linked_search+parts_search+shared_search.Lts-asked_search as asked-search-lts
 use Rattle.search.proofs.seeking.definers_search.Reads as definers-search
 use Rattle.search.proofs.seeking.definers_search.Kinds as definers-search-kinds
-use Rattle.search.proofs.seeking.+asked_search+credential_search+definers_search+goal_search+link_search+linked_search+parts_search+shared_search+wanted_search.Lts-definers_search as definers-search-lts
+use Rattle.search.proofs.seeking.+asked_search+credential_search+definers_search+goal_search+link_search+linked_search+parts_search+shared_search.Lts-definers_search as definers-search-lts
 use Rattle.search.proofs.seeking.goal_search.Reads as goal-search
 use Rattle.search.proofs.seeking.goal_search.Kinds as goal-search-kinds
-use Rattle.search.proofs.seeking.+asked_search+credential_search+definers_search+goal_search+link_search+linked_search+parts_search+shared_search+wanted_search.Lts-goal_search as goal-search-lts
+use Rattle.search.proofs.seeking.+asked_search+credential_search+definers_search+goal_search+link_search+linked_search+parts_search+shared_search.Lts-goal_search as goal-search-lts
 use Rattle.search.proofs.seeking.link_search.Reads as link-search
 use Rattle.search.proofs.seeking.link_search.Kinds as link-search-kinds
-use Rattle.search.proofs.seeking.+asked_search+credential_search+definers_search+goal_search+link_search+linked_search+parts_search+shared_search+wanted_search.Lts-link_search as link-search-lts
+use Rattle.search.proofs.seeking.+asked_search+credential_search+definers_search+goal_search+link_search+linked_search+parts_search+shared_search.Lts-link_search as link-search-lts
 use Rattle.search.proofs.seeking.linked_search.Reads as linked-search
 use Rattle.search.proofs.seeking.linked_search.Kinds as linked-search-kinds
-use Rattle.search.proofs.seeking.+asked_search+credential_search+definers_search+goal_search+link_search+linked_search+parts_search+shared_search+wanted_search.Lts-linked_search as linked-search-lts
+use Rattle.search.proofs.seeking.+asked_search+credential_search+definers_search+goal_search+link_search+linked_search+parts_search+shared_search.Lts-linked_search as linked-search-lts
 use Rattle.search.proofs.seeking.parts_search.Reads as parts-search
 use Rattle.search.proofs.seeking.parts_search.Kinds as parts-search-kinds
-use Rattle.search.proofs.seeking.+asked_search+credential_search+definers_search+goal_search+link_search+linked_search+parts_search+shared_search+wanted_search.Lts-parts_search as parts-search-lts
+use Rattle.search.proofs.seeking.+asked_search+credential_search+definers_search+goal_search+link_search+linked_search+parts_search+shared_search.Lts-parts_search as parts-search-lts
 use Rattle.search.proofs.seeking.shared_search.Reads as shared-search
 use Rattle.search.proofs.seeking.shared_search.Kinds as shared-search-kinds
-use Rattle.search.proofs.seeking.+asked_search+credential_search+definers_search+goal_search+link_search+linked_search+parts_search+shared_search+wanted_search.Lts-shared_search as shared-search-lts
+use Rattle.search.proofs.seeking.+asked_search+credential_search+definers_search+goal_search+link_search+linked_search+parts_search+shared_search.Lts-shared_search as shared-search-lts
 use Rattle.search.proofs.seeking.credential_search.Reads as credential-search
 use Rattle.search.proofs.seeking.credential_search.Kinds as credential-search-kinds
-use Rattle.search.proofs.seeking.+asked_search+credential_search+definers_search+goal_search+link_search+linked_search+parts_search+shared_search+wanted_search.Lts-credential_search as credential-search-lts
-use Rattle.search.proofs.seeking.wanted_search.Reads as wanted-search
-use Rattle.search.proofs.seeking.wanted_search.Kinds as wanted-search-kinds
-use Rattle.search.proofs.seeking.+asked_search+credential_search+definers_search+goal_search+link_search+linked_search+parts_search+shared_search+wanted_search.Lts-wanted_search as wanted-search-lts
-use Rattle.failures.proofs.family_at.Reads as family-at-reads
+use Rattle.search.proofs.seeking.+asked_search+credential_search+definers_search+goal_search+link_search+linked_search+parts_search+shared_search.Lts-credential_search as credential-search-lts
 use Rattle.failures.proofs.joined.Reads as joined-reads
 use Rattle.failures.proofs.keep.Reads as keep-reads
-use Rattle.failures.proofs.blocking_at.Reads as blocking-at-reads
-use Rattle.failures.proofs.recalls.Reads as recalls-reads
 use Rattle.failures.proofs.slot.Reads as slot-reads
 use Rattle.failures.proofs.slot_count.Reads as slot-count-reads
 use Rattle.failures.proofs.without.Reads as without-reads
@@ -101,41 +95,39 @@ use Rattle.goals.proofs.trimmed.Reads as trimmed-reads
 use Rattle.search.proofs.seeking.answered.Reads as answered-reads
 use Rattle.search.proofs.seeking.failed.Reads as failed-reads
 use Rattle.search.proofs.seeking.proved.Reads as proved-reads
+use Rattle.search.proofs.seeking.recalled.Reads as recalled-reads
 use Rattle.table.proofs.layout.credential.Reads as credential-reads
 use Rattle.table.proofs.layout.credentials.Reads as credentials-reads
-use Rattle.search.proofs.seeking.+asked_search+credential_search+definers_search+goal_search+link_search+linked_search+parts_search+shared_search+wanted_search.{
+use Rattle.search.proofs.seeking.+asked_search+credential_search+definers_search+goal_search+link_search+linked_search+parts_search+shared_search.{
   statement,
 }
-use Rattle.search.proofs.seeking.+asked_search+credential_search+definers_search+goal_search+link_search+linked_search+parts_search+shared_search+wanted_search.Tie.{
+use Rattle.search.proofs.seeking.+asked_search+credential_search+definers_search+goal_search+link_search+linked_search+parts_search+shared_search.Tie.{
   close,
 }
 
 abbrev μ-asked-search : Measures 5 asked-search-kinds.ps ℕ
-μ-asked-search κs a = 9 * (a .1 .1 .1 .1 .1 .1 .1 .1 .1 .0) + 2
+μ-asked-search κs a = 7 * (a .1 .1 .1 .1 .1 .1 .1 .1 .1 .0) + 1
 
 abbrev μ-definers-search : Measures 5 definers-search-kinds.ps ℕ
-μ-definers-search κs a = 9 * (a .1 .1 .1 .1 .1 .1 .1 .1 .0) + 7
+μ-definers-search κs a = 7 * (a .1 .1 .1 .1 .1 .1 .1 .1 .0) + 6
 
 abbrev μ-goal-search : Measures 5 goal-search-kinds.ps ℕ
-μ-goal-search κs a = 9 * (a .1 .1 .1 .1 .1 .1 .1 .0) + 1
+μ-goal-search κs a = 7 * (a .1 .1 .1 .1 .1 .1 .1 .0)
 
 abbrev μ-link-search : Measures 5 link-search-kinds.ps ℕ
-μ-link-search κs a = 9 * (a .1 .1 .1 .1 .1 .1 .1 .1 .1 .0) + 4
+μ-link-search κs a = 7 * (a .1 .1 .1 .1 .1 .1 .1 .1 .1 .0) + 3
 
 abbrev μ-linked-search : Measures 5 linked-search-kinds.ps ℕ
-μ-linked-search κs a = 9 * (a .1 .1 .1 .1 .1 .1 .1 .0) + 5
+μ-linked-search κs a = 7 * (a .1 .1 .1 .1 .1 .1 .1 .0) + 4
 
 abbrev μ-parts-search : Measures 5 parts-search-kinds.ps ℕ
-μ-parts-search κs a = 9 * (a .1 .1 .1 .1 .1 .1 .1 .0) + 4
+μ-parts-search κs a = 7 * (a .1 .1 .1 .1 .1 .1 .1 .0) + 3
 
 abbrev μ-shared-search : Measures 5 shared-search-kinds.ps ℕ
-μ-shared-search κs a = 9 * (a .1 .1 .1 .1 .1 .1 .0) + 3
+μ-shared-search κs a = 7 * (a .1 .1 .1 .1 .1 .1 .0) + 2
 
 abbrev μ-credential-search : Measures 5 credential-search-kinds.ps ℕ
-μ-credential-search κs a = 9 * (a .1 .1 .1 .1 .1 .1 .1 .0) + 6
-
-abbrev μ-wanted-search : Measures 5 wanted-search-kinds.ps ℕ
-μ-wanted-search κs a = 9 * (a .1 .1 .1 .1 .1 .1 .1 .1 .1 .1 .0)
+μ-credential-search κs a = 7 * (a .1 .1 .1 .1 .1 .1 .1 .0) + 5
 
 abbrev asked-search-at : ℕ → In 5 asked-search-kinds.ps
 asked-search-at t =
@@ -203,14 +195,6 @@ credential-search-below t =
     (falls 5 credential-search-kinds.ps _<_ μ-credential-search t)
     credential-search.Pre
 
-abbrev wanted-search-at : ℕ → In 5 wanted-search-kinds.ps
-wanted-search-at t =
-    and 5 wanted-search-kinds.ps (is 5 wanted-search-kinds.ps μ-wanted-search t) wanted-search.Pre
-
-abbrev wanted-search-below : ℕ → In 5 wanted-search-kinds.ps
-wanted-search-below t =
-    and 5 wanted-search-kinds.ps (falls 5 wanted-search-kinds.ps _<_ μ-wanted-search t) wanted-search.Pre
-
 abbrev asked-search-claims : ℕ → asked-search-lts.Claims
 asked-search-claims t = (same-later-reads.Asked, same-later-reads.Learnt, answered-reads.Asked, answered-reads.Learnt, goal-search-below t, goal-search.Post)
 
@@ -218,7 +202,7 @@ abbrev definers-search-claims : ℕ → definers-search-lts.Claims
 definers-search-claims t = (stepped-reads.Asked, stepped-reads.Learnt, any-dead-reads.Asked, any-dead-reads.Learnt, nothing-reads.Asked, nothing-reads.Learnt, failed-reads.Asked, failed-reads.Learnt, left-owed-reads.Asked, left-owed-reads.Learnt, credentials-reads.Asked, credentials-reads.Learnt, none-reads.Asked, none-reads.Learnt, may-use-reads.Asked, may-use-reads.Learnt, credential-search-below t, credential-search.Post, or-reads.Asked, or-reads.Learnt, is-enough-reads.Asked, is-enough-reads.Learnt, answered-reads.Asked, answered-reads.Learnt, joined-reads.Asked, joined-reads.Learnt)
 
 abbrev goal-search-claims : ℕ → goal-search-lts.Claims
-goal-search-claims t = (may-be-proved-reads.Asked, may-be-proved-reads.Learnt, nothing-reads.Asked, nothing-reads.Learnt, failed-reads.Asked, failed-reads.Learnt, above-Above-has-reads.Asked, above-Above-has-reads.Learnt, with-reads.Asked, with-reads.Learnt, slot-count-reads.Asked, slot-count-reads.Learnt, slot-reads.Asked, slot-reads.Learnt, recalls-reads.Asked, recalls-reads.Learnt, only-reads.Asked, only-reads.Learnt, wanted-search-below t, wanted-search.Post, family-at-reads.Asked, family-at-reads.Learnt, blocking-at-reads.Asked, blocking-at-reads.Learnt, is-none-reads.Asked, is-none-reads.Learnt)
+goal-search-claims t = (may-be-proved-reads.Asked, may-be-proved-reads.Learnt, nothing-reads.Asked, nothing-reads.Learnt, failed-reads.Asked, failed-reads.Learnt, above-Above-has-reads.Asked, above-Above-has-reads.Learnt, with-reads.Asked, with-reads.Learnt, slot-count-reads.Asked, slot-count-reads.Learnt, slot-reads.Asked, slot-reads.Learnt, recalled-reads.Asked, recalled-reads.Learnt, is-none-reads.Asked, is-none-reads.Learnt, definers-search-below t, definers-search.Post, is-part-reads.Asked, is-part-reads.Learnt, answered-reads.Asked, answered-reads.Learnt, without-reads.Asked, without-reads.Learnt, keep-reads.Asked, keep-reads.Learnt)
 
 abbrev link-search-claims : ℕ → link-search-lts.Claims
 link-search-claims t = (link-asked-reads.Asked, link-asked-reads.Learnt, shared-search-below t, shared-search.Post, goal-search-below t, goal-search.Post, is-none-reads.Asked, is-none-reads.Learnt, failed-reads.Asked, failed-reads.Learnt)
@@ -234,9 +218,6 @@ shared-search-claims t = (none-reads.Asked, none-reads.Learnt, only-reads.Asked,
 
 abbrev credential-search-claims : ℕ → credential-search-lts.Claims
 credential-search-claims t = (credential-reads.Asked, credential-reads.Learnt, ends-word-reads.Asked, ends-word-reads.Learnt, nothing-reads.Asked, nothing-reads.Learnt, answered-reads.Asked, answered-reads.Learnt, parts-search-below t, parts-search.Post, linked-search-below t, linked-search.Post, failed-reads.Asked, failed-reads.Learnt)
-
-abbrev wanted-search-claims : ℕ → wanted-search-lts.Claims
-wanted-search-claims t = (with-reads.Asked, with-reads.Learnt, definers-search-below t, definers-search.Post, is-part-reads.Asked, is-part-reads.Learnt, answered-reads.Asked, answered-reads.Learnt, without-reads.Asked, without-reads.Learnt, keep-reads.Asked, keep-reads.Learnt)
 
 -- a place of `asked_search`, or a need, where its measure is t; and what it needs, whatever its measure is
 abbrev asked-search-Place : Type 1
@@ -473,12 +454,32 @@ abbrev goal-search-needs : goal-search-Place → Type 0
 goal-search-needs need = (t : ℕ) → goal-search-place need t
 
 module _ (t : ℕ) (at : goal-search-place goal-search-lts.Start t) where
+  goal-search-wide : length (at .args .above .persons) ≡ mostCredentials
+  goal-search-wide = search needs
+
   goal-search-eight : length (at .args .states .sets) ≡ mostAutomata
   goal-search-eight = search needs
 
+-- the goal is not on the branch, and has a slot
 module _ (t : ℕ) (at : goal-search-place goal-search-lts.After-slot t) where
-  goal-search-inside : SlotIn (now (at .before .before .before .before .before .before .before .before .before .before .before .before .args .memory)) (at .slot .result)
+  abbrev goal-search-start : goal-search-place goal-search-lts.Start t
+  goal-search-start = at .before .before .before .before .before .before .before .before .before .before .before .before
+
+  goal-search-inside : SlotIn (now (goal-search-start .args .memory)) (at .slot .result)
   goal-search-inside = at .before .slot-count .ensures .inside _ (at .slot .ensures)
+
+  goal-search-may : let from = goal-search-start .args in Open (now (from .table)) (from .levels) (from .person) (from .place)
+  goal-search-may =
+      let (searched, (stands, remembered)) = goal-search-start .pre .1 in
+      opened searched stands (at .before .before .before .before .before .before .may-be-proved .ensures)
+      (at .before .before .before .before .before .if1 .left)
+
+  goal-search-new : let from = goal-search-start .args in pairAbove (from .above) (from .person) (from .place) ≡ false
+  goal-search-new = sym (at .before .before .before .before .has .ensures) ∙ at .before .before .before .if2 .left
+
+-- the credentials that define its role have been tried
+abbrev goal-search-slot : (t : ℕ) → goal-search-place goal-search-lts.After-definers-search t → goal-search-place goal-search-lts.After-slot t
+goal-search-slot t at = at .before .before .before .before .before .before .before
 
 goal-search-may-be-proved-requires : goal-search-needs goal-search-lts.Need-may-be-proved-requires
 goal-search-may-be-proved-requires t c κs = search needs
@@ -534,46 +535,10 @@ goal-search-slot-requires t c κs =
     let may = opened searched stands (c .before .before .before .before .before .may-be-proved .ensures) (c .before .before .before .before .if1 .left) in
     ((may .few-persons, may .few-places), c .slot-count .ensures .all 0 (remembered .room))
 
-goal-search-recalls-requires : goal-search-needs goal-search-lts.Need-recalls-requires
-goal-search-recalls-requires t c κs = goal-search-inside t (c .before)
-
-goal-search-only-requires : goal-search-needs goal-search-lts.Need-only-requires
-goal-search-only-requires t c κs = search needs
-
-goal-search-nothing-requires-3 : goal-search-needs goal-search-lts.Need-nothing-requires-3
-goal-search-nothing-requires-3 t c κs = search needs
-
-goal-search-wanted-search-requires : goal-search-needs goal-search-lts.Need-wanted-search-requires
-goal-search-wanted-search-requires t c κs =
-    let (searched, (stands, remembered)) = c .before .before .before .before .before .before .before .before .before .before .before .before .before .before .before .before .before .before .pre .1 in
-    let may = opened searched stands (c .before .before .before .before .before .before .before .before .before .before .before .before .may-be-proved .ensures) (c .before .before .before .before .before .before .before .before .before .before .before .if1 .left) in (
-      omega (arith, c .before .before .before .before .before .before .before .before .before .before .before .before .before .before .before .before .before .before .pre .0),
-      (
-        searched,
-        (
-          (stands, may),
-          (
-            (sym (c .before .before .before .before .before .before .before .before .before .before .has .ensures) ∙ c .before .before .before .before .before .before .before .before .before .if2 .left, goal-search-inside t (c .before .before .before .before .before .before)),
-            (
-              (rw (c .before .nothing3 .ensures) (covers-none _), only-bounds (remembered .few) _ _ _ (c .before .before .only .ensures)),
-              remembered,
-            ),
-          ),
-        ),
-      ),
-    )
-
-goal-search-same-length : goal-search-needs goal-search-lts.Need-same-length
-goal-search-same-length t c = search needs
-
-goal-search-returns-3 : goal-search-needs goal-search-lts.Need-returns-3
-goal-search-returns-3 t c = search needs
-
-goal-search-family-at-requires : goal-search-needs goal-search-lts.Need-family-at-requires
-goal-search-family-at-requires t c κs = goal-search-inside t (c .before .before .before .before)
-
-goal-search-blocking-at-requires : goal-search-needs goal-search-lts.Need-blocking-at-requires
-goal-search-blocking-at-requires t c κs = goal-search-inside t (c .before .before .before .before .before .before)
+goal-search-recalled-requires : goal-search-needs goal-search-lts.Need-recalled-requires
+goal-search-recalled-requires t c κs =
+    let slot = c .before in
+    (goal-search-inside t slot, goal-search-start t slot .pre .1 .1 .1 .few)
 
 goal-search-is-none-requires : goal-search-needs goal-search-lts.Need-is-none-requires
 goal-search-is-none-requires t c κs = search needs
@@ -581,49 +546,92 @@ goal-search-is-none-requires t c κs = search needs
 goal-search-failed-requires-3 : goal-search-needs goal-search-lts.Need-failed-requires-3
 goal-search-failed-requires-3 t c κs = search needs
 
+goal-search-same-length : goal-search-needs goal-search-lts.Need-same-length
+goal-search-same-length t c = search needs
+
+goal-search-returns-3 : goal-search-needs goal-search-lts.Need-returns-3
+goal-search-returns-3 t c =
+    let recalled = c .before .before .before in
+    let remembered = goal-search-start t (recalled .before .before) .pre .1 .1 .1 in
+    let (covered, bounds) = recalled .recalled .ensures _ _ _ remembered in
+    let none = no-sets _ _ (c .before .before .is-none .ensures) (c .before .if3 .taken) in (
+      rw (c .failed3 .ensures .1) (judged-failed (c .failed3 .ensures .0) covered (λ X owed. bounds X owed (none-covered _ none X))),
+      remembered,
+    )
+
+goal-search-sub-definers-search : goal-search-needs goal-search-lts.Need-sub-definers-search
+goal-search-sub-definers-search t c = omega (arith, goal-search-may t (c .before .before .before .before) .left)
+
+goal-search-with-requires-2 : goal-search-needs goal-search-lts.Need-with-requires-2
+goal-search-with-requires-2 t c κs =
+    let may = goal-search-may t (c .before .before .before .before) in
+    (may .few-persons, may .few-places)
+
+goal-search-definers-search-requires : goal-search-needs goal-search-lts.Need-definers-search-requires
+goal-search-definers-search-requires t c κs =
+    let slot = c .before .before .before .before .before .before in
+    let (measured, (searched, (stands, remembered))) = goal-search-start t slot .pre in
+    let may = goal-search-may t slot in (
+      omega (arith, measured, may .left),
+      (searched-fewer _ (omega arith) searched, ((stands, may .there), remembered)),
+    )
+
+goal-search-is-part-requires : goal-search-needs goal-search-lts.Need-is-part-requires
+goal-search-is-part-requires t c κs = search needs
+
+goal-search-answered-requires : goal-search-needs goal-search-lts.Need-answered-requires
+goal-search-answered-requires t c κs = search needs
+
 goal-search-same-length-2 : goal-search-needs goal-search-lts.Need-same-length-2
 goal-search-same-length-2 t c = search needs
 
 goal-search-returns-4 : goal-search-needs goal-search-lts.Need-returns-4
 goal-search-returns-4 t c =
-    let (searched, (stands, remembered)) = c .before .before .before .before .before .before .before .before .before .before .before .before .before .before .before .before .before .before .before .before .before .before .pre .1 in
-    let recalled = c .before .before .before .before .before .before .before .before .recalls .ensures (not-false _ (c .before .before .before .before .before .before .before .if3 .left)) in
-    let none = no-sets _ _ (c .before .before .is-none .ensures) (c .before .if4 .taken) in
-    let bounds = recalled-bounds _ _ _ _ remembered recalled _ (c .before .before .before .blocking-at .ensures) (goal-search-inside t (c .before .before .before .before .before .before .before .before .before .before)) (goal-search-eight t (c .before .before .before .before .before .before .before .before .before .before .before .before .before .before .before .before .before .before .before .before .before .before)) _ (c .before .before .before .before .before .family-at .ensures) in
-    let covered = recalled-covered _ _ _ _ remembered recalled _ (c .before .before .before .blocking-at .ensures) in (
-      rw (c .failed3 .ensures .1) (judged-failed (c .failed3 .ensures .0) covered (λ X owed. bounds X owed (none-covered _ none X))),
-      remembered,
+    let tried = c .before .before .before .before .before .before in
+    let slot = goal-search-slot t tried in
+    let (searched, (stands, remembered)) = goal-search-start t slot .pre .1 in
+    let (covered, bounds) = tried .before .before .before .before .before .recalled .ensures _ _ _ remembered in
+    let (sought, now-remembered) = tried .definers-search .ensures in
+    let (found-is, blocking-is) = c .answered .ensures in (
+      rw (found-is, blocking-is)
+          (goal-known _ _ _ _ _ _ _ _ stands (goal-search-may t slot) (goal-search-new t slot) (rw (tried .before .before .with2 .ensures) at sought)
+          covered bounds (c .before .before .is-part .ensures) (c .before .if4 .taken)),
+      now-remembered,
     )
 
-goal-search-wanted-search-requires-2 : goal-search-needs goal-search-lts.Need-wanted-search-requires-2
-goal-search-wanted-search-requires-2 t c κs =
-    let (searched, (stands, remembered)) = c .before .before .before .before .before .before .before .before .before .before .before .before .before .before .before .before .before .before .before .before .before .before .pre .1 in
-    let may = opened searched stands (c .before .before .before .before .before .before .before .before .before .before .before .before .before .before .before .before .may-be-proved .ensures) (c .before .before .before .before .before .before .before .before .before .before .before .before .before .before .before .if1 .left) in
-    let recalled = c .before .before .before .before .before .before .before .before .recalls .ensures (not-false _ (c .before .before .before .before .before .before .before .if3 .left)) in (
-      omega (arith, c .before .before .before .before .before .before .before .before .before .before .before .before .before .before .before .before .before .before .before .before .before .before .pre .0),
-      (
-        searched,
-        (
-          (stands, may),
-          (
-            (sym (c .before .before .before .before .before .before .before .before .before .before .before .before .before .before .has .ensures) ∙ c .before .before .before .before .before .before .before .before .before .before .before .before .before .if2 .left, goal-search-inside t (c .before .before .before .before .before .before .before .before .before .before)),
-            (
-              (
-                recalled-covered _ _ _ _ remembered recalled _ (c .before .before .before .blocking-at .ensures),
-                recalled-bounds _ _ _ _ remembered recalled _ (c .before .before .before .blocking-at .ensures) (goal-search-inside t (c .before .before .before .before .before .before .before .before .before .before)) (goal-search-eight t (c .before .before .before .before .before .before .before .before .before .before .before .before .before .before .before .before .before .before .before .before .before .before)) _ (c .before .before .before .before .before .family-at .ensures),
-              ),
-              remembered,
-            ),
-          ),
-        ),
-      ),
+goal-search-without-requires : goal-search-needs goal-search-lts.Need-without-requires
+goal-search-without-requires t c κs =
+    let may = goal-search-may t (goal-search-slot t (c .before .before .before .before .before)) in
+    (may .few-persons, may .few-places)
+
+goal-search-keep-requires : goal-search-needs goal-search-lts.Need-keep-requires
+goal-search-keep-requires t c κs =
+    let tried = c .before .before .before .before .before .before .before in
+    let slot = goal-search-slot t tried in
+    let may = goal-search-may t slot in (
+      rw (c .before .before .before .before .before .before .memory .given) (goal-search-inside t slot),
+      (may .few-persons, (may .few-places, goal-search-start t slot .pre .1 .0 .shallow)),
     )
+
+goal-search-answered-requires-2 : goal-search-needs goal-search-lts.Need-answered-requires-2
+goal-search-answered-requires-2 t c κs = search needs
 
 goal-search-same-length-3 : goal-search-needs goal-search-lts.Need-same-length-3
 goal-search-same-length-3 t c = search needs
 
 goal-search-returns-5 : goal-search-needs goal-search-lts.Need-returns-5
-goal-search-returns-5 t c = search needs
+goal-search-returns-5 t c =
+    let tried = c .before .before .before .before .before .before .before .before .before .before .before in
+    let slot = goal-search-slot t tried in
+    let start = goal-search-start t slot in
+    let stands = start .pre .1 .1 .0 in
+    let (sought, now-remembered) = tried .definers-search .ensures in
+    let (found-is, blocking-is) = c .answered2 .ensures in
+    let less = goal-less _ _ _ _ _ _ _ _ stands (goal-search-may t slot) (goal-search-new t slot) (rw (tried .before .before .with2 .ensures) at sought)
+    (goal-search-wide t start) _ (c .before .before .before .before .before .without .ensures) (c .before .before .before .before .before .before .before .is-part .ensures) (c .before .before .before .before .before .before .if4 .left) in (
+      rw (found-is, blocking-is) less,
+      remembered-more _ _ _ _ now-remembered (c .before .before .before .keep .ensures) (goal-search-eight t start) (less .bounds),
+    )
 
 -- a place of `link_search`, or a need, where its measure is t; and what it needs, whatever its measure is
 abbrev link-search-Place : Type 1
@@ -1231,87 +1239,9 @@ credential-search-returns-5 t c =
       remembered,
     )
 
--- a place of `wanted_search`, or a need, where its measure is t; and what it needs, whatever its measure is
-abbrev wanted-search-Place : Type 1
-wanted-search-Place =
-    wanted-search-lts.Claims → In 5 wanted-search-kinds.ps → Out 5 wanted-search-kinds.ps wanted-search-kinds.r
-    → Type 0
-
-abbrev wanted-search-place : wanted-search-Place → ℕ → Type 0
-wanted-search-place place t = place (wanted-search-claims t) (wanted-search-at t) wanted-search.Post
-
-abbrev wanted-search-needs : wanted-search-Place → Type 0
-wanted-search-needs need = (t : ℕ) → wanted-search-place need t
-
-module _ (t : ℕ) (at : wanted-search-place wanted-search-lts.Start t) where
-  wanted-search-wide : length (at .args .above .persons) ≡ mostCredentials
-  wanted-search-wide = search needs
-
-  wanted-search-eight : length (at .args .states .sets) ≡ mostAutomata
-  wanted-search-eight = search needs
-
-wanted-search-sub-definers-search : wanted-search-needs wanted-search-lts.Need-sub-definers-search
-wanted-search-sub-definers-search t c = search needs
-
-wanted-search-with-requires : wanted-search-needs wanted-search-lts.Need-with-requires
-wanted-search-with-requires t c κs = search needs
-
-wanted-search-definers-search-requires : wanted-search-needs wanted-search-lts.Need-definers-search-requires
-wanted-search-definers-search-requires t c κs =
-    let (searched, ((stands, may), ((new, inside), (known, remembered)))) = c .before .before .before .before .before .before .before .pre .1 in (
-      omega (arith, c .before .before .before .before .before .before .before .pre .0, may .left),
-      (searched-fewer _ (omega arith) searched, ((stands, may .there), remembered)),
-    )
-
-wanted-search-is-part-requires : wanted-search-needs wanted-search-lts.Need-is-part-requires
-wanted-search-is-part-requires t c κs = search needs
-
-wanted-search-answered-requires : wanted-search-needs wanted-search-lts.Need-answered-requires
-wanted-search-answered-requires t c κs = search needs
-
-wanted-search-same-length : wanted-search-needs wanted-search-lts.Need-same-length
-wanted-search-same-length t c = search needs
-
-wanted-search-returns : wanted-search-needs wanted-search-lts.Need-returns
-wanted-search-returns t c =
-    let (searched, ((stands, may), ((new, inside), ((covered, bounds), remembered)))) = c .before .before .before .before .before .before .before .before .before .before .before .before .before .before .pre .1 in
-    let (sought, now-remembered) = c .before .before .before .before .before .before .definers-search .ensures in
-    let (found-is, blocking-is) = c .answered .ensures in (
-      rw (found-is, blocking-is) (goal-known _ _ _ _ _ _ _ _ stands may new (rw (c .before .before .before .before .before .before .before .before .with .ensures) at sought) covered bounds
-          (c .before .before .is-part .ensures) (c .before .if1 .taken)),
-      now-remembered,
-    )
-
-wanted-search-without-requires : wanted-search-needs wanted-search-lts.Need-without-requires
-wanted-search-without-requires t c κs =
-    let (searched, ((stands, may), rest)) = c .before .before .before .before .before .before .before .before .before .before .before .before .before .pre .1 in
-    (may .few-persons, may .few-places)
-
-wanted-search-keep-requires : wanted-search-needs wanted-search-lts.Need-keep-requires
-wanted-search-keep-requires t c κs =
-    let (searched, ((stands, may), ((new, inside), rest))) = c .before .before .before .before .before .before .before .before .before .before .before .before .before .before .before .pre .1 in
-    (rw (c .before .before .before .before .before .before .memory .given) inside, (may .few-persons, (may .few-places, searched .shallow)))
-
-wanted-search-answered-requires-2 : wanted-search-needs wanted-search-lts.Need-answered-requires-2
-wanted-search-answered-requires-2 t c κs = search needs
-
-wanted-search-same-length-2 : wanted-search-needs wanted-search-lts.Need-same-length-2
-wanted-search-same-length-2 t c = search needs
-
-wanted-search-returns-2 : wanted-search-needs wanted-search-lts.Need-returns-2
-wanted-search-returns-2 t c =
-    let (searched, ((stands, may), ((new, inside), (known, remembered)))) = c .before .before .before .before .before .before .before .before .before .before .before .before .before .before .before .before .before .before .before .pre .1 in
-    let (sought, now-remembered) = c .before .before .before .before .before .before .before .before .before .before .before .definers-search .ensures in
-    let (found-is, blocking-is) = c .answered2 .ensures in
-    let less = goal-less _ _ _ _ _ _ _ _ stands may new (rw (c .before .before .before .before .before .before .before .before .before .before .before .before .before .with .ensures) at sought) (wanted-search-wide t (c .before .before .before .before .before .before .before .before .before .before .before .before .before .before .before .before .before .before .before)) _ (c .before .before .before .before .before .without .ensures)
-    (c .before .before .before .before .before .before .before .is-part .ensures) (c .before .before .before .before .before .before .if1 .left) in (
-      rw (found-is, blocking-is) less,
-      remembered-more _ _ _ _ now-remembered (c .before .before .before .keep .ensures) (wanted-search-eight t (c .before .before .before .before .before .before .before .before .before .before .before .before .before .before .before .before .before .before .before)) (less .bounds),
-    )
-
-pub +asked-search+credential-search+definers-search+goal-search+link-search+linked-search+parts-search+shared-search+wanted-search-spec :
+pub +asked-search+credential-search+definers-search+goal-search+link-search+linked-search+parts-search+shared-search-spec :
     {M : Type 1} → statement M
-+asked-search+credential-search+definers-search+goal-search+link-search+linked-search+parts-search+shared-search+wanted-search-spec =
++asked-search+credential-search+definers-search+goal-search+link-search+linked-search+parts-search+shared-search-spec =
     close
     μ-asked-search
     μ-credential-search
@@ -1321,7 +1251,6 @@ pub +asked-search+credential-search+definers-search+goal-search+link-search+link
     μ-linked-search
     μ-parts-search
     μ-shared-search
-    μ-wanted-search
     (λ t. asked-search-lts.spec (asked-search-claims t) (asked-search-at t)
     asked-search.Post
     (asked-search-same-later-requires t)
@@ -1398,19 +1327,21 @@ pub +asked-search+credential-search+definers-search+goal-search+link-search+link
     (goal-search-returns-2 t)
     (goal-search-slot-count-requires t)
     (goal-search-slot-requires t)
-    (goal-search-recalls-requires t)
-    (goal-search-only-requires t)
-    (goal-search-nothing-requires-3 t)
-    (goal-search-wanted-search-requires t)
-    (goal-search-same-length t)
-    (goal-search-returns-3 t)
-    (goal-search-family-at-requires t)
-    (goal-search-blocking-at-requires t)
+    (goal-search-recalled-requires t)
     (goal-search-is-none-requires t)
     (goal-search-failed-requires-3 t)
+    (goal-search-same-length t)
+    (goal-search-returns-3 t)
+    (goal-search-sub-definers-search t)
+    (goal-search-with-requires-2 t)
+    (goal-search-definers-search-requires t)
+    (goal-search-is-part-requires t)
+    (goal-search-answered-requires t)
     (goal-search-same-length-2 t)
     (goal-search-returns-4 t)
-    (goal-search-wanted-search-requires-2 t)
+    (goal-search-without-requires t)
+    (goal-search-keep-requires t)
+    (goal-search-answered-requires-2 t)
     (goal-search-same-length-3 t)
     (goal-search-returns-5 t))
     (λ t. link-search-lts.spec (link-search-claims t) (link-search-at t)
@@ -1479,7 +1410,7 @@ pub +asked-search+credential-search+definers-search+goal-search+link-search+link
     (parts-search-proved-requires t)
     (parts-search-same-length-3 t)
     (parts-search-returns-4 t))
-    (λ t. shared-search-lts.spec (shared-search-claims t) (shared-search-at t)
+    λ t. shared-search-lts.spec (shared-search-claims t) (shared-search-at t)
     shared-search.Post
     shared-search-Inv-loop
     shared-search-μ-loop
@@ -1502,18 +1433,4 @@ pub +asked-search+credential-search+definers-search+goal-search+link-search+link
     (shared-search-loop-again t)
     (shared-search-answered-requires t)
     (shared-search-same-length-2 t)
-    (shared-search-returns-2 t))
-    λ t. wanted-search-lts.spec (wanted-search-claims t) (wanted-search-at t)
-    wanted-search.Post
-    (wanted-search-sub-definers-search t)
-    (wanted-search-with-requires t)
-    (wanted-search-definers-search-requires t)
-    (wanted-search-is-part-requires t)
-    (wanted-search-answered-requires t)
-    (wanted-search-same-length t)
-    (wanted-search-returns t)
-    (wanted-search-without-requires t)
-    (wanted-search-keep-requires t)
-    (wanted-search-answered-requires-2 t)
-    (wanted-search-same-length-2 t)
-    (wanted-search-returns-2 t)
+    (shared-search-returns-2 t)
