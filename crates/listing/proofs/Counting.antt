@@ -61,6 +61,15 @@ module _ (cells count : ℕ) where
       from (longer l e) h = e
       from (listed l fits e) h = absurd (omega arith)
 
+  -- any other refusal than 10 is 9
+  pub other-counted : (number position : ℕ) → counted cells count ≡ refused number position → (number ≡ 10 → ⊥) → count ≡ 0
+  other-counted number position h other = go (counts cells count)
+    where
+      go : Counts cells count → count ≡ 0
+      go (none z e) = z
+      go (longer l e) = absurd (other (cc))
+      go (listed l fits e) = absurd (told-both h e)
+
   -- otherwise their number
   pub listed-counted : 0 < count → count ≤ cells → counted cells count ≡ accepted count
   listed-counted some fits = go (counts cells count)

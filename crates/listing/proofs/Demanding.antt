@@ -12,6 +12,7 @@ use Rattle.table.specs.Outcome.Outcome.{accepted, refused}
 use Rattle.table.specs.Holding.{WellFormed}
 use Rattle.table.specs.Checks.{AcceptedTable, Valid, requestOutcome, tableOutcome}
 use Rattle.table.specs.declared.Query.{Query}
+use Rattle.table.proofs.Stopping.{Stage, request-stage, table-stage}
 use Rattle.table.proofs.WellFormed.{request-accepted, well-formed}
 use Rattle.sets.specs.Sets.{part}
 use Rattle.sets.proofs.Members.{part-refl}
@@ -24,14 +25,14 @@ use Rattle.derivation.proofs.Above.{depth-fits}
 use Rattle.verifier.proofs.DemandTwo.{demand-two, every-refusal}
 use Rattle.sorted.specs.Sorted.{laid}
 use Rattle.listing.specs.Minimal.{afterwards, bufferAfter, counted, listing, minimalSets}
-use Rattle.listing.specs.Demands.{Admitted, DemandOne, DemandThree, Demands, Listed, MinimalSets, OneOf, Used, UsedBySlice}
+use Rattle.listing.specs.Demands.{Admitted, DemandOne, DemandThree, Demands, Listed, MinimalSets, OneOf}
+use Rattle.listing.specs.Demands.{RefusedBy, Used, UsedBySlice}
 use Rattle.listing.specs.Demands.OneOf.{first, second}
 use Rattle.sorted.proofs.Ascending.{one-place}
 use Rattle.listing.proofs.Minimals.{admitted-includes, minimal-sets, one-minimal-list}
 use Rattle.sorted.proofs.Lists.{laid-at, laid-beyond, laid-fills, laid-length, laid-none}
-use Rattle.listing.proofs.Counting.{accepted-counted, more-counted, none-counted, otherwise-counted}
-use Rattle.listing.proofs.Whole.{buffer-accepted, buffer-refused}
-use Rattle.listing.proofs.Stopping.{passes-or-stops, request-stage, table-stage}
+use Rattle.listing.proofs.Counting.{accepted-counted, more-counted, none-counted, other-counted, otherwise-counted}
+use Rattle.listing.proofs.Whole.{buffer-accepted}
 
 module _ (t : List ℕ) (wf : WellFormed t) (q : Query) (valid : Valid q) where
   -- the checks of table and query find nothing: the count of minimal sets is told, and they are laid into the buffer
@@ -134,23 +135,24 @@ demand-three t q buffer table valid =
     whole : (v : ℕ) → (v ≡ count) × (count ≤ cells) → (v ≡ count) × Listed t q buffer (laid sets buffer) v
     whole v (same, room) = (same, rw same (laid-listed t wf q valid sets m buffer room))
 
--- where the checks of table and query refuse, every call tells that, and the buffer is unchanged
+-- where the checks of table and query refuse, every call reports that
 all-stopped : (t : List ℕ) (q : Query) (rec buffer : List ℕ) (number position : ℕ) → requestOutcome t q ≡ refused number position
     → (verdict t q rec ≡ refused number position) × (listing t q (length buffer) ≡ refused number position)
-    × (bufferAfter t q buffer ≡ buffer)
 unfolding verdict listing _andThen_
-all-stopped t q rec buffer number position e = (rw e, rw e, buffer-refused t q buffer e)
+all-stopped t q rec buffer number position e = (rw e, rw e)
 
--- with 9 nothing is laid
-none-laid : (o : Outcome) (sets buffer : List ℕ) → (o andThen counted (length buffer) (length sets)) ≡ refused 9 0
-    → afterwards o sets buffer ≡ buffer
+-- a list that is refused with another number than 10 lays nothing
+nothing-laid : (o : Outcome) (sets buffer : List ℕ) (number position : ℕ)
+    → (o andThen counted (length buffer) (length sets)) ≡ refused number position → (number ≡ 10 → ⊥) → afterwards o sets buffer ≡ buffer
 unfolding afterwards _andThen_
-none-laid (accepted v) sets buffer e = laid-none sets buffer (none-counted (length buffer) (length sets) .0 e)
-none-laid (refused number position) sets buffer e = refl
+nothing-laid (accepted v) sets buffer number position e other =
+    laid-none sets buffer (other-counted (length buffer) (length sets) number position e other)
+nothing-laid (refused own at) sets buffer number position e other = refl
 
-none-unchanged : (t : List ℕ) (q : Query) (buffer : List ℕ) → listing t q (length buffer) ≡ refused 9 0 → bufferAfter t q buffer ≡ buffer
+left-unchanged : (t : List ℕ) (q : Query) (buffer : List ℕ) (number position : ℕ)
+    → listing t q (length buffer) ≡ refused number position → (number ≡ 10 → ⊥) → bufferAfter t q buffer ≡ buffer
 unfolding listing bufferAfter
-none-unchanged t q buffer e = none-laid (requestOutcome t q) (minimalSets t q) buffer e
+left-unchanged t q buffer = nothing-laid (requestOutcome t q) (minimalSets t q) buffer
 
 -- with 10 the buffer is filled with the first sets of the one list of minimal sets
 first-sets : (t : List ℕ) (q : Query) (buffer : List ℕ) → AcceptedTable t → Valid q → listing t q (length buffer) ≡ refused 10 0
@@ -172,14 +174,19 @@ judged-or-refused t q rec table valid (refused number position) e =
 both-accepted : (t : List ℕ) (q : Query) → requestOutcome t q ≡ accepted 0 → AcceptedTable t × Valid q
 both-accepted t q e = let (wf, valid) = request-accepted t q e in (wf .accepted, valid)
 
+-- a stage of checks passes or stops
+passes-or-stops : {A : Type 0} {Rows : ℕ → Type 0} (o : Outcome) → Stage Rows o → (o ≡ accepted 0 → A) → OneOf A (RefusedBy Rows o)
+passes-or-stops (accepted v) s f = first (f (ap accepted (s .value v refl)))
+passes-or-stops (refused number position) s f = second (number, position, refl, s .row number position refl)
+
 demand-one : (t : List ℕ) (q : Query) (rec buffer : List ℕ) → DemandOne t q rec buffer
 demand-one t q rec buffer =
     record {
-      table = passes-or-stops 7 (tableOutcome t) (table-stage 7 t (omega arith)) (λ e. e);
-      request = passes-or-stops 8 (requestOutcome t q) (request-stage 8 t q (omega arith)) (both-accepted t q);
+      table = passes-or-stops (tableOutcome t) (table-stage t) (λ e. e);
+      request = passes-or-stops (requestOutcome t q) (request-stage t q) (both-accepted t q);
       stopped = all-stopped t q rec buffer;
       verdicts = λ table valid. judged-or-refused t q rec table valid (verdict t q rec) refl;
-      unchanged = none-unchanged t q buffer;
+      unchanged = left-unchanged t q buffer;
       filled = first-sets t q buffer;
     }
 

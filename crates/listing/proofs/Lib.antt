@@ -1,6 +1,5 @@
 -- Laws that belong to no one function; crates above cite those marked `pub mod`.
 pub mod Counting
-pub mod Stopping
 pub mod Whole
 pub mod Minimals
 pub mod Demanding

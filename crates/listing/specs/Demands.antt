@@ -4,12 +4,12 @@ use Prim.Native.Nat.{ℕ, _^_, _<_, _≤_}
 use mathlib.Core.Path.{_≡_}
 use mathlib.Core.List.{List}
 use mathlib.Core.Bool.{true}
-use mathlib.Core.Logic.{_↔_, _⊎_}
+use mathlib.Core.Logic.{_↔_}
 use lib.ListN.{getD, length, take}
 use Rattle.table.specs.Outcome.{Outcome}
 use Rattle.table.specs.Outcome.Outcome.{accepted, refused}
 use Rattle.table.specs.Layout.{credentials}
-use Rattle.table.specs.Checks.{AcceptedTable, Valid, requestOutcome, tableOutcome}
+use Rattle.table.specs.Checks.{AcceptedTable, RequestRow, TableRow, Valid, requestOutcome, tableOutcome}
 use Rattle.table.specs.declared.Query.{Query}
 use Rattle.sets.specs.Sets.{part}
 use Rattle.derivation.specs.Bounds.{Holdable}
@@ -73,13 +73,9 @@ pub record DemandThree (t : List ℕ) (q : Query) (buffer : List ℕ) : Type 0 w
   pub listed : (count : ℕ) → listing t q (length buffer) ≡ accepted count
       → (count ≡ length sets) × Listed t q buffer (bufferAfter t q buffer) count
 
--- a row from 1 to the last, or row 17, which stands among those of a table
-abbrev pub UpTo : ℕ → ℕ → Type 0
-UpTo last number = ((1 ≤ number) × (number ≤ last)) ⊎ (number ≡ 17)
-
--- the outcome is a refusal with a number up to `last`
-abbrev pub RefusedUpTo : ℕ → Outcome → Type 0
-RefusedUpTo last outcome = (number position : ℕ) × (outcome ≡ refused number position) × UpTo last number
+-- the outcome is a refusal by one of these rows
+abbrev pub RefusedBy : (ℕ → Type 0) → Outcome → Type 0
+RefusedBy Rows outcome = (number position : ℕ) × (outcome ≡ refused number position) × Rows number
 
 -- the record is refused by the first thing that applies to it
 abbrev pub RefusedFirst : List ℕ → Query → List ℕ → Type 0
@@ -92,18 +88,18 @@ pub data OneOf (A B : Type 0) : Type 0 where
   second : B → OneOf A B
 
 pub record DemandOne (t : List ℕ) (q : Query) (rec buffer : List ℕ) : Type 0 where
-  -- the table call makes the checks of rows 1 to 7 and 17, and has nothing else to tell
-  pub table : OneOf (AcceptedTable t) (RefusedUpTo 7 (tableOutcome t))
-  -- verifying and listing make these and row 8 first, and what these refuse leaves the buffer unchanged
-  pub request : OneOf (AcceptedTable t × Valid q) (RefusedUpTo 8 (requestOutcome t q))
+  -- the table call makes the checks of the table's rows, and has nothing else to return
+  pub table : OneOf (AcceptedTable t) (RefusedBy TableRow (tableOutcome t))
+  -- verifying and listing make the checks of the request's rows first
+  pub request : OneOf (AcceptedTable t × Valid q) (RefusedBy RequestRow (requestOutcome t q))
   pub stopped : (number position : ℕ) → requestOutcome t q ≡ refused number position
-      → (verdict t q rec ≡ refused number position)
-      × (listing t q (length buffer) ≡ refused number position)
-      × (bufferAfter t q buffer ≡ buffer)
+      → (verdict t q rec ≡ refused number position) × (listing t q (length buffer) ≡ refused number position)
   -- past these a record is accepted, or refused by the first thing that applies to it
   pub verdicts : AcceptedTable t → Valid q → OneOf ((S : ℕ) × (verdict t q rec ≡ accepted S)) (RefusedFirst t q rec)
-  -- and a list is accepted, or refused with 9, which leaves the buffer unchanged, or with 10, which fills it with the first sets
-  pub unchanged : listing t q (length buffer) ≡ refused 9 0 → bufferAfter t q buffer ≡ buffer
+  -- every refusal of a list but 10 leaves the buffer unchanged
+  pub unchanged : (number position : ℕ) → listing t q (length buffer) ≡ refused number position → (number ≡ 10 → ⊥)
+      → bufferAfter t q buffer ≡ buffer
+  -- 10 fills it with the first sets
   pub filled : AcceptedTable t → Valid q → listing t q (length buffer) ≡ refused 10 0
       → (sets : List ℕ) → MinimalSets t q sets → bufferAfter t q buffer ≡ take (length buffer) sets
 

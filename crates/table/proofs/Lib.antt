@@ -2,6 +2,7 @@
 pub mod Meanings
 pub mod Fields
 pub mod Stages
+pub mod Stopping
 pub mod Sizes
 pub mod Chains
 pub mod Parts

@@ -1,9 +1,10 @@
--- docs/DEFINITION.md, "Where each input is stopped", rows 1 to 7, 17 and 8, with the ranges of "The table": what each record
--- must be, and the order in which the checks are made.
-use Prim.Native.Nat.{ℕ}
+-- docs/DEFINITION.md, "Where each input is stopped", the rows of a table and of a query, with the ranges of "The table": what
+-- each record must be, and the order in which the checks are made.
+use Prim.Native.Nat.{ℕ, _≤_}
 use mathlib.Core.Path.{_≡_}
 use mathlib.Core.List.{List}
 use mathlib.Core.Bool.{Bool, true, false}
+use mathlib.Core.Logic.{_⊎_}
 use lib.ListN.{length}
 use lib.Dec.{eqb, leb, ltb}
 use Rattle.sets.specs.Logic.{_and_, _or_, pick}
@@ -106,7 +107,15 @@ goodEdge t k = edgeOk (automata t) (edge t k)
 unfoldable pub goodMark : List ℕ → ℕ → Bool
 goodMark t k = markOk (automaton t k .mark)
 
--- the table call: rows 1 to 7 and 17
+-- the table's rows: those that the table call checks
+abbrev pub TableRow : ℕ → Type 0
+TableRow number = ((1 ≤ number) × (number ≤ 7)) ⊎ (number ≡ 17)
+
+-- the request's rows, which verifying and listing check first: the table's, then that of the query
+abbrev pub RequestRow : ℕ → Type 0
+RequestRow number = TableRow number ⊎ (number ≡ 8)
+
+-- the table call: the table's rows
 unfoldable pub tableOutcome : List ℕ → Outcome
 tableOutcome t =
     headOutcome t andThen
@@ -128,7 +137,7 @@ queryOutcome q =
     demand (isName (q .name)) 8 3 andThen
     demand (within 1 mostDepth (q .depth)) 8 4
 
--- verifying and listing make the checks of rows 1 to 7, 17 and 8 first
+-- verifying and listing make the checks of the request's rows first
 unfoldable pub requestOutcome : List ℕ → Query → Outcome
 requestOutcome t q = tableOutcome t andThen queryOutcome q
 
