@@ -4,6 +4,7 @@ pub mod Asking
 pub mod Applying
 pub mod Ruling
 pub mod Using
+pub mod Complying
 pub mod Bounding
 pub mod Attaching
 pub mod Running

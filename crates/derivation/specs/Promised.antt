@@ -1,12 +1,18 @@
--- Ticket 3 in its words: a branch may not repeat a pair of principal and role.
+-- Tickets 3 and 5 in their words: a branch may not repeat a pair of principal and role; one good word is enough where the mark
+-- says so.
 use Prim.Native.Nat.{ℕ, _<_}
 use mathlib.Core.Path.{_≡_}
-use mathlib.Core.List.{List}
+use mathlib.Core.List.{List, []}
 use mathlib.Core.Bool.{true}
 use mathlib.Core.Logic.{_↔_}
 use lib.ListN.{getD, length}
+use Rattle.table.specs.Layout.{Numbered, automata, automaton, credential}
+use Rattle.table.specs.Checks.{AcceptedTable}
 use Rattle.table.specs.declared.Goal.{Goal}
+use Rattle.automata.specs.Automata.{accepts}
 use Rattle.derivation.specs.Rules.{fresh}
+use Rattle.derivation.specs.Forest.{Derives, Forest, names}
+use Rattle.derivation.specs.Words.{Complies, met, words}
 use Rattle.derivation.specs.Held.{noGoal}
 
 -- a goal, which is such a pair, may come on a branch exactly if it is none of those that stand there
@@ -14,3 +20,29 @@ abbrev pub NoPairTwice : Type 0
 NoPairTwice =
     (branch : List Goal) (g : Goal)
     → ((fresh branch g ≡ true) ↔ ((i : ℕ) → i < length branch → getD branch i noGoal ≡ g → ⊥))
+
+-- a used automaton is one attached to a used credential
+abbrev pub UsedAutomaton : List ℕ → Forest → ℕ → Type 0
+UsedAutomaton t f k = (c : ℕ) × (names f c ≡ true) × (credential t c .automaton ≡ k)
+
+-- a used automaton with mark 1 is met exactly when some word of the record is accepted
+abbrev pub MetBySome : Type 0
+MetBySome =
+    (t : List ℕ) (f : Forest) (k : ℕ) → UsedAutomaton t f k → automaton t k .mark ≡ 1
+    → ((met t f k ≡ true) ↔ ((i : ℕ) × (i < length (words t [] f)) × (accepts t k (getD (words t [] f) i []) ≡ true)))
+
+-- with mark 0, exactly when every word is
+abbrev pub MetByEvery : Type 0
+MetByEvery =
+    (t : List ℕ) (f : Forest) (k : ℕ) → UsedAutomaton t f k → automaton t k .mark ≡ 0
+    → ((met t f k ≡ true) ↔ ((i : ℕ) → i < length (words t [] f) → accepts t k (getD (words t [] f) i []) ≡ true))
+
+-- an automaton that is not used is never in the way
+abbrev pub MetUnused : Type 0
+MetUnused = (t : List ℕ) (f : Forest) (k : ℕ) → (UsedAutomaton t f k → ⊥) → met t f k ≡ true
+
+-- a record complies exactly if there is no used automaton that is not met
+abbrev pub CompliesWhere : Type 0
+CompliesWhere =
+    (t : List ℕ) (levels : ℕ) (branch goals : List Goal) (f : Forest) → AcceptedTable t → Derives t levels branch goals f
+    → (Complies t f ↔ ((k : ℕ) → Numbered (automata t) k → UsedAutomaton t f k → met t f k ≡ true))

@@ -16,12 +16,12 @@ use Rattle.table.proofs.Stages.{refused-accepted, then-first, then-refused, the
 use Rattle.derivation.specs.Rules.{goalOf}
 use Rattle.derivation.specs.Forest.{Derives, Forest, written}
 use Rattle.derivation.specs.Words.{met}
+use Rattle.derivation.proofs.Complying.{complies-met, met-complies}
 use Rattle.reader.specs.Reading.{Reading}
 use Rattle.derivation.specs.Accepted.{Accepted}
 use Rattle.verifier.specs.Verdict.{judged, verdict}
 use Rattle.verifier.specs.DemandTwo.{DemandTwo, EveryRefusal, FirstRefusal, OneDerivation, Refuses}
 use Rattle.verifier.specs.DemandTwo.Refuses.{stops as reading, leftover, rejected}
-use Rattle.verifier.proofs.Complying.{complies-met, met-complies}
 use Rattle.verifier.proofs.Readings.{Ends, ends-stop, queried, reader-complete, reader-ends, reader-stops}
 use Rattle.verifier.proofs.Readings.Ends.{reads, stops}
 

@@ -1,6 +1,5 @@
 -- Laws that belong to no one function; crates above cite those marked `pub mod`.
 pub mod Readings
-pub mod Complying
 pub mod Judging
 pub mod DemandTwo
 pub mod Judged
