@@ -11,3 +11,4 @@ pub mod Encoding
 pub mod Opened
 pub mod Marks
 pub mod Upgrading
+pub mod Promised

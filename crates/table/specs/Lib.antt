@@ -4,5 +4,6 @@ pub mod Layout
 pub mod Encoded
 pub mod Checks
 pub mod Holding
+pub mod Promised
 pub mod Shop
 pub mod Upgraded
