@@ -2,6 +2,7 @@
 use mathlib.Core.Path.{_≡_, refl, sym, ap, ap₂, _∙_}
 use mathlib.Core.List.{List, [], _∷_}
 use mathlib.Core.Bool.{true, not}
+use mathlib.Core.Option.{some}
 use Prim.Native.Nat.{ℕ, zero, suc, _<_}
 use native.Mathlib.Omega.{arith}
 use lib.ListN.{getD, length}
@@ -10,9 +11,13 @@ use Rattle.sets.specs.Logic.{_and_}
 use Rattle.sets.proofs.Tests.{and-both, and-first, and-second, false-true, refuted}
 use Rattle.table.specs.Layout.{principal, sameRole}
 use Rattle.table.specs.declared.Goal.{Goal}
-use Rattle.derivation.specs.Rules.{fresh, goal, sameGoal}
+use Rattle.table.specs.declared.Query.{Query}
+use Rattle.derivation.specs.Rules.{fresh, goal, goalOf, sameGoal}
+use Rattle.derivation.specs.Forest.{Derives, Forest, written}
+use Rattle.derivation.specs.Forest.Derives.{step}
 use Rattle.derivation.specs.Held.{noGoal}
-use Rattle.derivation.specs.Promised.{NoPairTwice}
+use Rattle.derivation.specs.Promised.{BranchOf, DerivesNoneTwice, NoPairTwice, NoneTwice, RecordNoneTwice}
+use Rattle.derivation.specs.Promised.BranchOf.{below, beside, here}
 use Rattle.derivation.proofs.Applying.{same-role}
 
 same-goal : (g h : Goal) → sameGoal g h ≡ true → g ≡ h
@@ -43,3 +48,30 @@ may-come (above ∷ branch) g none =
 
 pub no-pair-twice : NoPairTwice
 no-pair-twice branch g = (none-there branch g, may-come branch g)
+
+-- a goal that may come on a branch on which none comes twice leaves it so
+one-more : (branch : List Goal) (g : Goal) → NoneTwice branch → fresh branch g ≡ true → NoneTwice (g ∷ branch)
+one-more branch g apart new zero zero less l e = omega arith
+one-more branch g apart new zero (suc j) less l e = none-there branch g new j (omega arith) (sym e)
+one-more branch g apart new (suc i) zero less l e = omega arith
+one-more branch g apart new (suc i) (suc j) less l e = apart i j (omega arith) (omega arith) e
+
+same-goals : {a b : List Goal} → some a ≡ some b → a ≡ b
+same-goals e = cc
+
+-- on a branch of a derivation none comes twice, if none does above it
+none-twice : {t : List ℕ} {levels : ℕ} {above goals branch : List Goal} {f : Forest} → NoneTwice above
+    → Derives t levels above goals f → BranchOf t branch above goals f → NoneTwice branch
+none-twice apart (step asks new d later) (here same) = rw same (one-more _ _ apart new)
+none-twice apart (step asks new d later) (below asks′ b) =
+    none-twice (one-more _ _ apart new) d (rw (same-goals (sym asks′ ∙ asks)) at b)
+none-twice apart (step asks new d later) (beside b) = none-twice apart later b
+
+pub derives-none-twice : DerivesNoneTwice
+derives-none-twice t levels goals branch f d b = none-twice (λ i j less l e. omega arith) d b
+
+-- so it is for the record of every derivation of the queried membership
+pub record-none-twice : (t : List ℕ) (q : Query) {f : Forest} {rec : List ℕ} → Derives t (q .depth) [] (goalOf q ∷ []) f
+    → written f ≡ rec → RecordNoneTwice t q rec
+record-none-twice t q {f} d whole =
+    record { forest = f; derives = d; whole = whole; apart = λ branch b. derives-none-twice t (q .depth) _ branch f d b }

@@ -3,4 +3,5 @@ pub mod Counting
 pub mod Whole
 pub mod Minimals
 pub mod Demanding
+pub mod Promised
 pub mod Shop

@@ -2,5 +2,6 @@
 pub mod Readings
 pub mod Judging
 pub mod DemandTwo
+pub mod Promised
 pub mod Judged
 pub mod Shop

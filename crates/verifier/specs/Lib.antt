@@ -1,3 +1,4 @@
 pub mod Kept
 pub mod Verdict
 pub mod DemandTwo
+pub mod Promised

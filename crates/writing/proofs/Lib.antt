@@ -8,3 +8,4 @@ pub mod Fitting
 pub mod Listed
 pub mod Passes
 pub mod WritesFirst
+pub mod Promised
