@@ -7,7 +7,7 @@ use native.Mathlib.Decide.{decLt}
 use lib.ListN.{length, length-append}
 use borrow.Author.Tests.{le-ltb, lt-ltb}
 use Rattle.sets.specs.Logic.{pick}
-use Rattle.printing.specs.Printed.{decimal, digits, glyph}
+use Rattle.printing.specs.Printed.{DecimalReads, decimal, digits, glyph, readAfter}
 
 -- any bound that is large enough gives the same digits
 digits-same : (k m n : ℕ) → n ≤ k → n ≤ m → digits k n ≡ digits m n
@@ -54,18 +54,13 @@ decimal-short (suc k) n h = go (decimal-short k (n / 10) (omega arith)) (decLt n
     go before (yes l) = omega (arith, length-one n l)
     go before (no l) = omega (arith, length-more n (omega arith))
 
--- the number that digits stand for, read from the left after those that stand for `before`
-unfoldable pub readAfter : ℕ → List ℕ → ℕ
-readAfter before [] = before
-readAfter before (d ∷ digits) = readAfter (10 * before + (d - 48)) digits
-
 read-append : (before : ℕ) (s t : List ℕ) → readAfter before (s ++ t) ≡ readAfter (readAfter before s) t
 unfolding readAfter
 read-append before [] t = refl
-read-append before (d ∷ s) t = read-append (10 * before + (d - 48)) s t
+read-append before (d ∷ s) t = read-append (10 * before + (d - glyph 0)) s t
 
 -- a number's digits stand for it
-pub decimal-reads : (n : ℕ) → readAfter 0 (decimal n) ≡ n
+pub decimal-reads : DecimalReads
 unfolding readAfter
 decimal-reads = by-digits (λ n. readAfter 0 (decimal n) ≡ n) one more
   where

@@ -1,6 +1,6 @@
 -- docs/DEFINITION.md, "The listing program": one decimal set a line, then `sets` and the count; or one line `refused`, the
 -- number, the position. What is printed is a list of bytes, each the ASCII code of a character.
-use Prim.Native.Nat.{ℕ, zero, suc, _+_, _/_, _%_}
+use Prim.Native.Nat.{ℕ, zero, suc, _+_, _-_, _*_, _/_, _%_}
 use Prim.Native.Char.{code}
 use Prim.Native.String.{String, [] as none, _∷_ as _then_}
 use mathlib.Core.Path.{_≡_}
@@ -29,6 +29,15 @@ digits (suc most) n = pick (ltb n 10) (glyph n ∷ []) (digits most (n / 10) ++ 
 
 unfoldable pub decimal : ℕ → List ℕ
 decimal n = digits n n
+
+-- the number that digits stand for, read from the left after those that stand for `before`
+unfoldable pub readAfter : ℕ → List ℕ → ℕ
+readAfter before [] = before
+readAfter before (d ∷ digits) = readAfter (10 * before + (d - glyph 0)) digits
+
+-- a number's digits stand for it
+abbrev pub DecimalReads : Type 0
+DecimalReads = (n : ℕ) → readAfter 0 (decimal n) ≡ n
 
 unfoldable pub line : ℕ → List ℕ
 line n = decimal n ++ ascii "\n"
