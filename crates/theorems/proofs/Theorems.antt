@@ -101,10 +101,6 @@ empty-where = automata.empty-where
 pub empty-stays : EmptyStays
 empty-stays = automata.empty-stays
 
--- a search that leaves a dead branch loses nothing
-pub nothing-lost : NothingLost
-nothing-lost = leaving.nothing-lost
-
 -- TICKET 3: a goal may come on a branch exactly if it is none of those there
 pub no-pair-twice : NoPairTwice
 no-pair-twice = derivation.no-pair-twice
@@ -177,25 +173,21 @@ same-minimal = unmarked.same-minimal
 pub same-first : SameFirst
 same-first = unmarked.same-first
 
--- BESIDES: a derivation within so many levels has at most so many nodes for each goal,
+-- BESIDES: a derivation within n levels has at most (4^n - 1) / 3 nodes for each goal,
 pub few-nodes : FewNodes
 few-nodes = bounding.few-nodes
 
--- which is the definition's number for the deepest limit;
+-- which is 1,431,655,765 for the deepest limit;
 pub most-nodes : MostNodes
 most-nodes = bounding.most-nodes
 
--- a slice can be so long,
+-- a slice can be that long,
 pub short-enough : ShortEnough
 short-enough = bounding.short-enough
 
 -- so that no derivation is excluded by what a slice can hold
 pub none-excluded : NoneExcluded
 none-excluded = bounding.none-excluded
-
--- where no constraint is imposed and none owed, the table of members is exact
-pub members-exact : MembersExact
-members-exact = search.members-are-exact
 
 -- the digits that the program prints stand for the number
 pub decimal-reads : DecimalReads
@@ -204,6 +196,15 @@ decimal-reads = decimals.decimal-reads
 -- the rows of the shop example have the expected results
 pub shop-rows : shop.Holds shop.shopRows
 shop-rows = shop.shop-rows
+
+-- INSIDE: what the demands do not rest on, in words of the search and of readings that are not ours.
+-- Where no constraint is imposed and none owed, the table of members is exact
+pub members-exact : MembersExact
+members-exact = search.members-are-exact
+
+-- a search that leaves a dead branch loses nothing
+pub nothing-lost : NothingLost
+nothing-lost = leaving.nothing-lost
 
 -- each misreading of the 2015 text differs from ours, and so does a verifier that judges only the first word
 pub misread : Misreadings
