@@ -132,7 +132,7 @@ static inline const char *bwlchareg_refusal_words(uint32_t number)
     case 6: return "the chain of the kind 4 credential does not have 2 to 4 cells";
     case 7: return "the edge's automaton, a state or the label is out of range, or owner and name are not as the label allows";
     case 8: return "the query's principal, owner, name or depth limit is out of range";
-    case 9: return "no set of credentials proves the membership";
+    case 9: return "there is no minimal set";
     case 10: return "there are more minimal sets than cells";
     case 11: return "fewer than two numbers remain for the node, or numbers remain after the tree";
     case 12: return "the node's credential or middle does not fit its goal";

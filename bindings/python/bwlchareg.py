@@ -120,7 +120,7 @@ _WORDS: Dict[int, str] = {
     6: "the chain of the kind 4 credential does not have 2 to 4 cells",
     7: "the edge's automaton, a state or the label is out of range, or owner and name are not as the label allows",
     8: "the query's principal, owner, name or depth limit is out of range",
-    9: "no set of credentials proves the membership",
+    9: "there is no minimal set",
     10: "there are more minimal sets than cells",
     11: "fewer than two numbers remain for the node, or numbers remain after the tree",
     12: "the node's credential or middle does not fit its goal",

@@ -138,7 +138,7 @@ class Refusals(unittest.TestCase):
 
     def test_in_words(self):
         said = {4: "refused 4 at 3, the credential: a field of the credential is outside what its kind allows"}
-        said[9] = "refused 9 at 0: no set of credentials proves the membership"
+        said[9] = "refused 9 at 0: there is no minimal set"
         said[18] = "refused 18 at 0: not a refusal of version " + bwlchareg.VERSION
         for number, words in said.items():
             self.assertEqual(str(Refusal(number, 3 if number == 4 else 0)), words)

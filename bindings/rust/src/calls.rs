@@ -49,8 +49,8 @@ pub fn check(table: &[u16]) -> Result<(), Refusal> {
 /// # Errors
 ///
 /// As for [`check`]; then [`Reason::Query`], at the first field of the query
-/// that is out of range. That no set proves the membership is not the query's
-/// fault: [`list`] tells it.
+/// that is out of range. That there is no minimal set is not the query's fault:
+/// [`list`] reports it.
 ///
 /// # Examples
 ///

@@ -26,10 +26,7 @@ macro_rules! reasons {
         ///
         /// assert_eq!(Reason::try_from(9), Ok(Reason::NoMinimalSet));
         /// assert_eq!(Reason::NoMinimalSet.number(), 9);
-        /// assert_eq!(
-        ///     Reason::NoMinimalSet.words(),
-        ///     "no set of credentials proves the membership"
-        /// );
+        /// assert_eq!(Reason::NoMinimalSet.words(), "there is no minimal set");
         /// assert!(Reason::try_from(0).is_err());
         /// ```
         #[derive(Clone, Copy, Debug, PartialEq, Eq, Hash)]
@@ -89,7 +86,9 @@ reasons! {
     Query = 8,
         "the query's principal, owner, name or depth limit is out of range",
         "principal, owner, name or depth limit";
-    NoMinimalSet = 9, "no set of credentials proves the membership", "";
+    /// No record is accepted: none derives the membership, or none that does
+    /// complies.
+    NoMinimalSet = 9, "there is no minimal set", "";
     LongerList = 10, "there are more minimal sets than cells", "";
     /// Where numbers remain after the tree, the position is the number of nodes
     /// plus 1.

@@ -123,7 +123,7 @@ fn listed(before: &str, items: Vec<String>) -> String {
 pub fn reason(wallet: &Wallet, query: Query, refusal: Refusal) -> String {
     let asked = wallet.names.query(query);
     match refusal.number {
-        Refusal::NONE => format!("no set of credentials proves {asked}"),
+        Refusal::NONE => format!("there is no minimal set for {asked}"),
         Refusal::LONGER => format!("more than {CELLS} minimal sets prove {asked}"),
         _ => refusal.to_string(),
     }
@@ -192,7 +192,7 @@ set 14
     #[test]
     fn refusals_are_said() {
         let words = |number, position| said(Answer::Refused(Refusal { number, position }));
-        let none = "refused 9: no set of credentials proves B in A.r within 2\n";
+        let none = "refused 9: there is no minimal set for B in A.r within 2\n";
         assert_eq!(words(9, 0), none);
         let more = "refused 10: more than 4096 minimal sets prove B in A.r within 2\n";
         assert_eq!(words(10, 0), more);

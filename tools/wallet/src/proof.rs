@@ -58,7 +58,7 @@ fn offer(wallet: &Wallet, query: Query) -> String {
         Err(refusal) if refusal.number == Refusal::LONGER => {
             format!("begins with {}, ...", named(&sets))
         }
-        Err(_) => "is empty: no set of credentials proves it".to_string(),
+        Err(_) => "is empty: there is no minimal set".to_string(),
     }
 }
 

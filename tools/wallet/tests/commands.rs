@@ -68,7 +68,7 @@ fn an_output_that_is_not_the_answer_is_not_explained() {
 fn a_list_that_is_refused_says_how_to_see_why() {
     let text = b"A.r <- B\nA.s <- C\nC in A.r within 1\n";
     let asked = "C in A.r within 1";
-    let none = format!("refused 9: no set of credentials proves {asked}");
+    let none = format!("refused 9: there is no minimal set for {asked}");
     let hint = "to see what stands in the way: wallet why";
     refused(&run(&["list", "-"], text), &format!("{none}\n{hint} -"));
     for (name, shown) in [("nobody.wallet", ""), ("it's nobody", "'")] {

@@ -121,7 +121,7 @@ fn check_other(wallet: &Wallet, asked: Query, set: u32, sets: &[u32]) {
     let begins = format!("refused 15: set {set} is not on the list for ");
     assert!(words.starts_with(&begins), "{words}");
     let offered = match sets {
-        [] => "which is empty: no set of credentials proves it".to_string(),
+        [] => "which is empty: there is no minimal set".to_string(),
         [only] => format!("which has {only}"),
         [first, second, ..] => format!(" {first}, {second}"),
     };

@@ -37,7 +37,7 @@ fn sets_that_are_not_listed() {
         "prove-nobody.wallet",
         b"Shop.discount <- Bob\nShop.staff <- Ann\nAnn in Shop.discount within 2\n",
     );
-    let none = "is empty: no set of credentials proves it";
+    let none = "is empty: there is no minimal set";
     not_listed("1", &nobody, none);
     // Nine ways are too many to name all.
     let lines = "Shop.discount <- Ann\n".repeat(9);

@@ -380,7 +380,7 @@ fn a_refusal_is_said_with_its_number() {
             .replace("discount <- Ann", "x <- Ann"),
     );
     check_answer(&made);
-    let none = "<h1>Refused 9: no set of credentials proves Ann in Shop.discount within 2</h1>";
+    let none = "<h1>Refused 9: there is no minimal set for Ann in Shop.discount within 2</h1>";
     assert!(made.page.html.contains(none));
     assert!(made.page.refused);
     assert!(!made.page.html.contains("<section id=\"sets\""));

@@ -145,7 +145,7 @@ fn counts_and_numbers_of_sets() {
     let answer = (count.code, count.text(), count.err);
     assert_eq!(answer, (Some(1), "0\n".to_string(), String::new()));
     let sets = run(&[&none[..], &["--sets"]].concat(), b"");
-    let told = format!("refused 9: no set of credentials proves {asked}");
+    let told = format!("refused 9: there is no minimal set for {asked}");
     refused_apart(&sets, &told);
 }
 

@@ -353,7 +353,7 @@ fn nothing_is_in_the_way() {
 
 #[test]
 fn the_depth_limit_is_too_low() {
-    let refused = "refused 9: no set of credentials proves Ann in Shop.discount within 1\n";
+    let refused = "refused 9: there is no minimal set for Ann in Shop.discount within 1\n";
     let low = SHOP.replace("within 2", "within 1");
     let words = "\nThe least depth limit at which a set exists is 2.\n";
     assert_eq!(said(&low), format!("{refused}{words}"));
@@ -365,7 +365,7 @@ fn the_depth_limit_is_too_low() {
 
 #[test]
 fn a_name_is_misspelt() {
-    let refused = "refused 9: no set of credentials proves Ann in Shop.discount within 2\n";
+    let refused = "refused 9: there is no minimal set for Ann in Shop.discount within 2\n";
     let more = "School.staff <- Bob\nBob.student <- School\nShop.accredited <- Bob\n";
     for (right, slip, names) in [
         // Each of the two stands once, and may be the wrong one.
@@ -430,7 +430,7 @@ fn a_name_is_misspelt() {
 #[test]
 fn a_credential_is_missing() {
     let text = SHOP.replace("School.student <- Ann", "School.staff <- Ann");
-    let words = "refused 9: no set of credentials proves Ann in Shop.discount within 2\n\n\
+    let words = "refused 9: there is no minimal set for Ann in Shop.discount within 2\n\n\
         No depth limit up to 16 gives a set.\n\n\
         No credential defines this role:\n\
         \x20 School.student, asked for by credential 1, line 1\n\n\
@@ -541,7 +541,7 @@ fn without_time_nothing_more_is_asked() {
     let why = why_within(&wallet, asked, Duration::ZERO);
     assert!(why.cut_short);
     assert_eq!((why.least, &why.unconstrained), (None, &None));
-    let words = "refused 9: no set of credentials proves Ann in Shop.discount within 1\n\n\
+    let words = "refused 9: there is no minimal set for Ann in Shop.discount within 1\n\n\
         Not all was asked: the library takes too long for this wallet.\n";
     assert_eq!(text(&wallet, &why), words);
 }
