@@ -161,11 +161,12 @@ static inline const char *bwlchareg_position_words(uint32_t number)
     }
 }
 
-/* Whether a table is accepted. Refuses with 1 to 7, then 17. */
+/* Whether a table is accepted. Refuses by the table's rows of docs/DEFINITION.md, "Where each input
+ * is stopped". */
 uint32_t bwlchareg_check(const uint16_t *table, size_t length, uint64_t *position);
 
-/* Whether a table is accepted and a query valid. Refuses with 1 to 7, 17, then 8. The calls below
- * make these checks first. */
+/* Whether a table is accepted and a query valid. Refuses by the request's rows: the table's rows,
+ * then 8. The calls below make these checks first. */
 uint32_t bwlchareg_check_query(const uint16_t *table, size_t length,
                                uint16_t principal, uint16_t owner, uint16_t name, uint16_t depth,
                                uint64_t *position);

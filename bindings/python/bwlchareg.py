@@ -190,7 +190,9 @@ class Refusal(Exception):
 
 
 def check(table: Numbers) -> None:
-    """Checks a table. Refuses with 1 to 7 and 17.
+    """Checks a table.
+
+    Refuses by the table's rows of docs/DEFINITION.md, "Where each input is stopped".
 
     >>> check([0, 0, 0, 0])
     >>> check([0, 0, 0])
@@ -201,9 +203,10 @@ def check(table: Numbers) -> None:
 
 
 def check_query(table: Numbers, query: Query) -> None:
-    """Checks a table and a query. Refuses with 1 to 8 and 17.
+    """Checks a table and a query.
 
-    The calls below make these checks first, and so refuse with these numbers too.
+    Refuses by the request's rows: the table's rows, then 8. The calls below make these checks
+    first, and so refuse with these numbers too.
     """
     _call(_library.bwlchareg_check_query, *_request(table, query))
 

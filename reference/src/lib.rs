@@ -9,7 +9,7 @@
 //! - [`refusal`]: why and where an input is refused
 //! - [`sorts`]: principals, role names, roles and goals
 //! - [`records`]: the head and the layout of a table (refusals 1 to 3)
-//! - [`table`]: what the records mean (refusals 4 to 7, and 17)
+//! - [`table`]: what the records mean (the table's other rows)
 //! - [`query`]: what is asked of a table (refusal 8)
 //! - [`derivation`]: the tree that a proof record writes down (refusals 11 to
 //!   13)
@@ -57,21 +57,22 @@ pub fn upgraded(base: &[u16]) -> Result<Vec<u16>, Refusal> {
     Ok(records::Records::upgrade(base)?.numbers())
 }
 
-/// Checks a table: refusals 1 to 7, then 17.
+/// Checks a table: the table's rows of docs/DEFINITION.md, "Where each input is
+/// stopped".
 pub fn check(table: &[u16]) -> Result<(), Refusal> {
     table::Table::read(table)?;
     Ok(())
 }
 
-/// Checks a table, then a query: refusals 1 to 7, then 17, then 8.
+/// Checks a table, then a query: the request's rows.
 pub fn check_query(table: &[u16], query: Query) -> Result<(), Refusal> {
     table::Table::read(table)?;
     query.read()?;
     Ok(())
 }
 
-/// Verifies a proof record: refusals 1 to 7, then 17, then 8, then 11 to 14. An
-/// accepted record is answered with its used set.
+/// Verifies a proof record: the request's rows, then 11 to 14. An accepted record
+/// is answered with its used set.
 pub fn verify(table: &[u16], query: Query, record: &[u16]) -> Result<u32, Refusal> {
     let table = table::Table::read(table)?;
     let asked = query.read()?;
@@ -80,18 +81,16 @@ pub fn verify(table: &[u16], query: Query, record: &[u16]) -> Result<u32, Refusa
     Ok(derivation.used_set())
 }
 
-/// Lists the minimal sets for a query in the first cells, ascending: refusals
-/// 1 to 7, then 17, then 8, then 9 and 10. An accepted list is answered with its
-/// count.
+/// Lists the minimal sets for a query in the first cells, ascending: the request's
+/// rows, then 9 and 10. An accepted list is answered with its count.
 pub fn list(table: &[u16], query: Query, cells: &mut [u32]) -> Result<usize, Refusal> {
     let table = table::Table::read(table)?;
     let asked = query.read()?;
     listing::write(&listing::minimal_sets(&table, asked), cells)
 }
 
-/// Writes the first record of a minimal set into the first cells: refusals 1 to
-/// 7, then 17, then 8, then 15 and 16. A record that is written is answered with
-/// its length.
+/// Writes the first record of a minimal set into the first cells: the request's
+/// rows, then 15 and 16. A record that is written is answered with its length.
 pub fn write(table: &[u16], query: Query, set: u32, cells: &mut [u16]) -> Result<usize, Refusal> {
     let table = table::Table::read(table)?;
     let asked = query.read()?;

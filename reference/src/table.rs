@@ -1,4 +1,4 @@
-//! What the records of a table mean: refusals 4 to 7, and 17.
+//! What the records of a table mean: the table's rows after those of its head.
 //!
 //! A record is read into a value of its sort. Where that cannot be done, the
 //! table is refused at that record.

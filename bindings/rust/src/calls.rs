@@ -11,8 +11,8 @@ use crate::{ffi, Query, Refusal};
 ///
 /// # Errors
 ///
-/// The reasons that speak of the table: [`Reason::ShortHead`] to
-/// [`Reason::Mark`], which are 1 to 7, then 17.
+/// The table's rows of docs/DEFINITION.md, "Where each input is stopped":
+/// [`Reason::ShortHead`] to [`Reason::Mark`].
 ///
 /// # Examples
 ///

@@ -20,7 +20,7 @@ ghost use Rattle.writing.specs.Writing.{recordAfter, writing};
 ghost use Rattle.bwlchareg.specs.Answer.{answered};
 ghost use Rattle.bwlchareg.specs.Version.{version};
 
-// Rows 1 to 7 and 17: whether the table is accepted.
+// The table's rows: whether the table is accepted.
 #[no_mangle]
 pub extern "C" fn bwlchareg_check(table: &[u16], position: &mut u64) -> u32
     ensures { λ r. ⌜ answered r (now (position .exit)) ≡ tableOutcome (now (table .entry)) ⌝ }
@@ -31,7 +31,7 @@ pub extern "C" fn bwlchareg_check(table: &[u16], position: &mut u64) -> u32
     }
 }
 
-// Rows 1 to 7, 17 and 8: whether the table is accepted and the query valid.
+// The request's rows: whether the table is accepted and the query valid.
 #[no_mangle]
 pub extern "C" fn bwlchareg_check_query(
     table: &[u16],

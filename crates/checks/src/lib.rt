@@ -1,4 +1,4 @@
-// The checks that stop a bad table or a bad query: rows 1 to 7, 17 and 8 of docs/DEFINITION.md, "Where each input is stopped".
+// The checks that stop a bad table or a bad query: the request's rows of docs/DEFINITION.md, "Where each input is stopped".
 // Every slice of every length gets "accepted" or exactly its refusal, and nothing is written. What the checks mean is in table's
 // specs/Checks.antt.
 mod rows; // rows.rt: the rows of checks over all records
@@ -25,7 +25,7 @@ pub enum QueryCheck {
     Refused(Refusal),
 }
 
-// Whether the table is accepted: rows 1 to 7 and 17, for any slice.
+// Whether the table is accepted: the table's rows, for any slice.
 pub fn check_table(table: &[Number]) -> TableCheck
     ensures { λ r. ⌜ tableTold r ≡ tableOutcome (now (table .entry)) ⌝ }
 {
@@ -60,7 +60,7 @@ pub fn check_table(table: &[Number]) -> TableCheck
     TableCheck::Accepted
 }
 
-// Whether the table is accepted and the query valid: rows 1 to 7, 17 and 8, which every call with a query makes first.
+// Whether the table is accepted and the query valid: the request's rows, which every call with a query makes first.
 pub fn check_request(table: &[Number], query: Query) -> QueryCheck
     ensures { λ r. ⌜ queryTold r ≡ requestOutcome (now (table .entry)) query ⌝ }
 {

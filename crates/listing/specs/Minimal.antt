@@ -33,7 +33,7 @@ counted cells count = demand (not (eqb count 0)) 9 0 andThen demand (leb count c
 abbrev pub Tells : List ℕ → Query → List ℕ → List ℕ → Outcome → Type 0
 Tells t q before after o = (o ≡ counted (length before) (length (minimalSets t q))) × (after ≡ laid (minimalSets t q) before)
 
--- rows 1 to 7, 17 and 8, then 9, 10 or the count
+-- the request's rows, then 9, 10 or the count
 unfoldable pub listing : List ℕ → Query → ℕ → Outcome
 listing t q cells = requestOutcome t q andThen counted cells (length (minimalSets t q))
 

@@ -29,7 +29,7 @@ pub enum Listing {
 // The most cuts that are kept. Where a search finds more, it goes on without them.
 const MOST_CUTS: usize = 4096;
 
-// Lists the minimal sets: rows 1 to 7, 17 and 8, then 9, 10 or the list, for any table, query and buffer. Cells beyond the list are
+// Lists the minimal sets: the request's rows, then 9, 10 or the list, for any table, query and buffer. Cells beyond the list are
 // unchanged, and so is the buffer on a refusal, except that 10 fills it with the first sets.
 pub fn list(table: &[Number], query: Query, sets: &mut [CredentialSet]) -> Listing
     ensures { λ r. ⌜ (listingTold r ≡ listing (now (table .entry)) query (length (now (sets .entry))))

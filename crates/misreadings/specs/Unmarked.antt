@@ -47,7 +47,7 @@ acceptsAllBefore t k (word ∷ more) = acceptsBefore t k word and acceptsAllBefo
 unfoldable pub metBefore : List ℕ → Forest → ℕ → Bool
 metBefore t f k = not (usesAutomaton t f k) or acceptsAllBefore t k (words t [] f)
 
--- rows 1 to 7 of the base layout and 8, then 11 to 14
+-- the base layout's rows, then 8, then 11 to 14
 unfoldable pub verdictBefore : List ℕ → Query → List ℕ → Outcome
 verdictBefore t q rec =
     baseOutcome t andThen queryOutcome q andThen judgedBy metBefore t (reader t (q .depth) [] (goalOf q ∷ []) rec 1)

@@ -82,7 +82,7 @@ module _ (t : List ℕ) (wf : WellFormed t) where
       let few = wf-chain i h four .most in
       cells-settled t (suc mostParts) big (credential t i .first) le (omega arith)
 
--- where rows 1 to 7, 17 and 8 find nothing, the table is accepted and the query valid
+-- where the request's rows find nothing, the table is accepted and the query valid
 pub request-accepted : (t : List ℕ) (q : Query) → requestOutcome t q ≡ accepted 0 → WellFormed t × Valid q
 unfolding requestOutcome
 request-accepted t q e =

@@ -1,4 +1,4 @@
--- docs/DEFINITION.md, "Where each input is stopped", the rows of a table and of a query, with the ranges of "The table": what
+-- docs/DEFINITION.md, "Where each input is stopped", the request's rows, with the ranges of "The table": what
 -- each record must be, and the order in which the checks are made.
 use Prim.Native.Nat.{ℕ, _≤_}
 use mathlib.Core.Path.{_≡_}
@@ -111,11 +111,11 @@ goodMark t k = markOk (automaton t k .mark)
 abbrev pub TableRow : ℕ → Type 0
 TableRow number = ((1 ≤ number) × (number ≤ 7)) ⊎ (number ≡ 17)
 
--- the request's rows, which verifying and listing check first: the table's, then that of the query
+-- the request's rows, which listing, verifying and writing check first: the table's, then that of the query
 abbrev pub RequestRow : ℕ → Type 0
 RequestRow number = TableRow number ⊎ (number ≡ 8)
 
--- the table call: the table's rows
+-- the checks of the table's rows
 unfoldable pub tableOutcome : List ℕ → Outcome
 tableOutcome t =
     headOutcome t andThen
@@ -137,7 +137,7 @@ queryOutcome q =
     demand (isName (q .name)) 8 3 andThen
     demand (within 1 mostDepth (q .depth)) 8 4
 
--- verifying and listing make the checks of the request's rows first
+-- the checks of the request's rows
 unfoldable pub requestOutcome : List ℕ → Query → Outcome
 requestOutcome t q = tableOutcome t andThen queryOutcome q
 

@@ -46,7 +46,7 @@ baseHeadOutcome t =
 unfoldable pub goodBaseEdge : List ℕ → ℕ → Bool
 goodBaseEdge t k = edgeOk (automata t) (baseEdge t k)
 
--- rows 1 to 7: no check looks at an automaton
+-- the base layout's rows, 1 to 7: no check looks at an automaton
 unfoldable pub baseOutcome : List ℕ → Outcome
 baseOutcome t =
     baseHeadOutcome t andThen

@@ -1,5 +1,5 @@
--- docs/DEFINITION.md, "Where each input is stopped": the verifier's end. Rows 1 to 7, 17 and 8, then 11 to 13 at each node,
--- then numbers left over, then 14.
+-- docs/DEFINITION.md, "Where each input is stopped": the verifier's end. The request's rows, then 11 to 13 at each node, then
+-- numbers left over, then 14.
 use Prim.Native.Nat.{ℕ}
 use mathlib.Core.List.{List, [], _∷_}
 use Rattle.table.specs.Outcome.{Outcome, _andThen_, demandEach}

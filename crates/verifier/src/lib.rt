@@ -33,7 +33,7 @@ pub enum Verdict {
 // So many numbers make a record long.
 const LONG: usize = 64;
 
-// Whether the record derives the queried membership and complies: rows 1 to 7, 17 and 8, then 11 to 14, for any three inputs.
+// Whether the record derives the queried membership and complies: the request's rows, then 11 to 14, for any three inputs.
 pub fn verify(table: &[Number], query: Query, rec: &[Number]) -> Verdict
     ensures { λ r. ⌜ verdictTold r ≡ verdict (now (table .entry)) query (now (rec .entry)) ⌝ }
 {

@@ -83,7 +83,7 @@ module _ (listed : Bool) (len cells : ℕ) where
       go (longer own l e) = absurd (not-16 e)
       go (whole own l e) = (own, l, e)
 
--- past rows 1 to 8 that is told, and only a record that fits changes the cells
+-- past the request's rows: `fitted` is the outcome, and only a record that fits changes the cells
 module _ (t : List ℕ) (q : Query) (S : ℕ) (before : List ℕ) where
   pub tells-unlisted : isMinimal t q S ≡ false → Tells t q S before before (refused 15 0)
   unfolding filled

@@ -92,7 +92,7 @@ module _ {t : List ℕ} (q : Query) {S A O : ℕ} (by : Settled t S A O) (most :
             over-laid _ cells after (walked .size) (omega (arith, all, walked .whole (omega arith)))
             (walked .over (omega arith) (omega (arith, all)))
 
--- past rows 1 to 8, and where they refuse
+-- past the request's rows, and where they refuse
 module _ (t : List ℕ) (q : Query) (S : ℕ) (before : List ℕ) where
   pub written-past : requestOutcome t q ≡ accepted 0 → {after : List ℕ} {o : Outcome} → Tells t q S before after o
       → (o ≡ writing t q S (length before)) × (after ≡ recordAfter t q S before)

@@ -31,7 +31,7 @@ writes-any : (t : List ℕ) (q : Query) (S : ℕ) (cells : List ℕ) → WritesA
 unfolding writing recordAfter filled _andThen_
 writes-any t q S cells = record { stopped = λ number position e. rw e; unchanged = λ number position e. rw e }
 
--- past rows 1 to 8
+-- past the request's rows
 module _ (t : List ℕ) (wf : WellFormed t) (q : Query) (valid : Valid q) (S : ℕ) (cells : List ℕ) where
   abbrev rec : List ℕ
   rec = firstRecord t q S

@@ -36,7 +36,7 @@ pub record First (t : List ℕ) (q : Query) (S : ℕ) (rec : List ℕ) : Type 0 
 
 -- for every table, query, set and cells, of every length
 pub record WritesAny (t : List ℕ) (q : Query) (S : ℕ) (cells : List ℕ) : Type 0 where
-  -- rows 1 to 8 come first
+  -- the request's rows come first
   pub stopped : (number position : ℕ) → requestOutcome t q ≡ refused number position
       → writing t q S (length cells) ≡ refused number position
   -- a refusal leaves every cell unchanged

@@ -21,7 +21,7 @@ use Rattle.writing.specs.declared.Written.the-variants as written′
 unfoldable pub fitted : Bool → ℕ → ℕ → Outcome
 fitted listed len cells = demand listed 15 0 andThen demand (leb len cells) 16 0 andThen accepted len
 
--- rows 1 to 8, then 15, 16 or the length
+-- the request's rows, then 15, 16 or the length
 unfoldable pub writing : List ℕ → Query → ℕ → ℕ → Outcome
 writing t q S cells = requestOutcome t q andThen fitted (isMinimal t q S) (length (firstRecord t q S)) cells
 
@@ -38,7 +38,7 @@ pub record Settled (t : List ℕ) (S A O : ℕ) : Type 0 where
   pub imposed : A ≡ everyOf t S
   pub owed : O ≡ owedOf t S
 
--- past rows 1 to 8: what is told, and what the cells hold afterwards
+-- past the request's rows: what is told, and what the cells hold afterwards
 abbrev pub Tells : List ℕ → Query → ℕ → List ℕ → List ℕ → Outcome → Type 0
 Tells t q S before after o =
     (o ≡ fitted (isMinimal t q S) (length (firstRecord t q S)) (length before)) × (after ≡ filled o (firstRecord t q S) before)

@@ -29,8 +29,8 @@ pub enum Written {
     Refused(Refusal),
 }
 
-// Writes the accepted record that uses exactly the set and comes first, number by number: rows 1 to 8, then 15, 16 or the
-// record, for any table, query, set and cells. Cells beyond the record are unchanged, and on a refusal all are.
+// Writes the accepted record that uses exactly the set and comes first, number by number: the request's rows, then 15, 16 or
+// the record, for any table, query, set and cells. Cells beyond the record are unchanged, and on a refusal all are.
 pub fn write(table: &[Number], query: Query, set: CredentialSet, rec: &mut [Number]) -> Written
     ensures { λ r. ⌜ (writtenTold r ≡ writing (now (table .entry)) query set (length (now (rec .entry))))
         × (now (rec .exit) ≡ recordAfter (now (table .entry)) query set (now (rec .entry))) ⌝ }

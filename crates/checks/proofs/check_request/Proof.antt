@@ -1,4 +1,4 @@
--- `checks::check_request` meets its contract: rows 1 to 7 and 17 are those of the table, then row 8. Assumes nothing.
+-- `checks::check_request` meets its contract: the table's rows, then row 8. Assumes nothing.
 use mathlib.Core.Path.{_∙_, ap, sym}
 use borrow.Author.Needs.{needs}
 use Rattle.table.specs.Checks.{requestOutcome}

@@ -1,4 +1,4 @@
--- `checks::check_table` meets its contract: the stages of rows 1 to 7 and 17, each asked where those before it have passed, so
+-- `checks::check_table` meets its contract: the stages of the table's rows, each asked where those before it have passed, so
 -- that what is left of the outcome is its own and that of those after it. Assumes nothing.
 use mathlib.Core.Path.{_∙_, _≡_, refl, sym}
 use mathlib.Core.List.{List}

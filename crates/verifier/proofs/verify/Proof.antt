@@ -1,5 +1,4 @@
--- `verifier::verify` meets its contract: rows 1 to 7, 17 and 8 are those of the request, then the record is judged. Assumes
--- nothing.
+-- `verifier::verify` meets its contract: the request's rows, then the record is judged. Assumes nothing.
 use mathlib.Core.Path.{_∙_, ap, sym}
 use borrow.Author.Needs.{needs}
 use Rattle.table.specs.Checks.{told}

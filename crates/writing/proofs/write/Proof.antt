@@ -1,4 +1,4 @@
--- `writing::write` meets its contract: rows 1 to 8 are those of the request, then the record is written. Assumes nothing.
+-- `writing::write` meets its contract: the request's rows, then the record is written. Assumes nothing.
 use mathlib.Core.Path.{sym, ap, _∙_}
 use Rattle.table.specs.Checks.{told}
 use Rattle.checks.specs.Told.{queryTold}
