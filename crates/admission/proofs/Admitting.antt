@@ -26,7 +26,7 @@ use Rattle.sets.proofs.Members.{part-or-left, part-or-right, part-refl, part-sh
 use Rattle.derivation.specs.Forest.{Derives, Forest, names, usedSet, written}
 use Rattle.derivation.specs.Rules.{goalOf}
 use Rattle.derivation.specs.Words.{Complies, acceptsAll, acceptsSome, isMet, usesAutomaton, words}
-use Rattle.derivation.specs.Attached.{automataOf}
+use Rattle.attached.specs.Attached.{automataOf}
 use Rattle.derivation.specs.Accepted.{Accepted}
 use Rattle.search.specs.Search.{AllAccept, SomeAccept, UsesOnly, provable}
 use Rattle.admission.specs.Admits.{Admits, admits, admitsBy, admitsTo, among, withEvery, withOwed, withoutAll}

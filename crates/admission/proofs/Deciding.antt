@@ -27,7 +27,7 @@ use Rattle.table.specs.Holding.{WellFormed}
 use Rattle.table.specs.declared.Credential.{Credential}
 use Rattle.table.specs.declared.Query.{Query}
 use Rattle.table.proofs.WellFormed.{wf-credential}
-use Rattle.derivation.specs.Attached.{automataOf, markedOf, owedOf}
+use Rattle.attached.specs.Attached.{automataOf, markedOf, owedOf}
 use Rattle.derivation.proofs.Using.{automaton-shows}
 use Rattle.members.specs.Members.{Members}
 use Rattle.search.specs.Search.{Prepared, TellsMet, provable}

@@ -13,7 +13,7 @@ use Rattle.table.specs.declared.Query.{Query}
 use Rattle.derivation.specs.Rules.{goalOf}
 use Rattle.derivation.specs.Forest.{Derives, Forest}
 use Rattle.derivation.specs.Words.{Complies}
-use Rattle.derivation.specs.Attached.{automataOf}
+use Rattle.attached.specs.Attached.{automataOf}
 use Rattle.search.specs.Search.{UsesOnly, provable}
 
 -- some derivation of the queried membership uses only credentials of the set S, and complies

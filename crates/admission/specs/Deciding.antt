@@ -10,7 +10,7 @@ use Rattle.families.specs.Families.{allSets, covers}
 use Rattle.families.specs.declared.Family.{Family}
 use Rattle.table.specs.Layout.{automata}
 use Rattle.table.specs.declared.Query.{Query}
-use Rattle.derivation.specs.Attached.{automataOf, markedOf, owedOf}
+use Rattle.attached.specs.Attached.{automataOf, markedOf, owedOf}
 use Rattle.members.specs.Members.{Members}
 use Rattle.goals.specs.declared.Terms.{Terms}
 use Rattle.search.specs.Search.{Prepared, TellsMet}

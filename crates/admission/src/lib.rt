@@ -20,7 +20,7 @@ ghost use Rattle.families.specs.Families.{allSets};
 ghost use Rattle.table.specs.Limits.{mostAutomata};
 ghost use Rattle.table.specs.Layout.{automata, automaton};
 ghost use Rattle.table.specs.Holding.{WellFormed};
-ghost use Rattle.derivation.specs.Attached.{markedOf, owedOf};
+ghost use Rattle.attached.specs.Attached.{markedOf, owedOf};
 ghost use Rattle.search.specs.Search.{Prepared};
 ghost use Rattle.admission.specs.Admits;
 ghost use Rattle.admission.specs.Admits.{admitsBy, admitsTo, among, withoutAll};
@@ -48,7 +48,7 @@ pub fn admits(
         set,
         0,
         0,
-        derivation::marked(table, ALL_AUTOMATA),
+        attached::marked(table, ALL_AUTOMATA),
         layout::automata(table),
     )
 }
@@ -71,8 +71,8 @@ fn admits_under(
     requires { ⌜ (k ≤ automata (now table)) × (owed < allSets) ⌝ }
     ensures { λ r. ⌜ r ≡ admitsTo (now (table .entry)) query set constraints owed k ⌝ }
 {
-    let mut rows = [0; members::TABLE_CELLS];
-    let last = members::fill(table, index, set, layout::wide(query.depth), &mut rows);
+    let mut rows = [0; levels::TABLE_CELLS];
+    let last = levels::fill(table, index, set, layout::wide(query.depth), &mut rows);
     let terms = Terms {
         allowed: set,
         constraints: constraints,
@@ -154,7 +154,7 @@ fn admits_found(
             k,
         );
     }
-    let borne = derivation::automata_of(table, terms.allowed);
+    let borne = attached::automata_of(table, terms.allowed);
     admits_by(
         table,
         query,
@@ -190,7 +190,7 @@ fn admits_free(
     if k == 0 {
         return true;
     }
-    let borne = derivation::automata_of(table, terms.allowed);
+    let borne = attached::automata_of(table, terms.allowed);
     let found = Family::only(0);
     admits_by(
         table,
@@ -362,7 +362,7 @@ fn owing_all(table: &[Number], terms: Terms, marks: AutomatonSet) -> Terms
     if marks == 0 {
         return terms;
     }
-    let borne = derivation::automata_of(table, terms.allowed);
+    let borne = attached::automata_of(table, terms.allowed);
     Terms {
         allowed: terms.allowed,
         constraints: terms.constraints,

@@ -1,4 +1,3 @@
 -- Laws that belong to no one function.
 pub mod Told
-pub mod Chains
 pub mod Queries

@@ -1,9 +1,9 @@
 // The checks that stop a bad table or a bad query: the request's rows of docs/DEFINITION.md, "Where each input is stopped".
 // Every slice of every length gets "accepted" or exactly its refusal, and nothing is written. What the checks mean is in table's
 // specs/Checks.antt.
-mod rows; // rows.rt: the rows of checks over all records
+mod rows; // rows.rt: rows 1 to 3, and refusals
 
-use rows::Row;
+use scans::Row;
 use table::Number;
 use table::Query;
 use table::Reason;
@@ -33,15 +33,15 @@ pub fn check_table(table: &[Number]) -> TableCheck
     let TableCheck::Accepted = head else {
         return head;
     };
-    let credential = rows::first_bad(table, Row::Credentials);
+    let credential = scans::first_bad(table, Row::Credentials);
     if credential != 0 {
         return rows::refused(Reason::Credential, credential);
     }
-    let cell = rows::first_bad(table, Row::Cells);
+    let cell = scans::first_bad(table, Row::Cells);
     if cell != 0 {
         return rows::refused(Reason::Cell, cell);
     }
-    let chain = rows::first_bad_chain(table);
+    let chain = scans::first_bad_chain(table);
     if chain != 0 {
         return rows::refused(Reason::Chain, chain);
     }
@@ -49,11 +49,11 @@ pub fn check_table(table: &[Number]) -> TableCheck
     if layout::edges(table) + layout::automata(table) == 0 {
         return TableCheck::Accepted;
     }
-    let edge = rows::first_bad(table, Row::Edges);
+    let edge = scans::first_bad(table, Row::Edges);
     if edge != 0 {
         return rows::refused(Reason::Edge, edge);
     }
-    let mark = rows::first_bad(table, Row::Marks);
+    let mark = scans::first_bad(table, Row::Marks);
     if mark != 0 {
         return rows::refused(Reason::Mark, mark);
     }

@@ -31,7 +31,7 @@ use Rattle.members.specs.Members.{askedCell, rolesAsked}
 use Rattle.members.specs.Trying.{mayUse, provedPremises, provesBy}
 use Rattle.members.proofs.Places.{is-person, least-passes, least-reached, person-is, person-stands}
 use Rattle.members.proofs.Reading.{as-read, numbered}
-use Rattle.members.proofs.Indexing.{padded-inside}
+use Rattle.members.proofs.ByKind.{padded-inside}
 use Rattle.members.proofs.ByKind.{by-none, middleAt, middleGoals, middleRole, names-principal, parts-few, roleGoals, roles-2}
 use Rattle.members.proofs.ByKind.{roles-4}
 use Rattle.members.specs.declared.above.Above.{Above}

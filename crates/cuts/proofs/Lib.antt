@@ -3,3 +3,4 @@ pub mod Least
 pub mod Meeting
 pub mod Lines
 pub mod Single
+pub mod Judging

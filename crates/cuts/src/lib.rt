@@ -8,7 +8,7 @@ ghost use lib.ListN.{length};
 ghost use Rattle.sets.specs.Logic.{_and_};
 ghost use Rattle.sets.specs.Sets.{inSet, part};
 ghost use Rattle.cuts.specs.Cuts;
-ghost use Rattle.cuts.specs.Cuts.{isSole, meetsAll};
+ghost use Rattle.cuts.specs.Cuts.{Judged, isSole, meetsAll};
 
 // The set meets each of the cuts.
 pub fn meets_all(cuts: &[CredentialSet], count: usize, set: CredentialSet) -> bool
@@ -80,4 +80,25 @@ pub fn highest(set: CredentialSet) -> usize
         i -= 1;
     }
     0
+}
+
+// By its cuts a region has no least set: some cut meets neither chosen nor free, so that no set of the region passes; or no cut
+// contains some chosen member alone among the chosen ones, so that a set of the region that passes also passes without that
+// member. Where the array is full the second is not known.
+pub fn is_barren(
+    cuts: &[CredentialSet],
+    count: usize,
+    chosen: CredentialSet,
+    free: CredentialSet,
+) -> bool
+    requires { ⌜ count ≤ length (now cuts) ⌝ }
+    ensures { λ r. ⌜ Judged (now (cuts .entry)) count chosen free r ⌝ }
+{
+    if !meets_all(cuts, count, chosen | free) {
+        return true;
+    }
+    if count == cuts.len() {
+        return false;
+    }
+    sole(cuts, count, chosen) != chosen
 }

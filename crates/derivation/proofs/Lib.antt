@@ -1,11 +1,10 @@
 -- Laws that belong to no one function; crates above cite those marked `pub mod`.
-pub mod Above
+pub mod Depths
 pub mod Asking
 pub mod Applying
 pub mod Ruling
 pub mod Using
 pub mod Complying
 pub mod Bounding
-pub mod Attaching
 pub mod Running
 pub mod Promised

@@ -20,7 +20,7 @@ use Rattle.derivation.specs.Forest.{Derives, Forest, names, usedFrom, us
 use Rattle.derivation.specs.Forest.Forest.{end, node}
 use Rattle.derivation.specs.Forest.Derives.{done, step}
 use Rattle.derivation.specs.Words.{usesAutomaton}
-use Rattle.derivation.specs.Attached.{automataOf, automataUpTo}
+use Rattle.attached.specs.Attached.{automataOf, automataUpTo}
 use Rattle.derivation.proofs.Applying.{applies-numbered}
 
 -- a number from 1 on has its place in a set one lower

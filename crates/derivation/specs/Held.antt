@@ -1,14 +1,13 @@
--- How the code holds a branch and a list of premises: arrays with a length, by value.
-use Prim.Native.Nat.{ℕ, zero, suc, _≤_}
+-- How the code holds goals, as a branch or as a list of premises: an array with a length, by value.
+use Prim.Native.Nat.{ℕ, _≤_}
 use mathlib.Core.Path.{_≡_}
-use mathlib.Core.List.{List, [], _∷_}
+use mathlib.Core.List.{List}
 use mathlib.Core.Option.{Option, none, some}
-use lib.ListN.{getD, length, take}
+use lib.ListN.{length, take}
 use Rattle.sets.specs.Logic.{pick}
 use Rattle.table.specs.Layout.{principal, role}
 use Rattle.table.specs.declared.Goal.{Goal}
 use Rattle.derivation.specs.Rules.{goal}
-use Rattle.derivation.specs.declared.branches.Branch.{Branch}
 use Rattle.derivation.specs.declared.Premises.{Premises}
 
 -- so many goals, in an array with room for `most`
@@ -18,15 +17,6 @@ pub record Room (most len : ℕ) (goals : List Goal) : Type 0 where
 
 abbrev pub noGoal : Goal
 noGoal = goal (principal 0) (role 0 0)
-
--- the first n goals, the last of them first
-unfoldable pub upTo : List Goal → ℕ → List Goal
-upTo goals zero = []
-upTo goals (suc n) = getD goals n noGoal ∷ upTo goals n
-
--- the goals above, the nearest first
-unfoldable pub above : Branch → List Goal
-above b = upTo (b .goals) (b .len)
 
 -- the goals that a credential asks, or that it does not apply
 unfoldable pub given : Premises → Option (List Goal)

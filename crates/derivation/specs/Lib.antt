@@ -3,6 +3,5 @@ pub mod Forest
 pub mod Words
 pub mod Bounds
 pub mod Accepted
-pub mod Attached
 pub mod Held
 pub mod Promised

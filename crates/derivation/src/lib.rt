@@ -1,14 +1,8 @@
-// Derivations of memberships by the rules of RT0 (docs/DEFINITION.md, "Derivations"): which goals a credential asks, what may
-// not repeat on a branch, and which automata are attached to the credentials of a set. The verifier's end and the holder's end
-// both go by these. specs/Rules.antt, Forest.antt and Words.antt say what a derivation is, specs/Accepted.antt when a record is
-// accepted.
-mod attached; // attached.rt: the automata of a set of credentials, and what they demand
-mod branches; // branches.rt: the goals above a node
+// Derivations of memberships by the rules of RT0 (docs/DEFINITION.md, "Derivations"): which goals a credential asks, and what may
+// not repeat on a branch. The verifier's end and the holder's end both go by these. specs/Rules.antt, Forest.antt and Words.antt
+// say what a derivation is, specs/Accepted.antt when a record is accepted.
 pub mod rules; // rules.rt: which goals a credential asks
 
-pub use attached::automata_of;
-pub use attached::marked;
-pub use branches::Branch;
 use table::Goal;
 use table::Query;
 use table::Role;

@@ -1,4 +1,4 @@
-// The listing program's input (docs/DEFINITION.md, "The listing program"): bytes as 16-bit numbers, low byte first, the query's
+// The listing program's input (docs/DEFINITION.md, "The listing program"): bytes as 16-bit numbers (crate decoding), the query's
 // four and then the table. specs/Input.antt says what is told of it.
 use listing::Listing;
 use sets::CredentialSet;
@@ -9,14 +9,10 @@ use table::Query;
 use table::Reason;
 use table::Refusal;
 ghost use mathlib.Core.Path.{_≡_};
-ghost use mathlib.Core.List.{_++_};
-ghost use Prim.Native.Nat.{_/_, _≤_};
-ghost use lib.ListN.{drop, length};
+ghost use Prim.Native.Nat.{_≤_};
+ghost use lib.ListN.{length};
 ghost use Rattle.listing.specs.Minimal.{bufferAfter, listing, listingTold};
-ghost use Rattle.input.specs.Input.{countedBytes, inputBuffer, inputOutcome, fromBytes};
-ghost use Rattle.input.specs.Input.{numbersOf, queryOf, querySize, tableOf};
-
-const MOST_BYTES: usize = 4096;
+ghost use Rattle.input.specs.Input.{inputBuffer, inputOutcome, queryOf, querySize, tableOf};
 
 const MOST_NUMBERS: usize = 2048;
 
@@ -28,7 +24,7 @@ pub fn list_input(bytes: &[u8], sets: &mut [CredentialSet]) -> Listing
     ensures { λ r. ⌜ (listingTold r ≡ inputOutcome (now (bytes .entry)) (length (now (sets .entry))))
         × (now (sets .exit) ≡ inputBuffer (now (bytes .entry)) (now (sets .entry))) ⌝ }
 {
-    let read = counted(bytes);
+    let read = decoding::counted(bytes);
     let half = read.len() / 2;
     let short = Refusal {
         reason: Reason::ShortHead,
@@ -41,38 +37,8 @@ pub fn list_input(bytes: &[u8], sets: &mut [CredentialSet]) -> Listing
         return Listing::Refused(short);
     }
     let mut numbers = [0; MOST_NUMBERS];
-    decode(read, &mut numbers);
+    decoding::decode(read, &mut numbers);
     list_numbers(&numbers[..half], sets)
-}
-
-// The bytes that count.
-fn counted(bytes: &[u8]) -> &[u8]
-    ensures { λ r. ⌜ now r ≡ countedBytes (now (bytes .entry)) ⌝ }
-{
-    if bytes.len() <= MOST_BYTES {
-        return bytes;
-    }
-    &bytes[..MOST_BYTES]
-}
-
-// Puts the numbers that the bytes hold in the first places, and leaves the others; a single byte at the end is left too.
-pub fn decode(bytes: &[u8], numbers: &mut [Number])
-    requires { ⌜ length (now bytes) / 2 ≤ length (now numbers) ⌝ }
-    ensures { λ r. ⌜ now (numbers .exit)
-        ≡ numbersOf (now (bytes .entry)) ++ drop (length (now (bytes .entry)) / 2) (now (numbers .entry)) ⌝ }
-{
-    let half = bytes.len() / 2;
-    let mut i = 0;
-    while i < half {
-        numbers[i] = number_of(bytes[2 * i], bytes[2 * i + 1]);
-        i += 1;
-    }
-}
-
-fn number_of(low: u8, high: u8) -> Number
-    ensures { λ r. ⌜ r ≡ fromBytes low high ⌝ }
-{
-    low as Number + 256 * (high as Number)
 }
 
 // The query's four numbers, then the table.

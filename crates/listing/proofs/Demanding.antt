@@ -21,7 +21,7 @@ use Rattle.derivation.specs.Bounds.{Holdable}
 use Rattle.verifier.specs.Verdict.{verdict}
 use Rattle.verifier.specs.DemandTwo.{Refuses}
 use Rattle.derivation.proofs.Bounding.{none-excluded}
-use Rattle.derivation.proofs.Above.{depth-fits}
+use Rattle.derivation.proofs.Depths.{depth-fits}
 use Rattle.verifier.proofs.DemandTwo.{demand-two, every-refusal}
 use Rattle.sorted.specs.Sorted.{laid}
 use Rattle.listing.specs.Minimal.{afterwards, bufferAfter, counted, listing, minimalSets}

@@ -12,7 +12,7 @@ use Rattle.table.specs.Shop.{annAsks, tableT, tableU}
 use Rattle.table.specs.declared.Query.{Query}
 use Rattle.sets.specs.Sets.{part, setOf}
 use Rattle.automata.specs.Together.{acceptingSet, each, movedSets, startingSets, together}
-use Rattle.derivation.specs.Attached.{automataOf, automataUpTo}
+use Rattle.attached.specs.Attached.{automataOf, automataUpTo}
 use Rattle.verifier.specs.Verdict.{verdict}
 use Rattle.verifier.proofs.Shop as records
 use Rattle.members.specs.Places.{defines, isNaming, isPerson, least, personAt, roleAt}

@@ -25,9 +25,10 @@ use Rattle.table.specs.Checks.{requestOutcome}
 use Rattle.table.specs.declared.Query.{Query}
 use Rattle.admission.specs.Admits.{admits}
 use Rattle.listing.specs.Minimal.{Tells, afterwards, bufferAfter, isMinimal, minimalSets}
-use Rattle.regions.specs.Below.{Bears, Ended, Held, andLeast}
+use Rattle.candidates.specs.Candidates.{Bears}
+use Rattle.candidates.proofs.Growing.{admits-monotone}
+use Rattle.regions.specs.Below.{Ended, Held, andLeast}
 use Rattle.listing.proofs.Counting.{listed-counted, more-counted, none-counted}
-use Rattle.regions.proofs.Regions.{admits-monotone}
 
 -- nothing is chosen, and all that bears on the test is free
 module _ (p : ℕ → Bool) (n usable : ℕ) (few : usable < 2 ^ n) where

@@ -55,12 +55,12 @@ fn list_checked(table: &[Number], query: Query, room: usize, sets: &mut [Credent
     requires { ⌜ Valid query ⌝ }
     ensures { λ r. ⌜ Tells (now (table .entry)) query (now (sets .entry)) (now (sets .exit)) (listingTold r) ⌝ }
 {
-    let index = members::index(table, query);
+    let index = indexing::index(table, query);
     let usable = relevance::relevant(table, query, &index);
     if !admission::admits(table, query, &index, &table[..0], usable) {
         return refused(Reason::NoMinimalSet);
     }
-    if derivation::automata_of(table, usable) == 0 {
+    if attached::automata_of(table, usable) == 0 {
         return list_over(table, query, &index, &table[..0], usable, room, sets);
     }
     let mut arcs = [0; automata::INDEX_CELLS];

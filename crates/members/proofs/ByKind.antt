@@ -3,9 +3,9 @@ use mathlib.Core.Path.{_≡_, refl, sym, ap, _∙_}
 use mathlib.Core.List.{List, [], _∷_, map}
 use mathlib.Core.Bool.{Bool, true, false, not}
 use mathlib.Core.Logic.{_⊎_, inl, inr}
-use Prim.Native.Nat.{ℕ, suc, _<_, _≤_}
+use Prim.Native.Nat.{ℕ, zero, suc, _<_, _≤_}
 use native.Mathlib.Omega.{arith}
-use lib.ListN.{length, length-map}
+use lib.ListN.{getD, length, length-map}
 use lib.Dec.{eqb}
 use borrow.Author.Tests.{eq-eqb, eqb-true, ne-eqb, not-false, not-true}
 use Rattle.sets.specs.Logic.{_and_, _or_, anyBelow, pick}
@@ -54,6 +54,15 @@ pub repeated : (a : Bool) → (a and a) ≡ a
 unfolding _and_
 repeated true = refl
 repeated false = refl
+
+-- the list's own role where there is one
+pub padded-inside : (roles : List Role) (k : ℕ) (d : Role) → k < length roles → getD roles k d ≡ padded roles k
+unfolding padded
+padded-inside [] k d l = absurd (omega arith)
+padded-inside (r ∷ []) zero d l = refl
+padded-inside (r ∷ []) (suc k) d l = absurd (omega arith)
+padded-inside (r ∷ s ∷ roles) zero d l = refl
+padded-inside (r ∷ s ∷ roles) (suc k) d l = padded-inside (s ∷ roles) k d (omega arith)
 
 every-padded : (one : Goal → Bool) (f : Role → Goal) (roles : List Role) → 1 ≤ length roles → length roles ≤ mostParts
     → everyGoal one (map f roles) ≡ not (anyBelow (λ k. not (one (f (padded roles k)))) mostParts)

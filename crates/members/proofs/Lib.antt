@@ -3,9 +3,5 @@ pub mod Reading
 pub mod Places
 pub mod Persons
 pub mod Branching
-pub mod Indexing
 pub mod Stepping
 pub mod ByKind
-pub mod Masks
-pub mod Rows
-pub mod Reaching

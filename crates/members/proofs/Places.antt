@@ -14,6 +14,10 @@ use Rattle.table.specs.declared.Role.{Role}
 use Rattle.derivation.proofs.Applying.{same-role}
 use Rattle.members.specs.Places.{defines, isNaming, isPerson, least, personAt, roleAt}
 
+pub same-self : (r : Role) → sameRole r r ≡ true
+unfolding sameRole
+same-self r = and-both (eq-eqb (r .owner .0) _ refl) (eq-eqb (r .name .0) _ refl)
+
 -- m is the least number below n that passes, or n
 record Least (p : ℕ → Bool) (n m : ℕ) : Type 0 where
   few : m ≤ n

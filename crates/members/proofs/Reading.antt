@@ -6,10 +6,15 @@ use Prim.Native.Nat.{ℕ, zero, suc, _+_, _<_}
 use native.Mathlib.Omega.{arith}
 use native.Mathlib.Decide.{ℕ-discrete}
 use native.Mathlib.Numerals.{add-one}
-use lib.ListN.{replicate}
-use Rattle.table.specs.Layout.{Numbered, credential}
+use lib.ListN.{length, replicate}
+use lib.Seq.{length-take-le}
+use Rattle.table.specs.Layout.{Numbered, credential, credentials, parts}
+use Rattle.table.specs.Holding.{Holds, WellFormed}
+use Rattle.table.specs.declared.Chain.{Chain}
 use Rattle.table.specs.declared.Credential.{Credential}
-use Rattle.members.specs.Members.{Blank}
+use Rattle.table.proofs.WellFormed.{wf-credential}
+use Rattle.derivation.proofs.Asking.{chain-there}
+use Rattle.members.specs.Members.{Blank, Whole}
 
 -- what holds of all below i and of i holds of all below i + 1
 pub below-next : (P : ℕ → Type 0) (i : ℕ) → ((k : ℕ) → k < i → P k) → P i → (k : ℕ) → k < i + 1 → P k
@@ -28,6 +33,22 @@ module _ (t : List ℕ) (i : ℕ) (x : Credential) (read : x ≡ credential t (i
 
   pub kind-read : x .kind ≡ credential t (suc i) .kind
   kind-read = ap (λ (y : Credential). y .kind) as-read
+
+-- a credential of the table, which the code has read as x
+pub whole : (t : List ℕ) → WellFormed t → (i : ℕ) → Numbered (credentials t) i → (x : Credential) → x ≡ credential t i
+    → Whole t x
+whole t wf i there x read =
+    let chained = chain-there t wf i there x read in
+    record {
+      kind = rw read (wf-credential t wf i there .kind);
+      first = λ four. chained four .0;
+      chained = λ four. chained four .1;
+    }
+
+-- a chain as the code holds it
+pub held-length : (t : List ℕ) (first : ℕ) (held : Chain) → Holds t first held → length (parts t first) ≡ held .len
+held-length t first held holds =
+    rw (← holds .roles) (length-take-le (held .len) (held .roles) (omega (arith, holds .few, holds .room)))
 
 -- zeros are blank
 pub zeros : (n : ℕ) → Blank (replicate n 0)

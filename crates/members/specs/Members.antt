@@ -10,7 +10,8 @@ use lib.Dec.{eqb, ltb}
 use Rattle.sets.specs.Logic.{_and_, anyBelow, pick}
 use Rattle.sets.specs.Sets.{inSet}
 use Rattle.table.specs.Limits.{mostCredentials, mostDepth, mostParts}
-use Rattle.table.specs.Layout.{credential, credentials, name, parts, role}
+use Rattle.table.specs.Layout.{Numbered, cells, credential, credentials, name, parts, role}
+use Rattle.table.specs.Checks.{chainOk}
 use Rattle.table.specs.declared.Role.{Role}
 use Rattle.table.specs.declared.Credential.{Credential}
 use Rattle.table.specs.declared.Goal.{Goal}
@@ -23,6 +24,12 @@ unfoldable pub within : List ℕ → ℕ → ℕ → Goal → Bool
 within t S zero g = false
 within t S (suc levels) g =
     anyBelow (λ c. mayUse t S g (suc c) and provesBy t (everyGoal (within t S levels)) true g (suc c)) (credentials t)
+
+-- a credential as tables have them: of a known kind, with its chain if it has one
+pub record Whole (t : List ℕ) (c : Credential) : Type 0 where
+  pub kind : Numbered 4 (c .kind)
+  pub first : c .kind ≡ 4 → Numbered (cells t) (c .first)
+  pub chained : c .kind ≡ 4 → chainOk t (c .first) ≡ true
 
 -- the roles that a credential asks of its goal's principal, and for kind 3 the role that it asks of a middle
 unfoldable pub rolesAsked : List ℕ → Credential → List Role

@@ -1,9 +1,4 @@
 // The cells of an index by what they are.
-use crate::entries::CREDENTIAL_CELLS;
-use crate::entries::GOAL_PERSON;
-use crate::entries::GOAL_ROLE;
-use crate::entries::LINK_CELLS;
-use crate::entries::LINKS;
 use table::Number;
 use table::SIMPLE_MEMBERSHIP;
 use table::layout;
@@ -15,6 +10,21 @@ ghost use Rattle.table.specs.Layout.{credentials};
 ghost use Rattle.table.specs.Holding.{WellFormed};
 ghost use Rattle.members.specs.Places.{isPerson};
 ghost use Rattle.members.specs.Members.{Indexed, Placed, askedCell, goalPerson, goalRole, linkCell, roleCell};
+
+// Five cells for each credential: the place of its role, and four of the roles that it asks.
+pub const CREDENTIAL_CELLS: usize = 1 + layout::MOST_PARTS;
+
+// Behind these, twenty for each, used where it is of kind 3: the place of the role asked where the middle stands at j.
+pub const LINK_CELLS: usize = layout::MOST_CREDENTIALS as usize;
+
+pub const LINKS: usize = CREDENTIAL_CELLS * LINK_CELLS;
+
+// Behind these, the query's role and principal.
+pub const GOAL_ROLE: usize = LINKS + LINK_CELLS * LINK_CELLS;
+
+pub const GOAL_PERSON: usize = GOAL_ROLE + 1;
+
+pub const INDEX_CELLS: usize = GOAL_PERSON + 1;
 
 // Where the role of credential i + 1 stands.
 pub fn role_cell(index: &[u8], i: usize) -> usize

@@ -32,7 +32,8 @@ use Rattle.derivation.specs.Forest.{Derives, Forest}
 use Rattle.derivation.specs.Forest.Derives.{done, step}
 use Rattle.derivation.specs.Words.{acceptsAll, isMet, met, usesAutomaton, words}
 use Rattle.derivation.proofs.Applying.{applies-numbered}
-use Rattle.reader.specs.Reading.{Reading, entered, entry, readAll, reader}
+use Rattle.entering.specs.Entry.{entry}
+use Rattle.reader.specs.Reading.{Reading, entered, readAll, reader}
 use Rattle.reader.specs.Reading.Reading.{stop}
 use Rattle.verifier.specs.Verdict.{judged, verdict}
 use Rattle.verifier.proofs.Readings.{Ends, queried, reader-ends}

@@ -6,7 +6,8 @@ use Prim.Native.Nat.{ℕ, zero, suc}
 use Rattle.table.specs.declared.Goal.{Goal}
 use Rattle.derivation.specs.Rules.{fresh}
 use Rattle.derivation.specs.Forest.Forest.{end}
-use Rattle.reader.specs.Reading.{entered, entry, readAll, reader}
+use Rattle.entering.specs.Entry.{entry}
+use Rattle.reader.specs.Reading.{entered, readAll, reader}
 use Rattle.reader.specs.Reading.Reading.{read, stop}
 
 module _ (t : List ℕ) (branch : List Goal) (rec : List ℕ) (at : ℕ) where

@@ -17,11 +17,12 @@ use Rattle.automata.specs.declared.StateSets.{StateSets}
 use Rattle.derivation.specs.Rules.{fresh, premises}
 use Rattle.derivation.specs.Forest.{Forest, countFrom, usedFrom}
 use Rattle.derivation.specs.Forest.Forest.{end, node}
-use Rattle.reader.specs.Reading.{Entry, Reading, admitted, entered, entry, followed, joined, readAll, reader}
-use Rattle.reader.specs.Reading.Entry.{ask, halt}
+use Rattle.entering.specs.Entry.{Entry, admitted, entry}
+use Rattle.entering.specs.Entry.Entry.{ask, halt}
+use Rattle.entering.specs.Steps.{afterNode, may}
+use Rattle.reader.specs.Reading.{Reading, entered, followed, joined, readAll, reader}
 use Rattle.reader.specs.Reading.Reading.{read, stop}
-use Rattle.reader.specs.Steps.{may}
-use Rattle.reader.specs.Tally.{ReadOn, Told, afterNode, keptFrom, numbersTold, tally, tallyOn}
+use Rattle.reader.specs.Tally.{ReadOn, Told, keptFrom, numbersTold, tally, tallyOn}
 use Rattle.reader.specs.Tally.Told.{passed, stopped}
 use Rattle.table.specs.Holding.{WellFormed}
 use Rattle.reader.proofs.FirstGoal.{reader-end}

@@ -1,5 +1,4 @@
 -- Laws that belong to no one function; crates above cite those marked `pub mod`.
 pub mod FirstGoal
-pub mod Entering
 pub mod Keeping
 pub mod Onward

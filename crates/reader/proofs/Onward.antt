@@ -15,16 +15,17 @@ use Rattle.automata.specs.Together.{movedOn, movedSets}
 use Rattle.automata.specs.declared.Moved.{Moved}
 use Rattle.automata.specs.declared.StateSets.{StateSets}
 use Rattle.automata.proofs.Together.{states-moved}
-use Rattle.reader.specs.Reading.{entry}
-use Rattle.reader.specs.Reading.Entry.{ask}
-use Rattle.derivation.specs.Held.{Room, above, noGoal}
-use Rattle.reader.specs.Steps.{may, stepped}
-use Rattle.reader.specs.Tally.{ReadOn, Told, afterNode, tallyOn}
+use Rattle.entering.specs.Entry.{entry}
+use Rattle.entering.specs.Entry.Entry.{ask}
+use Rattle.derivation.specs.Held.{Room, noGoal}
+use Rattle.branches.specs.Held.{above}
+use Rattle.entering.specs.Steps.{afterNode, may, stepped}
+use Rattle.reader.specs.Tally.{ReadOn, Told, tallyOn}
 use Rattle.reader.specs.Tally.Told.{passed, stopped}
-use Rattle.derivation.specs.declared.branches.Branch.{Branch}
-use Rattle.reader.specs.declared.Step.{Step}
+use Rattle.branches.specs.declared.Branch.{Branch}
+use Rattle.entering.specs.declared.Step.{Step}
 use Rattle.derivation.proofs.Applying.{applies-numbered, applies-role}
-use Rattle.reader.proofs.Entering.{step-asks, step-halts}
+use Rattle.entering.proofs.Entering.{step-asks, step-halts}
 use Rattle.reader.proofs.Keeping.{Asks, entry-asked, first-passed, first-stopped}
 use Rattle.reader.proofs.Keeping.{node-asks, node-stops, passed-told, reads-none, stopped-told}
 

@@ -1,29 +1,14 @@
 -- docs/DEFINITION.md, "Where each input is stopped", rows 11 to 13: how a record is read, node by node in preorder. At each node
--- 11, 12 and 13 are tested in that order before its children.
+-- 11, 12 and 13 are tested before its children (Entry.antt of the crate entering).
 use Prim.Native.Nat.{ℕ, zero, suc}
 use mathlib.Core.List.{List, [], _∷_}
-use mathlib.Core.Bool.{Bool, false}
-use mathlib.Core.Option.{Option, none, some}
-use Rattle.sets.specs.Logic.{pick}
+use mathlib.Core.Bool.{false}
 use Rattle.table.specs.declared.Goal.{Goal}
-use Rattle.derivation.specs.Rules.{fresh, premises}
+use Rattle.derivation.specs.Rules.{fresh}
 use Rattle.derivation.specs.Forest.{Forest, countFrom}
 use Rattle.derivation.specs.Forest.Forest.{end, node}
-
--- a node is refused with a number, or asks for its premises, with the rest of the record
-pub data Entry : Type 0 where
-  halt : (number : ℕ) → Entry
-  ask : (credential middle : ℕ) (goals : List Goal) (rest : List ℕ) → Entry
-
--- `may`: a level is left for the node, and its goal is not yet on the branch
-unfoldable pub admitted : Bool → ℕ → ℕ → List ℕ → Option (List Goal) → Entry
-admitted may c m rest none = halt 12
-admitted may c m rest (some goals) = pick may (ask c m goals rest) (halt 13)
-
-unfoldable pub entry : List ℕ → Bool → Goal → List ℕ → Entry
-entry t may g [] = halt 11
-entry t may g (c ∷ []) = halt 11
-entry t may g (c ∷ m ∷ rest) = admitted may c m rest (premises t g c m)
+use Rattle.entering.specs.Entry.{Entry, entry}
+use Rattle.entering.specs.Entry.Entry.{ask, halt}
 
 -- reading ends with the rest of the record and the forest that was read, or stops at a node
 pub data Reading : Type 0 where

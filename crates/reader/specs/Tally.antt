@@ -33,10 +33,6 @@ everyFrom t s every f = keptFrom bitAnd t s every f
 abbrev pub someFrom : List ℕ → StateSets → ℕ → Forest → ℕ
 someFrom t s some f = keptFrom bitOr t s some f
 
--- what is kept once a node that asks so many goals is entered: one that asks none ends a word
-abbrev pub afterNode : (ℕ → ℕ → ℕ) → List ℕ → ℕ → StateSets → ℕ → ℕ
-afterNode join t kept s len = pick (eqb len 0) (join kept (acceptingSet t s)) kept
-
 pub data Told : Type 0 where
   passed : (rest : List ℕ) (used nodes every some : ℕ) → Told
   stopped : (number node : ℕ) → Told

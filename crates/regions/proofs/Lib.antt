@@ -1,3 +1,2 @@
 -- Laws that belong to no one function; crates above cite those marked `pub mod`.
 pub mod Regions
-pub mod Growing

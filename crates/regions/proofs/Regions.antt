@@ -10,18 +10,17 @@ use lib.ListN.{length, set}
 use lib.Bits.{bitAnd, bitOr, bitXor}
 use lib.Dec.{eqb, ltb}
 use lib.Pow.{pow-mono}
-use borrow.Author.Tests.{eqb-false, eqb-true, not-false, not-true}
+use borrow.Author.Tests.{eqb-false}
 use Rattle.sets.specs.Logic.{_and_, _or_}
 use Rattle.sets.specs.Sets.{inSet, part}
 use Rattle.sets.proofs.Tests.{and-first, and-is-off, and-second, false-true, or-and, or-assoc, or-false, refuted}
 use Rattle.sets.proofs.Members.{one-bit, part-le, part-member, part-zero}
 use Rattle.sets.proofs.Without.{and-part, without-own, without-part}
-use Rattle.cuts.specs.Cuts.{Barren, Monotone, More, Ready, between, isLeast, isSole, meetsAll}
+use Rattle.cuts.specs.Cuts.{Barren, Judged, More, Ready, between, isLeast}
 use Rattle.cuts.proofs.Meeting.{more-more, more-ready, more-same}
 use Rattle.cuts.proofs.Lines.{between-apart, between-in, between-out, between-split, chosen-fits, chosen-here}
-use Rattle.cuts.proofs.Lines.{cut-off-barren, free-fits}
-use Rattle.cuts.proofs.Lines.{idle-barren, more-stored, outside-cut, outside-unmet, passed-barren, passed-least}
-use Rattle.cuts.proofs.Lines.{passed-searched, ready-in, ready-out, searched-both, sole-all, sole-least, sole-some, stored-barren}
+use Rattle.cuts.proofs.Lines.{free-fits, more-stored, outside-cut, outside-unmet, passed-barren, passed-least}
+use Rattle.cuts.proofs.Lines.{passed-searched, ready-in, ready-out, searched-both, sole-least, stored-barren}
 use Rattle.sorted.specs.Sorted.{orIs}
 use Rattle.sorted.proofs.Lists.{those-few}
 use Rattle.sorted.proofs.Holding.{holds-same}
@@ -29,36 +28,14 @@ use Rattle.table.specs.Layout.{credentials}
 use Rattle.table.specs.Holding.{WellFormed}
 use Rattle.table.specs.declared.Query.{Query}
 use Rattle.admission.specs.Admits.{admits}
-use Rattle.admission.proofs.Admitting.{admits-mono}
-use Rattle.regions.specs.Below.{Decided, Ended, Grown, Held, Judged, Kept, andLeast}
-
--- what the cuts alone tell
-module _ (cuts : List ℕ) (count chosen free : ℕ) where
-  pub judged-off : meetsAll cuts count (bitOr chosen free) ≡ false → Judged cuts count chosen free true
-  judged-off h =
-      record { none = λ e p n mono r. cut-off-barren r h; sole = λ e. absurd (false-true (sym e)) }
-
-  pub judged-full : count ≡ length cuts → Judged cuts count chosen free false
-  judged-full e = record { none = λ e. absurd (false-true e); sole = λ z room. absurd (omega arith) }
-
-  pub judged-sole : (sole : ℕ) → ((c : ℕ) → inSet sole c ≡ isSole cuts count chosen c) → count < length cuts
-      → Judged cuts count chosen free (not (eqb sole chosen))
-  judged-sole sole told room =
-      record {
-        none = λ e p n mono r.
-            let (c, own, idle) = sole-some r sole told (eqb-false sole chosen (not-true _ e)) in
-            idle-barren r c own idle mono room;
-        sole = λ e room. sole-all cuts count chosen sole told (eqb-true sole chosen (not-false _ e));
-      }
+use Rattle.candidates.specs.Candidates.{Grown, Kept}
+use Rattle.candidates.proofs.Growing.{admits-monotone}
+use Rattle.regions.specs.Below.{Decided, Ended, Held, andLeast}
 
 -- the buffer has room for every set, so the count fits
 pub held-few : {n chosen free : ℕ} {sets : List ℕ} {found : ℕ} → n ≤ 20 → Held n chosen free sets found → found < 2 ^ 32
 held-few {n} few h =
     omega (arith, h .holds .count, those-few (h .test) (2 ^ n), pow-mono {i = n} {j = 20} few)
-
-module _ (t : List ℕ) (wf : WellFormed t) (q : Query) where
-  pub admits-monotone : Monotone (admits t q) (credentials t)
-  admits-monotone X Y few inside passes = admits-mono t wf q X Y inside passes
 
 -- what the buffer's test and the least sets of the region are together
 module _ (found p : ℕ → Bool) (chosen free Y : ℕ) where

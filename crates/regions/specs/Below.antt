@@ -1,23 +1,16 @@
 -- What the search for minimal sets asks and gives, region by region: the sets that include `chosen` and have nothing outside of
 -- chosen and free. crates/cuts/specs/Cuts.antt says what the cuts tell; the buffer holds what has been found (crate sorted).
-use Prim.Native.Nat.{ℕ, _^_, _<_}
+use Prim.Native.Nat.{ℕ, _^_}
 use mathlib.Core.Path.{_≡_}
 use mathlib.Core.List.{List}
 use mathlib.Core.Bool.{Bool, true, false}
-use lib.ListN.{getD, length}
-use lib.Bits.{bitAnd}
-use lib.Dec.{ltb}
-use Rattle.sets.specs.Logic.{_and_, _or_, anyBelow}
-use Rattle.sets.specs.Sets.{inSet, part}
-use Rattle.cuts.specs.Cuts.{Barren, Monotone, More, Ready, Searched, between, isLeast, isSole}
-use Rattle.sorted.specs.Sorted.{Holds, Inserted}
+use Rattle.sets.specs.Logic.{_and_, _or_}
+use Rattle.sets.specs.Sets.{part}
+use Rattle.cuts.specs.Cuts.{More, Searched, between, isLeast}
+use Rattle.sorted.specs.Sorted.{Holds}
 use Rattle.table.specs.Layout.{credentials}
 use Rattle.table.specs.declared.Query.{Query}
 use Rattle.admission.specs.Admits.{admits}
-
--- whether a set passes depends on its members in `usable` alone
-abbrev pub Bears : (ℕ → Bool) → ℕ → Type 0
-Bears p usable = (Y : ℕ) → p (bitAnd Y usable) ≡ p Y
 
 -- what a test let pass, and the least sets of the region
 unfoldable pub andLeast : (ℕ → Bool) → (ℕ → Bool) → ℕ → ℕ → ℕ → Bool
@@ -45,25 +38,3 @@ pub record Decided (t : List ℕ) (q : Query) (chosen free : ℕ) (cuts : List �
   pub over : left ≡ 0 → Ended t q chosen free cuts count cuts′ count′ sets found sets′ found′
   pub more : More (admits t q) (credentials t) cuts count cuts′ count′
   pub same : (left ≡ 0 → ⊥) → (sets′ ≡ sets) × (found′ ≡ found)
-
--- a set that passes is put into the buffer where it is least
-pub record Kept (p : ℕ → Bool) (set : ℕ) (sets : List ℕ) (found : ℕ) (sets′ : List ℕ) (found′ : ℕ) : Type 0 where
-  pub least : isLeast p set ≡ true → Inserted sets found set sets′ found′
-  pub other : isLeast p set ≡ false → (sets′ ≡ sets) × (found′ ≡ found)
-
--- a set that does not pass, and includes `chosen`
-pub record Grown (p : ℕ → Bool) (n chosen grown : ℕ) : Type 0 where
-  pub from : part chosen grown ≡ true
-  pub fits : grown < 2 ^ n
-  pub fails : p grown ≡ false
-
--- one of the first `found` sets, as far as the buffer has cells for them, is a part of the set
-unfoldable pub hasListed : List ℕ → ℕ → ℕ → Bool
-hasListed sets found set = anyBelow (λ i. ltb i (length sets) and part (getD sets i 0) set) found
-
--- what the cuts alone tell of a region, for any monotone test: none of it is least, or each that is chosen is in some cut the
--- only one chosen, where that is known
-pub record Judged (cuts : List ℕ) (count chosen free : ℕ) (barren : Bool) : Type 0 where
-  pub none : barren ≡ true → (p : ℕ → Bool) (n : ℕ) → Monotone p n → Ready p n chosen free cuts count
-      → Barren p chosen free cuts count
-  pub sole : barren ≡ false → count < length cuts → (c : ℕ) → inSet chosen c ≡ true → isSole cuts count chosen c ≡ true

@@ -14,7 +14,7 @@ use Rattle.automata.specs.Arcs.{Arcs, indexCells, made, madeCell}
 use Rattle.arcs.specs.Filling.{RowMade}
 use Rattle.members.specs.Members.{Indexed, roleCell}
 use Rattle.members.proofs.Places.{role-first}
-use Rattle.members.proofs.Reaching.{same-self}
+use Rattle.members.proofs.Places.{same-self}
 use Rattle.relevance.specs.Relevance.{RowsMade}
 
 -- the role of a credential of the table has its place there

@@ -21,7 +21,7 @@ ghost use Rattle.members.specs.Members.{Aimed, Indexed, Placed, goalRole};
 ghost use Rattle.relevance.specs.Relevance.{Relevant, Round, RowsMade, WithAsked, WithLinks, WithRoles, definedAt};
 
 // The credentials whose role can be reached from the query's role: every derivation of the queried membership uses only these. The
-// index is that of the table and the query (`members::index`).
+// index is that of the table and the query (`indexing::index`).
 pub fn relevant(table: &[Number], query: Query, index: &[u8]) -> CredentialSet
     requires { ⌜ WellFormed (now table) ⌝ }
     requires { ⌜ Indexed (now table) (now index) ⌝ }

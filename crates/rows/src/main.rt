@@ -52,7 +52,7 @@ fn run_block() -> bool {
         return false;
     }
     let mut case = [0; BLOCK];
-    input::decode(&block, &mut case);
+    decoding::decode(&block, &mut case);
     run(&case);
     true
 }

@@ -17,7 +17,7 @@ use Rattle.table.specs.declared.Chain.{Chain}
 use Rattle.table.specs.declared.Credential.{Credential}
 use Rattle.members.specs.Members.{askedCell, rolesAsked}
 use Rattle.members.proofs.Reading.{below-next, numbered}
-use Rattle.members.proofs.Indexing.{held-length}
+use Rattle.members.proofs.Reading.{held-length}
 use Rattle.members.proofs.ByKind.{parts-few, roles-2, roles-4}
 use Rattle.search.specs.Asking.{Fits, askedPairs, pair, pairsFrom, rolePairs}
 

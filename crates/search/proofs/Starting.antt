@@ -18,7 +18,7 @@ use Rattle.automata.specs.Arcs.{Arcs}
 use Rattle.automata.specs.Together.{startingSets}
 use Rattle.automata.specs.declared.StateSets.{StateSets}
 use Rattle.derivation.specs.Rules.{goal, goalOf}
-use Rattle.derivation.proofs.Above.{depth-fits}
+use Rattle.derivation.proofs.Depths.{depth-fits}
 use Rattle.members.specs.Places.{personAt, roleAt}
 use Rattle.members.specs.Above.{nothingAbove}
 use Rattle.members.specs.Members.{Aimed, Indexed, Members, goalPerson, goalRole, listed}

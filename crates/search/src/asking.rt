@@ -12,7 +12,7 @@ ghost use lib.ListN.{length};
 ghost use Rattle.table.specs.Layout.{credential, credentials};
 ghost use Rattle.table.specs.Holding.{WellFormed};
 ghost use Rattle.members.specs.Members.{Indexed, rolesAsked};
-ghost use Rattle.members.specs.Indexing.{Whole};
+ghost use Rattle.members.specs.Members.{Whole};
 ghost use Rattle.search.specs.Asking.{Fits, SameLater, askedPairs, pair, rolePairs};
 
 // The goals that a credential asks, by the places of principal and role: the first `len`.

@@ -56,8 +56,8 @@ pub fn is_member(
 
 // Which sets of the owed automata can be met by derivations of the queried membership that use only allowed credentials and each
 // word of which is accepted by each of the automata `constraints`. The index is that of the table and the query
-// (`members::index`), the arcs are an index of the table's edges (crate automata), and the rows up to the last are the table of
-// members of the allowed credentials (`members::fill`). Where few credentials are allowed a small memory will do, which is
+// (`indexing::index`), the arcs are an index of the table's edges (crate automata), and the rows up to the last are the table of
+// members of the allowed credentials (`levels::fill`). Where few credentials are allowed a small memory will do, which is
 // cleared sooner.
 pub fn query_search(
     table: &[Number],

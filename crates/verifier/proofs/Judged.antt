@@ -23,7 +23,7 @@ use Rattle.derivation.specs.Rules.{goalOf}
 use Rattle.derivation.specs.Forest.{Forest, countFrom, usedFrom, usedSet}
 use Rattle.reader.specs.Reading.{Reading}
 use Rattle.reader.specs.Reading.Reading.{read, stop}
-use Rattle.derivation.specs.Attached.{automataOf}
+use Rattle.attached.specs.Attached.{automataOf}
 use Rattle.reader.specs.Tally.{ReadOn, everyFrom, numbersTold, someFrom, tally, tallyOn}
 use Rattle.reader.specs.Tally.Told.{passed, stopped}
 use Rattle.verifier.specs.Kept.{allAutomata, keeps}

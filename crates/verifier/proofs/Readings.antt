@@ -13,13 +13,14 @@ use Rattle.derivation.specs.Rules.{fresh, goalOf, premises}
 use Rattle.derivation.specs.Forest.{Derives, Forest, countFrom, written}
 use Rattle.derivation.specs.Forest.Forest.{end}
 use Rattle.derivation.specs.Forest.Derives.{done, step}
-use Rattle.reader.specs.Reading.{Reading, admitted, entered, entry, followed, joined, reader}
-use Rattle.reader.specs.Reading.Entry.{halt}
+use Rattle.entering.specs.Entry.{admitted, entry}
+use Rattle.entering.specs.Entry.Entry.{halt}
+use Rattle.reader.specs.Reading.{Reading, entered, followed, joined, reader}
 use Rattle.reader.specs.Reading.Reading.{read, stop}
 use Rattle.verifier.specs.DemandTwo.{Stops}
 use Rattle.verifier.specs.DemandTwo.Stops.{short, unfit, deep, again, below, behind}
 use Rattle.reader.proofs.FirstGoal.{reader-end, reader-floor, reader-node}
-use Rattle.reader.proofs.Entering.{entry-short}
+use Rattle.entering.proofs.Entering.{entry-short}
 
 -- the reading of a whole record for a query: its goal is at level 1, node 1, with nothing above it
 abbrev pub queried : List ℕ → Query → List ℕ → Reading

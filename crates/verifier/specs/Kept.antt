@@ -7,7 +7,7 @@ use lib.Dec.{eqb}
 use Rattle.sets.specs.Logic.{_or_, pick}
 use Rattle.sets.specs.Sets.{inSet}
 use Rattle.table.specs.Layout.{automaton}
-use Rattle.derivation.specs.Attached.{automataOf}
+use Rattle.attached.specs.Attached.{automataOf}
 
 -- all eight automata
 abbrev pub allAutomata : ℕ

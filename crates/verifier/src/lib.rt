@@ -4,8 +4,8 @@
 mod words; // words.rt: row 14
 
 use automata::StateSets;
+use branches::Branch;
 use checks::QueryCheck;
-use derivation::Branch;
 use sets::CredentialSet;
 use sets::StateSet;
 use table::Number;

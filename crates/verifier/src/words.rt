@@ -36,7 +36,7 @@ pub fn judge_words(
         ≡ (demandEach (keeps (now (table .entry)) used every some) (automata (now (table .entry))) 14
         andThen Outcome.accepted used) ⌝ }
 {
-    let imposed = derivation::automata_of(table, used);
+    let imposed = attached::automata_of(table, used);
     let a = layout::automata(table);
     let mut k = 0;
     while k < a {

@@ -16,7 +16,7 @@ use Rattle.automata.specs.declared.StateSets.{StateSets}
 use Rattle.derivation.specs.Rules.{goalOf, premises}
 use Rattle.derivation.specs.Forest.{Forest, written}
 use Rattle.derivation.specs.Forest.Forest.{end, node}
-use Rattle.derivation.specs.Attached.{everyOf, owedOf}
+use Rattle.attached.specs.Attached.{everyOf, owedOf}
 use Rattle.members.specs.Above.{nothingAbove, withGoal}
 use Rattle.members.specs.declared.above.Above.{Above}
 use Rattle.goals.specs.Goals.{stepped}

@@ -22,7 +22,7 @@ use Rattle.derivation.specs.Rules.{goalOf}
 use Rattle.derivation.specs.Forest.{Forest, usedSet}
 use Rattle.derivation.specs.Words.{words}
 use Rattle.derivation.specs.Accepted.{Accepted}
-use Rattle.derivation.specs.Attached.{everyOf, owedOf}
+use Rattle.attached.specs.Attached.{everyOf, owedOf}
 use Rattle.derivation.specs.Bounds.{Holdable}
 use Rattle.derivation.proofs.Running.{sets-after-none}
 use Rattle.verifier.specs.Verdict.{verdict}

@@ -19,7 +19,7 @@ use Rattle.table.proofs.Stages.{refused-then, then-on}
 use Rattle.automata.specs.Together.{startingSets}
 use Rattle.derivation.specs.Rules.{goalOf}
 use Rattle.derivation.specs.Forest.{written}
-use Rattle.derivation.specs.Attached.{automataOf, markedOf, owedOf}
+use Rattle.attached.specs.Attached.{automataOf, markedOf, owedOf}
 use Rattle.search.specs.Search.{provable}
 use Rattle.listing.specs.Minimal.{isMinimal}
 use Rattle.members.specs.Above.{nothingAbove}

@@ -21,8 +21,8 @@ use Rattle.table.specs.declared.Query.{Query}
 use Rattle.table.proofs.WellFormed.{wf-credential, wf-mark}
 use Rattle.derivation.specs.Words.{isMet, words}
 use Rattle.derivation.specs.Accepted.{Accepted}
-use Rattle.derivation.specs.Attached.{automataOf, everyOf, markedOf, owedOf}
-use Rattle.derivation.proofs.Attaching.{every-member, owed-member}
+use Rattle.attached.specs.Attached.{automataOf, everyOf, markedOf, owedOf}
+use Rattle.attached.proofs.Attaching.{every-member, owed-member}
 use Rattle.derivation.proofs.Using.{automaton-shows}
 use Rattle.search.specs.Search.{AllAccept, SomeAccept}
 use Rattle.admission.proofs.Admitting.{demanding, used-shows}

@@ -11,7 +11,7 @@ use Rattle.table.specs.Outcome.{Outcome, _andThen_, demand}
 use Rattle.table.specs.Outcome.Outcome.{accepted, refused}
 use Rattle.table.specs.Checks.{requestOutcome, told}
 use Rattle.table.specs.declared.Query.{Query}
-use Rattle.derivation.specs.Attached.{everyOf, owedOf}
+use Rattle.attached.specs.Attached.{everyOf, owedOf}
 use Rattle.listing.specs.Minimal.{isMinimal}
 use Rattle.walking.specs.First.{firstRecord}
 use Rattle.writing.specs.declared.Written.{Written}

@@ -47,8 +47,8 @@ fn write_checked(table: &[Number], query: Query, set: CredentialSet, rec: &mut [
     requires { ⌜ Valid query ⌝ }
     ensures { λ r. ⌜ Tells (now (table .entry)) query set (now (rec .entry)) (now (rec .exit)) (writtenTold r) ⌝ }
 {
-    let index = members::index(table, query);
-    if derivation::automata_of(table, set) == 0 {
+    let index = indexing::index(table, query);
+    if attached::automata_of(table, set) == 0 {
         return write_over(table, query, &index, &table[..0], set, rec);
     }
     let mut arcs = [0; automata::INDEX_CELLS];
@@ -91,7 +91,7 @@ fn is_listed(
     if !admission::admits(table, query, index, arcs, set) {
         return false;
     }
-    regions::is_minimal(table, query, index, arcs, set)
+    candidates::is_minimal(table, query, index, arcs, set)
 }
 
 // Row 16, or the record: first the terms of the set are settled. A small set gets a small memory, since clearing a large one
@@ -108,10 +108,10 @@ fn write_listed(
     requires { ⌜ isMinimal (now table) query set ≡ true ⌝ }
     ensures { λ r. ⌜ Tells (now (table .entry)) query set (now (rec .entry)) (now (rec .exit)) (writtenTold r) ⌝ }
 {
-    let mut rows = [0; members::TABLE_CELLS];
-    let last = members::fill(table, index, set, layout::wide(query.depth), &mut rows);
-    let borne = derivation::automata_of(table, set);
-    let owed = derivation::marked(table, borne);
+    let mut rows = [0; levels::TABLE_CELLS];
+    let last = levels::fill(table, index, set, layout::wide(query.depth), &mut rows);
+    let borne = attached::automata_of(table, set);
+    let owed = attached::marked(table, borne);
     let terms = Terms {
         allowed: set,
         constraints: borne ^ owed,

@@ -12,10 +12,10 @@ use lib.Bits.{bitOr}
 use borrow.Author.Needs.{needs}
 use Rattle.sets.proofs.Tests.{failed, passed}
 use Rattle.families.specs.Families.{covers}
-use Rattle.derivation.proofs.Above.{depth-fits, depth-some}
+use Rattle.derivation.proofs.Depths.{depth-fits, depth-some}
 use Rattle.members.specs.Members.{tableCells}
 use Rattle.members.proofs.Reading.{zeros}
-use Rattle.derivation.specs.Attached.{owedOf}
+use Rattle.attached.specs.Attached.{owedOf}
 use Rattle.search.specs.Search.{provable}
 use Rattle.admission.specs.Admits.{admitsTo, withoutAll}
 use Rattle.admission.specs.Deciding.{Borne, lackingOf}
@@ -53,10 +53,10 @@ use Rattle.admission.proofs.owing.Reads as owing-reads
 use Rattle.admission.proofs.owing_all.Reads as owing-all-reads
 use Rattle.admission.proofs.without.Reads as without-reads
 use Rattle.admission.proofs.without_one.Reads as without-one-reads
-use Rattle.derivation.proofs.automata_of.Reads as automata-of-reads
+use Rattle.attached.proofs.automata_of.Reads as automata-of-reads
 use Rattle.families.proofs.Family.covers.Reads as covers-reads
 use Rattle.families.proofs.Family.only.Reads as only-reads
-use Rattle.members.proofs.fill.Reads as fill-reads
+use Rattle.levels.proofs.fill.Reads as fill-reads
 use Rattle.search.proofs.is_member.Reads as is-member-reads
 use Rattle.search.proofs.query_search.Reads as query-search-reads
 use Rattle.sets.proofs.has_16.Reads as has-16-reads

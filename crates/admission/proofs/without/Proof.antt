@@ -8,8 +8,8 @@ use borrow.Author.Needs.{needs}
 use Rattle.sets.specs.Sets.{setOf}
 use Rattle.table.specs.Layout.{credentials}
 use Rattle.admission.specs.Admits.{withoutAll}
-use Rattle.derivation.proofs.Attaching.{automaton-few}
-use Rattle.members.proofs.Rows.{three-ways}
+use Rattle.attached.proofs.Attaching.{automaton-few}
+use Rattle.levels.proofs.Rows.{three-ways}
 use Rattle.admission.proofs.Deciding.{without-bearer, without-more, without-outside, withoutTo}
 use Rattle.admission.proofs.without.Statement.{statement}
 use Rattle.admission.proofs.without.Tie as tie

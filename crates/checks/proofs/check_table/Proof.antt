@@ -13,8 +13,8 @@ use Rattle.table.specs.Holding.{Sized}
 use Rattle.table.specs.Checks.{goodChain, headOutcome, numberOf, tableOutcome}
 use Rattle.table.proofs.Sizes.{sized}
 use Rattle.table.proofs.Stages.{refused-then, then-on}
-use Rattle.checks.specs.Rows.{good, records, rowOutcome}
-use Rattle.checks.specs.declared.rows.Row.the-variants as row
+use Rattle.scans.specs.Rows.{good, records, rowOutcome}
+use Rattle.scans.specs.declared.Row.the-variants as row
 use Rattle.checks.specs.Told.{tableTold}
 use Rattle.checks.proofs.Told.{row-empty, row-passed, row-stops, stage-passed, stage-stops}
 use Rattle.checks.proofs.check_table.Statement.{statement}

@@ -8,7 +8,8 @@ use lib.ListN.{length, take}
 use borrow.Author.Needs.{needs}
 use denote.Ref.{now}
 use Rattle.input.specs.Input.{isWhole}
-use Rattle.input.proofs.Inputs.{answers-unwhole, answers-whole, decoded-first, odd-unwhole}
+use Rattle.decoding.proofs.Decoded.{decoded-first}
+use Rattle.input.proofs.Inputs.{answers-unwhole, answers-whole, odd-unwhole}
 use Rattle.input.proofs.Inputs.{read-few, read-length, short-unwhole, whole}
 use Rattle.input.proofs.list_input.Statement.{statement}
 use Rattle.input.proofs.list_input.Tie as tie

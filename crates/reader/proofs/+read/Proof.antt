@@ -12,7 +12,8 @@ use denote.Ref.{now}
 use Rattle.table.specs.Limits.{mostDepth}
 use Rattle.table.specs.declared.Goal.{Goal}
 use Rattle.automata.specs.Arcs.{Arcs}
-use Rattle.derivation.specs.Held.{Room, above}
+use Rattle.derivation.specs.Held.{Room}
+use Rattle.branches.specs.Held.{above}
 use Rattle.reader.proofs.Onward.{Down, Node, Onward, child-stops, children-read, onward-goes, onward-starts, room-below}
 use Rattle.reader.proofs.Onward.{node-credential, node-halts, node-level, node-long, node-moves, node-place}
 use Rattle.reader.proofs.+read.{statement}
@@ -22,11 +23,11 @@ use Rattle.reader.proofs.read.Kinds as read-kinds
 use Rattle.reader.proofs.+read.Lts-read as read-lts
 use Rattle.arcs.proofs.ask.Reads as ask-reads
 use Rattle.automata.proofs.StateSets.moved.Reads as moved-reads
-use Rattle.derivation.proofs.branches.Branch.with.Reads as with-reads
+use Rattle.branches.proofs.Branch.with.Reads as with-reads
 use Rattle.table.proofs.layout.wide.Reads as wide-reads
-use Rattle.reader.proofs.after_node.Reads as after-node-reads
-use Rattle.reader.proofs.enter.Reads as enter-reads
-use Rattle.reader.proofs.with_credential.Reads as with-credential-reads
+use Rattle.entering.proofs.after_node.Reads as after-node-reads
+use Rattle.entering.proofs.enter.Reads as enter-reads
+use Rattle.entering.proofs.with_credential.Reads as with-credential-reads
 
 abbrev μ-read : Measures 8 read-kinds.ps ℕ
 μ-read κs a = a .1 .1 .1 .0

@@ -6,8 +6,8 @@ use borrow.Author.Needs.{needs}
 use denote.Ref.{now}
 use Rattle.table.specs.Checks.{numberOf}
 use Rattle.table.specs.Limits.{mostDepth}
-use Rattle.derivation.specs.Held.{above}
-use Rattle.derivation.proofs.Above.{depth-fits}
+use Rattle.branches.specs.Held.{above}
+use Rattle.derivation.proofs.Depths.{depth-fits}
 use Rattle.verifier.proofs.Judged.{Begins, stops-number, verdict-leftover, verdict-stops, verdict-words}
 use Rattle.verifier.proofs.judge_by.Statement.{statement}
 use Rattle.verifier.proofs.judge_by.Tie as tie

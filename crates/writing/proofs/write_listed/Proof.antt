@@ -6,7 +6,7 @@ use Prim.Native.Nat.{ℕ}
 use native.Mathlib.Omega.{arith}
 use lib.Bits.{bitXor}
 use denote.Ref.{now}
-use Rattle.derivation.proofs.Above.{depth-fits, depth-some}
+use Rattle.derivation.proofs.Depths.{depth-fits, depth-some}
 use Rattle.members.specs.Members.{Blank, Members, tableCells}
 use Rattle.members.proofs.Reading.{zeros}
 use Rattle.failures.specs.Failures.{SlotIn, fewCells, memoryCells}

@@ -5,7 +5,7 @@ use native.Mathlib.Omega.{arith}
 use native.Mathlib.Numerals.{add-one}
 use Rattle.table.specs.Limits.{mostParts}
 use Rattle.members.proofs.Reading.{as-read, kind-read, numbered}
-use Rattle.members.proofs.Indexing.{whole}
+use Rattle.members.proofs.Reading.{whole}
 use Rattle.search.proofs.Pairs.{CellsTo, cells-next, cells-none, roles-pairs}
 use borrow.Author.Needs.{needs}
 use Rattle.search.proofs.asking.roles_asked.Statement.{statement}

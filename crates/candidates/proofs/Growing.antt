@@ -1,0 +1,139 @@
+-- A set that is not admitted, grown credential by credential; what lies outside of it; and a set that is minimal by leaving out one
+-- credential at a time.
+use mathlib.Core.Path.{_≡_, refl, sym, ap, _∙_}
+use mathlib.Core.List.{List}
+use mathlib.Core.Bool.{Bool, true, false, not}
+use Prim.Native.Nat.{ℕ, _+_, _-_, _*_, _%_, _^_, _<_, _≤_}
+use native.Mathlib.Omega.{arith}
+use lib.ListN.{getD, length}
+use lib.Bits.{bitAnd, bitOr, bitXor, or-lt}
+use lib.Dec.{eqb, ltb}
+use borrow.Author.Tests.{eq-eqb, eqb-true, le-ltb, lt-ltb, ne-eqb}
+use lib.Pow.{pow-lt, pow-pos}
+use Rattle.sets.specs.Logic.{_and_, _or_, anyBelow}
+use Rattle.sets.specs.Sets.{inSet, part}
+use Rattle.sets.proofs.Tests.{and-both, and-false, and-first, and-is, and-is-off, and-second, any-next, any-not, any-on}
+use Rattle.sets.proofs.Tests.{any-reached, failed, false-true, or-false, passed, refuted}
+use Rattle.sets.proofs.Members.{below-members, inSet-and, inSet-or, inSet-pow, one-bit, part-or-left, part-refl, part-trans, same-members}
+use Rattle.sets.proofs.Without.{outside-members}
+use Rattle.cuts.specs.Cuts.{Cuts, Monotone, isLeast, meetsAll}
+use Rattle.cuts.proofs.Least.{least-by-one, least-without}
+use Rattle.cuts.proofs.Meeting.{unmet-fails}
+use Rattle.sorted.specs.Sorted.{Inserted}
+use Rattle.table.specs.Layout.{credentials}
+use Rattle.table.specs.Holding.{WellFormed}
+use Rattle.table.specs.declared.Query.{Query}
+use Rattle.admission.specs.Admits.{admits}
+use Rattle.admission.proofs.Admitting.{admits-mono}
+use Rattle.candidates.specs.Candidates.{Bears, Grown, Kept, hasListed}
+
+module _ (t : List ℕ) (wf : WellFormed t) (q : Query) where
+  pub admits-monotone : Monotone (admits t q) (credentials t)
+  admits-monotone X Y few inside passes = admits-mono t wf q X Y inside passes
+
+-- the code's `(1 << n) - 1`
+abbrev pub allOf : ℕ → ℕ
+allOf n = (1 * 2 ^ n) % 2 ^ 32 - 1
+
+pub all-some : (n : ℕ) → n < 32 → 1 ≤ (1 * 2 ^ n) % 2 ^ 32
+all-some n few = rw (one-bit 32 n few) (omega (arith, pow-pos n))
+
+pub all-is : (n : ℕ) → n < 32 → allOf n ≡ 2 ^ n - 1
+all-is n few = rw (one-bit 32 n few)
+
+pub outside-is : (n set : ℕ) → n < 32 → set < 2 ^ n → (c : ℕ)
+    → inSet (bitXor (allOf n) set) c ≡ (ltb c n and not (inSet set c))
+outside-is n set few fits c = rw (all-is n few) (outside-members set n c fits)
+
+module _ {p : ℕ → Bool} {n set : ℕ} where
+  pub grown-same : set < 2 ^ n → p set ≡ false → Grown p n set set
+  grown-same fits fails = record { from = part-refl set; fits = fits; fails = fails }
+
+  pub grown-on : {more most : ℕ} → Grown p n set more → Grown p n more most → Grown p n set most
+  grown-on g h = record { from = part-trans _ _ _ (g .from) (h .from); fits = h .fits; fails = h .fails }
+
+module _ (n set i : ℕ) (fits : set < 2 ^ n) (l : i < n) where
+  more-fits : bitOr set (2 ^ i) < 2 ^ n
+  more-fits = or-lt n set (2 ^ i) fits (pow-lt {i = i} {j = n} l)
+
+  pub grown-more : {p : ℕ → Bool} {more : ℕ} → more ≡ bitOr set (2 ^ i) → p more ≡ false → Grown p n set more
+  grown-more e fails = record { from = rw e (part-or-left set (2 ^ i)); fits = rw e more-fits; fails = fails }
+
+  -- the cuts tell that it is not admitted
+  pub grown-unmet : {p : ℕ → Bool} {more : ℕ} {cuts : List ℕ} {count : ℕ} → Cuts p n cuts count → more ≡ bitOr set (2 ^ i)
+      → meetsAll cuts count more ≡ false → Grown p n set more
+  grown-unmet {more} known e h = grown-more e (unmet-fails known more (rw e more-fits) h)
+
+-- a credential outside of `usable` makes no difference
+beyond-same : (set i usable : ℕ) → inSet usable i ≡ false → bitAnd (bitOr set (2 ^ i)) usable ≡ bitAnd set usable
+unfolding _or_
+beyond-same set i usable out = same-members _ _ (λ s. go s (eqb i s) refl)
+  where
+    go : (s : ℕ) (b : Bool) → eqb i s ≡ b → inSet (bitAnd (bitOr set (2 ^ i)) usable) s ≡ inSet (bitAnd set usable) s
+    go s true e =
+        let off = rw (eqb-true i s e) at out in
+        rw (inSet-and (bitOr set (2 ^ i)) usable s, inSet-and set usable s, off) (and-false _ ∙ sym (and-false _))
+    go s false e =
+        rw (inSet-and (bitOr set (2 ^ i)) usable s, inSet-and set usable s, inSet-or set (2 ^ i) s, inSet-pow i s, e)
+        (ap (λ b. b and inSet usable s) (or-false (inSet set s)))
+
+pub beyond-fails : {p : ℕ → Bool} (set i usable : ℕ) {more : ℕ} → Bears p usable → inSet usable i ≡ false → p set ≡ false
+    → more ≡ bitOr set (2 ^ i) → p more ≡ false
+beyond-fails {p} set i usable bears out fails e =
+    ap p e ∙ sym (bears (bitOr set (2 ^ i))) ∙ ap p (beyond-same set i usable out) ∙ bears set ∙ fails
+
+-- whether one of the sets found so far is a part of the set, set by set
+module _ (sets : List ℕ) (set : ℕ) where
+  pub listed-none : hasListed sets 0 set ≡ false
+  unfolding hasListed anyBelow
+  listed-none = refl
+
+  pub listed-here : (i found : ℕ) → i < found → i < length sets → bitAnd (getD sets i 0) set ≡ getD sets i 0
+      → hasListed sets found set ≡ true
+  unfolding hasListed part
+  listed-here i found l there e = any-reached _ found i l (and-both (lt-ltb i (length sets) there) (eq-eqb _ _ e))
+
+  pub listed-next : (i : ℕ) → hasListed sets i set ≡ false → (bitAnd (getD sets i 0) set ≡ getD sets i 0 → ⊥)
+      → hasListed sets (i + 1) set ≡ false
+  unfolding hasListed part
+  listed-next i before e = any-next _ i before (rw (ne-eqb _ _ e) (and-false (ltb i (length sets))))
+
+  -- beyond the buffer's cells there is none
+  pub listed-whole : (i found : ℕ) → length sets ≤ i → hasListed sets i set ≡ false → hasListed sets found set ≡ false
+  unfolding hasListed
+  listed-whole i found end before =
+      any-on _ i found before (λ k from l. and-is-off _ (le-ltb k (length sets) (omega arith)))
+
+-- a credential that the set has, and without which it is admitted
+abbrev pub spare : (ℕ → Bool) → ℕ → ℕ → Bool
+spare p set i = inSet set i and p (bitXor set (2 ^ i))
+
+module _ (p : ℕ → Bool) (set i : ℕ) where
+  pub spare-out : {has : Bool} → has ≡ inSet set i → not has ≡ true → false ≡ spare p set i
+  spare-out e h = sym (and-is-off _ (failed e h))
+
+  pub spare-in : {has r : Bool} → i < 32 → has ≡ inSet set i → not has ≡ false → r ≡ p (bitXor set ((1 * 2 ^ i) % 2 ^ 32)) → r ≡ spare p set i
+  spare-in few e h told = told ∙ rw (one-bit 32 i few) (sym (and-is (passed e h) refl))
+
+  pub spare-more : {flag : Bool} → flag ≡ spare p set i → flag ≡ true → isLeast p set ≡ false
+  spare-more e h =
+      let both = sym e ∙ h in
+      refuted (isLeast p set) (λ least.
+      false-true (sym (least-without p set i least (and-first _ _ both)) ∙ and-second (inSet set i) _ both))
+
+pub none-spare : (p : ℕ → Bool) (n : ℕ) → Monotone p n → (set : ℕ) → set < 2 ^ n → p set ≡ true → (i : ℕ) → n ≤ i
+    → anyBelow (spare p set) i ≡ false → isLeast p set ≡ true
+none-spare p n mono set fits passes i all none =
+    least-by-one p n mono set fits passes (λ c own.
+    refuted (p (bitXor set (2 ^ c))) (λ there.
+    let l : c < i = omega (arith, below-members set n c fits own) in
+    false-true (sym (any-not (spare p set) i c none l) ∙ and-both own there)))
+
+-- a set is kept where it is least
+module _ {p : ℕ → Bool} {set : ℕ} {sets : List ℕ} {found : ℕ} where
+  pub kept-not : isLeast p set ≡ false → Kept p set sets found sets found
+  kept-not h = record { least = λ e. absurd (false-true (sym h ∙ e)); other = λ e. (refl, refl) }
+
+  pub kept-least : {sets′ : List ℕ} {found′ : ℕ} → isLeast p set ≡ true → Inserted sets found set sets′ found′
+      → Kept p set sets found sets′ found′
+  kept-least h there = record { least = λ e. there; other = λ e. absurd (false-true (sym e ∙ h)) }
