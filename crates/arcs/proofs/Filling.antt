@@ -18,7 +18,8 @@ use Rattle.table.specs.Limits.{mostAutomata}
 use Rattle.table.specs.Layout.{edge, edges}
 use Rattle.table.specs.declared.Edge.{Edge}
 use Rattle.table.specs.declared.Role.{Role}
-use Rattle.automata.specs.Automata.{leads, matches, moved, movedBy}
+use Rattle.edges.specs.Edges.{leads, matches}
+use Rattle.automata.specs.Automata.{moved, movedBy}
 use Rattle.automata.specs.Arcs.{Ended, Row, arcCells, fromCell, led, mostArcs, toCell}
 use Rattle.automata.proofs.Arcs.{led-ended}
 use Rattle.automata.proofs.Moves.{leadsTo, moved-next}

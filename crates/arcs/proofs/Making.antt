@@ -15,7 +15,7 @@ use Rattle.table.specs.Holding.{WellFormed}
 use Rattle.table.specs.declared.Credential.{Credential}
 use Rattle.table.specs.declared.Edge.{Edge}
 use Rattle.table.specs.declared.Role.{Role}
-use Rattle.automata.specs.Automata.{matches}
+use Rattle.edges.specs.Edges.{matches}
 use Rattle.automata.specs.Arcs.{Arcs, indexCells, made, madeCell, mostArcs}
 use Rattle.automata.proofs.Arcs.{index-whole}
 use Rattle.arcs.specs.Filling.{Cleared, Elsewhere, Filling, Found, RowMade, arcWith}

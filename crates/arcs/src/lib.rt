@@ -89,7 +89,7 @@ fn fill(table: &[Number], arcs: &mut [StateSet], place: usize)
     while k < e {
         k += 1;
         let edge = layout::edge(table, k);
-        if automata::edge_matches(edge, role) {
+        if edges::matches(edge, role) {
             let l = find(arcs, place, 1 << edge.to);
             put(arcs, place, l, edge);
         }

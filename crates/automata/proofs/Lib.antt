@@ -3,7 +3,6 @@ pub mod Arcs
 pub mod Each
 pub mod Moves
 pub mod Promised
-pub mod Labels
 pub mod Together
 pub mod Unions
 pub mod Written

@@ -17,7 +17,8 @@ use Rattle.table.specs.declared.Edge.{Edge}
 use Rattle.sets.proofs.Tests.{and-both, and-false, and-or-and, and-parts, false-true}
 use Rattle.sets.proofs.Tests.{or-and, or-either, or-exchange, or-first, or-second}
 use Rattle.sets.specs.Sets.{inSet}
-use Rattle.automata.specs.Automata.{leads, matches, moved, movedBy, run}
+use Rattle.edges.specs.Edges.{leads, matches}
+use Rattle.automata.specs.Automata.{moved, movedBy, run}
 use Rattle.sets.proofs.Members.{inSet-zero, inSet-or, inSet-pick, same-members}
 
 module _ (t : List ℕ) (k : ℕ) (r : Role) where

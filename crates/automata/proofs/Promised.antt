@@ -17,11 +17,12 @@ use Rattle.table.specs.Checks.{isPrincipal, within}
 use Rattle.table.specs.declared.Principal.{Principal}
 use Rattle.table.specs.declared.Role.{Role}
 use Rattle.table.proofs.Meanings as meanings
-use Rattle.automata.specs.Automata.{accepts, acceptsFrom, leads, moved, movedBy, run, starting}
+use Rattle.edges.specs.Edges.{leads}
+use Rattle.edges.proofs.Labels.{label-4}
+use Rattle.automata.specs.Automata.{accepts, acceptsFrom, moved, movedBy, run, starting}
 use Rattle.automata.specs.Promised.{EmptyStays, EmptyWhere, MatchesOwner, NamesOwner, TellsEmpty}
 use Rattle.automata.specs.Together.{deadSet, movedOn, movedSets, setFor}
 use Rattle.automata.specs.declared.StateSets.{StateSets}
-use Rattle.automata.proofs.Labels.{label-4}
 use Rattle.automata.proofs.Moves.{moved-reached, moved-shows, run-empty}
 
 pub matches-owner : MatchesOwner

@@ -9,12 +9,11 @@ use native.Mathlib.Numerals.{add-one, sub-one}
 use native.Mathlib.Decide.{decLt, ℕ-discrete}
 use lib.ListN.{length, getD, set, replicate, length-set, getD-replicate}
 use lib.Seq.{getD-set-same, getD-set-other}
-use lib.Bits.{bitAnd, bitOr}
+use lib.Bits.{bitAnd, bitOr, or-zero-r}
 use lib.Dec.{eqb, ltb}
 use borrow.Author.Tests.{ne-eqb, le-leb}
 use Rattle.sets.specs.Logic.{_and_, pick}
 use Rattle.sets.specs.Sets.{setOf}
-use Rattle.sets.proofs.Tests.{pick-apart, pick-same}
 use Rattle.sets.proofs.Members.{meets-not, meets-some, set-more, set-not}
 use Rattle.table.specs.Limits.{lastState, mostAutomata}
 use Rattle.table.specs.Layout.{Numbered, automata, automaton, credential, edge, edges}
@@ -25,8 +24,9 @@ use Rattle.table.specs.declared.Credential.{Credential}
 use Rattle.table.specs.declared.Automaton.{Automaton}
 use Rattle.table.specs.declared.Edge.{Edge}
 use Rattle.table.proofs.WellFormed.{wf-edge}
-use Rattle.automata.specs.Automata.{acceptsFrom, leads, moved, movedBy, starting}
-use Rattle.automata.specs.Together.{acceptingSet, deadSet, movedOn, movedSets, startingSets, together, withEdge}
+use Rattle.edges.specs.Edges.{leads}
+use Rattle.automata.specs.Automata.{acceptsFrom, moved, movedBy, starting}
+use Rattle.automata.specs.Together.{acceptingSet, deadSet, movedOn, movedSets, startingSets, together}
 use Rattle.automata.specs.declared.Moved.{Moved}
 use Rattle.automata.specs.declared.StateSets.{StateSets}
 use Rattle.automata.proofs.Each.{together-at, together-beyond, together-is}
@@ -61,96 +61,53 @@ pub moving-none : (t : List ℕ) (r : Role) (from : StateSets) → Moving t r fr
 unfolding movedBy
 moving-none t r from = record { size = refl; here = λ j h. getD-replicate mostAutomata j 0 0 h }
 
--- whether the edge leads its own automaton on
-abbrev leadsOwn : StateSets → Role → Edge → Bool
-leadsOwn from r e = leads (e .automaton) r (getD (from .sets) (e .automaton - 1) 0) e
-
--- an edge may change the set of its own automaton, and no other
-module _ (from : StateSets) (r : Role) (e : Edge) (next : StateSets) where
-  abbrev led : StateSets
-  led = record { sets = set (next .sets) (e .automaton - 1) (bitOr (getD (next .sets) (e .automaton - 1) 0) (2 ^ (e .to))) }
-
-  edge-apart : {A : Type 0} (f : StateSets → A) → f (withEdge from r e next) ≡ pick (leadsOwn from r e) (f led) (f next)
-  unfolding withEdge
-  edge-apart f = pick-apart f (leadsOwn from r e) led next
-
-  edge-sizes : length (withEdge from r e next .sets) ≡ length (next .sets)
-  edge-sizes = edge-apart (λ s. length (s .sets)) ∙ pick-same (leadsOwn from r e) (simp length-set)
-
-  edge-own : (j : ℕ) → suc j ≡ e .automaton → j < length (next .sets)
-      → getD (withEdge from r e next .sets) j 0
-      ≡ pick (leadsOwn from r e) (bitOr (getD (next .sets) j 0) (2 ^ (e .to))) (getD (next .sets) j 0)
-  edge-own j own h =
-      let place : e .automaton - 1 ≡ j = omega arith in
-      edge-apart (λ s. getD (s .sets) j 0) ∙ rw (place, getD-set-same (next .sets) j _ 0 h)
-
-  edge-other : (j : ℕ) → 1 ≤ e .automaton → (suc j ≡ e .automaton → ⊥)
-      → getD (withEdge from r e next .sets) j 0 ≡ getD (next .sets) j 0
-  edge-other j one other =
-      edge-apart (λ s. getD (s .sets) j 0)
-      ∙ pick-same (leadsOwn from r e) (getD-set-other (next .sets) _ j _ 0 (λ same. other (omega arith)))
-
-  edge-leads : {w d x : ℕ} → leadsOwn from r e ≡ true → w ≡ e .automaton → d ≡ e .to
-      → x ≡ bitOr (getD (next .sets) (w - 1) 0) (2 ^ d) → record { sets = set (next .sets) (w - 1) x } ≡ withEdge from r e next
-  unfolding withEdge pick
-  edge-leads on own to made = rw (made, own, to, on)
-
-  edge-stays : leadsOwn from r e ≡ false → next ≡ withEdge from r e next
-  unfolding withEdge pick
-  edge-stays off = rw off
+-- one more edge adds what it gives, or nothing
+pick-given : (b : Bool) (x to : ℕ) → pick b (bitOr x to) x ≡ bitOr x (pick b to 0)
+unfolding pick
+pick-given true x to = refl
+pick-given false x to = sym (or-zero-r x)
 
 leads-alike : (r : Role) (e : Edge) {k l x y : ℕ} → k ≡ l → x ≡ y → leads k r x e ≡ leads l r y e
 leads-alike r e h i = cc
 
--- and so it is with what the edge after the first n adds to the moved sets
-abbrev nextEdge : List ℕ → ℕ → Edge
-nextEdge t n = edge t (n + 1)
-
-module _ (t : List ℕ) (r : Role) (from : StateSets) (n j : ℕ) where
-  others-stay : (suc j ≡ nextEdge t n .automaton → ⊥) → movedAt t r from j (n + 1) ≡ movedAt t r from j n
-  unfolding movedBy leads _and_ pick
-  others-stay other = rw (add-one n, ne-eqb (edge t (suc n) .automaton) (suc j) (λ e. other (rw (add-one n) (sym e))))
-
-  own-moves : suc j ≡ nextEdge t n .automaton
-      → movedAt t r from j (n + 1)
-      ≡ pick (leadsOwn from r (nextEdge t n)) (bitOr (movedAt t r from j n) (2 ^ (nextEdge t n .to))) (movedAt t r from j n)
-  unfolding movedBy
-  own-moves same =
-      let place : j ≡ nextEdge t n .automaton - 1 = omega arith in
-      let leading = leads-alike r (nextEdge t n) same (ap (λ (i : ℕ). getD (from .sets) i 0) place) in
-      rw (← leading, add-one n)
-
-module _ (t : List ℕ) (r : Role) (from : StateSets) (n : ℕ) (next : StateSets) (so-far : Moving t r from n next)
-    (there : Numbered mostAutomata (nextEdge t n .automaton)) where
-  next-here : (j : ℕ) → j < mostAutomata → Dec (suc j ≡ nextEdge t n .automaton)
-      → getD (withEdge from r (nextEdge t n) next .sets) j 0 ≡ movedAt t r from j (n + 1)
-  next-here j h (yes own) =
-      edge-own from r (nextEdge t n) next j own (omega (arith, so-far .size))
-      ∙ rw (so-far .here j h) (sym (own-moves t r from n j own))
-  next-here j h (no other) =
-      edge-other from r (nextEdge t n) next j (there .first) other ∙ so-far .here j h ∙ sym (others-stay t r from n j other)
-
-  moving-more : Moving t r from (n + 1) (withEdge from r (nextEdge t n) next)
-  moving-more =
-      record {
-        size = edge-sizes from r (nextEdge t n) next ∙ so-far .size;
-        here = λ j h. next-here j h (ℕ-discrete (suc j) (nextEdge t n .automaton));
-      }
-
--- the code has read that edge as e, and tested whether it leads on
+-- the code has read edge n + 1 as e, its automaton's number as w, and has what the edge gives from that automaton's set
 module _ (t : List ℕ) (r : Role) (from : StateSets) (n : ℕ) (next : StateSets) (so-far : Moving t r from n next) {e : Edge}
-    (read : e ≡ nextEdge t n) (there : Numbered mostAutomata (e .automaton)) {on : Bool} (test : on ≡ leadsOwn from r e) where
-  moving-read : Moving t r from (n + 1) (withEdge from r e next)
-  moving-read = rw read (moving-more t r from n next so-far (rw read at there))
+    (read : e ≡ edge t (n + 1)) (there : Numbered mostAutomata (e .automaton)) {w given : ℕ} (own : w ≡ e .automaton)
+    (gives : given ≡ pick (leads (e .automaton) r (getD (from .sets) (w - 1) 0) e) (2 ^ (e .to)) 0) where
+  -- the set of its own automaton gets it
+  own-moves : (j : ℕ) → suc j ≡ w → movedAt t r from j (n + 1) ≡ bitOr (movedAt t r from j n) given
+  unfolding movedBy
+  own-moves j same =
+      let place : j ≡ w - 1 = omega arith in
+      let leading = leads-alike r e (same ∙ own) (ap (λ (i : ℕ). getD (from .sets) i 0) place) in
+      rw (gives, ← leading, read, add-one n) (pick-given (leads (suc j) r _ (edge t (suc n))) (movedAt t r from j n) _)
 
-  -- it does: w is its automaton's number, d its `to` state, and x the automaton's set with that state
-  pub moving-on : {w d x : ℕ} → on ≡ true → w ≡ e .automaton → d ≡ e .to → x ≡ bitOr (getD (next .sets) (w - 1) 0) (2 ^ d)
-      → Moving t r from (n + 1) (record { sets = set (next .sets) (w - 1) x })
-  moving-on taken own to made = rw (edge-leads from r e next (sym test ∙ taken) own to made) moving-read
+  -- and no other set
+  others-stay : (j : ℕ) → (suc j ≡ w → ⊥) → movedAt t r from j (n + 1) ≡ movedAt t r from j n
+  unfolding movedBy leads _and_ pick
+  others-stay j other =
+      rw (add-one n, ne-eqb (edge t (suc n) .automaton) (suc j) (λ is. other (sym is ∙ rw (read, add-one n) at (sym own))))
 
-  -- it does not, and the sets stay as they are
-  pub moving-past : on ≡ false → Moving t r from (n + 1) next
-  moving-past left = rw (← edge-stays from r e next (sym test ∙ left)) at moving-read
+  pub moving-on : Moving t r from (n + 1) (record { sets = set (next .sets) (w - 1) (bitOr (getD (next .sets) (w - 1) 0) given) })
+  moving-on = record { size = simp length-set (so-far .size); here = λ j less. at j less (ℕ-discrete (suc j) w) }
+    where
+      at : (j : ℕ) → j < mostAutomata → Dec (suc j ≡ w)
+          → getD (set (next .sets) (w - 1) (bitOr (getD (next .sets) (w - 1) 0) given)) j 0 ≡ movedAt t r from j (n + 1)
+      at j less (yes same) =
+          let place : w - 1 ≡ j = omega arith in
+          rw (place, own-moves j same, ← so-far .here j less)
+          (getD-set-same (next .sets) j _ 0 (omega (arith, less, so-far .size)))
+      at j less (no other) =
+          getD-set-other (next .sets) (w - 1) j _ 0 (λ is. other (omega (arith, is, own, there .first)))
+          ∙ so-far .here j less ∙ sym (others-stay j other)
+
+  -- it gives nothing, and the sets stay as they are
+  pub moving-past : given ≡ 0 → Moving t r from (n + 1) next
+  moving-past none = record { size = so-far .size; here = λ j less. so-far .here j less ∙ sym (at j (ℕ-discrete (suc j) w)) }
+    where
+      at : (j : ℕ) → Dec (suc j ≡ w) → movedAt t r from j (n + 1) ≡ movedAt t r from j n
+      at j (yes same) = own-moves j same ∙ rw none (or-zero-r (movedAt t r from j n))
+      at j (no other) = others-stay j other
 
 pub moving-all : (t : List ℕ) (r : Role) (from : StateSets) (n : ℕ) (next : StateSets) → n ≡ edges t → Moving t r from n next
     → next ≡ movedSets t r from

@@ -2,27 +2,14 @@
 -- `to` states of matching edges of its own from states in it; it accepts if an accepting state is in the set at the end.
 use Prim.Native.Nat.{ℕ, zero, suc, _^_}
 use mathlib.Core.List.{List, [], _∷_}
-use mathlib.Core.Bool.{Bool, true, false, not}
+use mathlib.Core.Bool.{Bool}
 use lib.Bits.{bitOr}
-use lib.Dec.{eqb}
-use Rattle.sets.specs.Logic.{_and_, pick}
-use Rattle.table.specs.Layout.{automata, automaton, edge, edges, sameRole}
+use Rattle.sets.specs.Logic.{pick}
+use Rattle.sets.specs.Sets.{meets}
+use Rattle.table.specs.Layout.{automata, automaton, edge, edges}
 use Rattle.table.specs.Checks.{within}
 use Rattle.table.specs.declared.Role.{Role}
-use Rattle.table.specs.declared.Edge.{Edge}
-use Rattle.sets.specs.Sets.{inSet, meets}
-
--- label 1 matches exactly that role, label 2 every role, label 3 every role but that one, label 4 every role of that owner
-unfoldable pub matches : Edge → Role → Bool
-matches e r =
-    pick (eqb (e .label) 1) (sameRole (e .role) r)
-    (pick (eqb (e .label) 2) true
-    (pick (eqb (e .label) 3) (not (sameRole (e .role) r))
-    (pick (eqb (e .label) 4) (eqb (e .role .owner .0) (r .owner .0)) false)))
-
--- the edge leads automaton k on from the set x along the role
-unfoldable pub leads : ℕ → Role → ℕ → Edge → Bool
-leads k r x e = eqb (e .automaton) k and inSet x (e .from) and matches e r
+use Rattle.edges.specs.Edges.{leads}
 
 -- the `to` states of those of the first n edges that lead automaton k on
 unfoldable pub movedBy : List ℕ → ℕ → Role → ℕ → ℕ → ℕ

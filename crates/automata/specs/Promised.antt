@@ -12,7 +12,8 @@ use Rattle.table.specs.Layout.{Numbered, automata, edge, edges}
 use Rattle.table.specs.Checks.{labelOk}
 use Rattle.table.specs.declared.Role.{Role}
 use Rattle.table.specs.declared.Edge.{Edge}
-use Rattle.automata.specs.Automata.{accepts, leads, matches, moved, run, starting}
+use Rattle.edges.specs.Edges.{leads, matches}
+use Rattle.automata.specs.Automata.{accepts, moved, run, starting}
 use Rattle.automata.specs.Together.{movedOn, movedSets, setFor, union}
 use Rattle.automata.specs.declared.StateSets.{StateSets}
 

@@ -1,17 +1,15 @@
 -- docs/DEFINITION.md, "Words": the state sets of all eight automata travel down a branch together. Each is moved as
 -- specs/Automata.antt says of one automaton.
-use Prim.Native.Nat.{ℕ, zero, suc, _-_, _^_}
+use Prim.Native.Nat.{ℕ, zero, suc, _-_}
 use mathlib.Core.List.{List, [], _∷_, _++_}
-use lib.ListN.{getD, set}
+use lib.ListN.{getD}
 use lib.Bits.{bitOr}
 use lib.Dec.{eqb}
-use Rattle.sets.specs.Logic.{pick}
 use Rattle.table.specs.Limits.{mostAutomata}
 use Rattle.table.specs.Layout.{automata}
 use Rattle.table.specs.declared.Role.{Role}
-use Rattle.table.specs.declared.Edge.{Edge}
 use Rattle.sets.specs.Sets.{setOf}
-use Rattle.automata.specs.Automata.{acceptsFrom, leads, moved, starting}
+use Rattle.automata.specs.Automata.{acceptsFrom, moved, starting}
 use Rattle.automata.specs.declared.Moved.{Moved}
 use Rattle.automata.specs.declared.StateSets.{StateSets}
 
@@ -49,11 +47,3 @@ movedOn t r s = let next = movedSets t r s in record { states = next; dead = dea
 -- the automata that accept where their sets are: automaton k counts 2^(k-1)
 unfoldable pub acceptingSet : List ℕ → StateSets → ℕ
 acceptingSet t s = setOf (λ k. acceptsFrom t (suc k) (getD (s .sets) k 0)) (automata t)
-
--- the sets `next` with the edge's `to` state, where the edge leads its automaton on from the sets `from`
-unfoldable pub withEdge : StateSets → Role → Edge → StateSets → StateSets
-withEdge from r e next =
-    let at = e .automaton - 1 in
-    pick (leads (e .automaton) r (getD (from .sets) at 0) e)
-    (record { sets = set (next .sets) at (bitOr (getD (next .sets) at 0) (2 ^ (e .to))) })
-    next

@@ -2,27 +2,19 @@
 // travel together, by value: each child of a node starts from its own copy.
 use sets::AutomatonSet;
 use sets::StateSet;
-use table::EVERY_ROLE;
-use table::Edge;
 use table::Number;
-use table::OTHER_ROLES;
-use table::ROLES_OF_OWNER;
 use table::Role;
-use table::THIS_ROLE;
 use table::layout;
 ghost use mathlib.Core.Path.{_≡_};
 ghost use mathlib.Core.Logic.{_⊎_};
 ghost use Prim.Native.Nat.{suc, _+_, _<_, _≤_};
 ghost use lib.ListN.{getD, length};
 ghost use lib.Dec.{eqb};
-ghost use Rattle.sets.specs.Logic.{pick};
-ghost use Rattle.sets.specs.Sets.{meets};
-ghost use Rattle.table.specs.Limits.{lastState, mostAutomata, mostCredentials};
-ghost use Rattle.table.specs.Layout.{Numbered, credential, credentials};
+ghost use Rattle.table.specs.Limits.{mostCredentials};
+ghost use Rattle.table.specs.Layout.{credential, credentials};
 ghost use Rattle.table.specs.Holding.{WellFormed};
-ghost use Rattle.automata.specs.Automata;
 ghost use Rattle.automata.specs.Arcs.{Arcs, Ended, arcCells, indexCells, ledSets, made, madeCell, mostArcs, withArc};
-ghost use Rattle.automata.specs.Together.{acceptingSet, deadSet, movedOn, movedSets, setFor, startingSets};
+ghost use Rattle.automata.specs.Together.{acceptingSet, deadSet, movedOn, movedSets, startingSets};
 
 // As many as a table can have automata.
 pub const AUTOMATA: usize = 8;
@@ -132,13 +124,13 @@ impl StateSets {
         let to = arcs[at + AUTOMATA];
         let mut k = 0;
         while k < AUTOMATA {
-            sets[k] = sets[k] | given(self.sets[k], arcs[at + k], to);
+            sets[k] = sets[k] | edges::given(self.sets[k], arcs[at + k], to);
             k += 1;
         }
         StateSets { sets: sets }
     }
 
-    // Every automaton's set moved along the role, edge by edge.
+    // Every automaton's set moved along the role, edge by edge. Most edges give nothing: to test that is faster than to write.
     fn by_edges(self, table: &[Number], role: Role) -> StateSets
         requires { ⌜ WellFormed (now table) ⌝ }
         ensures { λ r. ⌜ r ≡ movedSets (now (table .entry)) role self ⌝ }
@@ -151,9 +143,10 @@ impl StateSets {
         while k < e {
             k += 1;
             let edge = layout::edge(table, k);
-            if self.leads(edge, role) {
-                let at = layout::wide(edge.automaton) - 1;
-                next.sets[at] = sets::with_16(next.sets[at], layout::wide(edge.to));
+            let at = layout::wide(edge.automaton) - 1;
+            let to = edges::gives(edge, role, self.sets[at]);
+            if to != 0 {
+                next.sets[at] = next.sets[at] | to;
             }
         }
         next
@@ -213,19 +206,6 @@ impl StateSets {
         }
         mask
     }
-
-    // Whether the edge leads its automaton on from these sets along the role.
-    fn leads(self, edge: Edge, role: Role) -> bool
-        requires { ⌜ Numbered mostAutomata (edge .automaton) ⌝ }
-        requires { ⌜ edge .from ≤ lastState ⌝ }
-        ensures { λ r. ⌜ r ≡ Automata.leads (edge .automaton) role (setFor self (edge .automaton)) edge ⌝ }
-    {
-        let at = layout::wide(edge.automaton) - 1;
-        if self.sets[at] & (1 << edge.from) == 0 {
-            return false;
-        }
-        edge_matches(edge, role)
-    }
 }
 
 // Whether the row of credential `place` + 1 has been made.
@@ -238,28 +218,4 @@ fn is_made(arcs: &[StateSet], place: usize) -> bool
         return false;
     }
     arcs[FIRST_MADE + place] == MADE
-}
-
-// An arc leads on where one of its `from` states is in the set.
-fn given(set: StateSet, from: StateSet, to: StateSet) -> StateSet
-    ensures { λ r. ⌜ r ≡ pick (meets set from) to 0 ⌝ }
-{
-    if set & from != 0 {
-        return to;
-    }
-    0
-}
-
-// Whether the edge's label matches the role.
-pub fn edge_matches(edge: Edge, role: Role) -> bool
-    ensures { λ r. ⌜ r ≡ Automata.matches edge role ⌝ }
-{
-    let label = edge.label;
-    match label {
-        THIS_ROLE => edge.role.same(role),
-        EVERY_ROLE => true,
-        OTHER_ROLES => !edge.role.same(role),
-        ROLES_OF_OWNER => edge.role.owner.0 == role.owner.0,
-        _ => false,
-    }
 }

@@ -16,7 +16,7 @@ use Rattle.table.specs.Checks.{queryOutcome}
 use Rattle.table.specs.Upgraded.{baseAutomaton, baseEdge, baseOutcome, upgraded}
 use Rattle.table.specs.declared.Role.{Role}
 use Rattle.table.specs.declared.Query.{Query}
-use Rattle.automata.specs.Automata.{leads}
+use Rattle.edges.specs.Edges.{leads}
 use Rattle.derivation.specs.Rules.{goalOf}
 use Rattle.derivation.specs.Forest.{Forest}
 use Rattle.derivation.specs.Words.{usesAutomaton, words}

@@ -9,7 +9,8 @@ use Rattle.table.specs.Shop.{annAsks, tableT, tableU}
 use Rattle.table.specs.declared.Query.{Query}
 use Rattle.table.proofs.Opened as table
 use Rattle.sets.specs.Sets.{inSet, meets}
-use Rattle.automata.specs.Automata.{accepts, acceptsFrom, leads, matches, moved, movedBy, run, starting}
+use Rattle.edges.specs.Edges.{leads, matches}
+use Rattle.automata.specs.Automata.{accepts, acceptsFrom, moved, movedBy, run, starting}
 use Rattle.derivation.specs.Rules.{asks, fresh, premises, sameGoal}
 use Rattle.derivation.specs.Forest.{countFrom, usedFrom, usedSet}
 use Rattle.derivation.specs.Words.{acceptsAll, acceptsSome, isMet, met, usesAutomaton, words}

@@ -58,8 +58,8 @@ add-k c = search needs
 edge-requires : tie.Need-edge-requires Inv-loop μ-loop
 edge-requires c κs = search needs
 
-edge-matches-requires : tie.Need-edge-matches-requires Inv-loop μ-loop
-edge-matches-requires c κs = search needs
+matches-requires : tie.Need-matches-requires Inv-loop μ-loop
+matches-requires c κs = search needs
 
 shl-find : tie.Need-shl-find Inv-loop μ-loop
 shl-find c = omega (arith, in-range (read c) .1 .1)
@@ -84,7 +84,7 @@ loop-again c =
     let match = matched (found .before) in
     let at = read (found .before) in
     let (own, (from, to)) = in-range at in
-    let on = sym (match .before .edge-matches .ensures) ∙ match .if1 .taken in
+    let on = sym (match .before .matches .ensures) ∙ match .if1 .taken in
     let mask = one-bit 16 (at .edge .result .to) (omega (arith, to)) in (
       omega arith,
       making-more (loop at .loop .inv .1) _ (at .edge .ensures) _ mask (found .find .ensures) to own on
@@ -97,7 +97,7 @@ loop-less-2 c = search needs
 loop-again-2 : tie.Need-loop-again-2 Inv-loop μ-loop
 loop-again-2 c =
     let at = c .before .before in
-    let off = sym (c .before .edge-matches .ensures) ∙ c .if1 .left in
+    let off = sym (c .before .matches .ensures) ∙ c .if1 .left in
     (omega arith, making-past (loop at .loop .inv .1) _ (at .edge .ensures) off)
 
 add-arcs : tie.Need-add-arcs Inv-loop μ-loop
@@ -131,7 +131,7 @@ fill-spec =
     loop-holds
     add-k
     edge-requires
-    edge-matches-requires
+    matches-requires
     shl-find
     find-requires
     put-requires

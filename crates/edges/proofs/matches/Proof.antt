@@ -1,10 +1,10 @@
--- `automata::edge_matches` meets its contract: label by label. Assumes nothing.
+-- `edges::matches` meets its contract: label by label. Assumes nothing.
 use mathlib.Core.Bool.{not}
 use mathlib.Core.Path.{_∙_, ap, sym}
 use borrow.Author.Needs.{needs}
-use Rattle.automata.proofs.Labels.{label-1, label-2, label-3, label-4, label-none}
-use Rattle.automata.proofs.edge_matches.Statement.{statement}
-use Rattle.automata.proofs.edge_matches.Tie as tie
+use Rattle.edges.proofs.Labels.{label-1, label-2, label-3, label-4, label-none}
+use Rattle.edges.proofs.matches.Statement.{statement}
+use Rattle.edges.proofs.matches.Tie as tie
 
 same-requires : tie.Need-same-requires
 same-requires c κs = search needs
@@ -27,6 +27,6 @@ returns-4 c = sym (label-4 _ _ (c .before .before .match .keys4))
 returns-5 : tie.Need-returns-5
 returns-5 c = let no = c .match .rest in sym (label-none _ _ (no .0 .0 .0 .1) (no .0 .0 .1) (no .0 .1) (no .1))
 
-pub edge-matches-spec : {M : Type 1} → statement M
-edge-matches-spec =
+pub matches-spec : {M : Type 1} → statement M
+matches-spec =
     tie.close (tie.spec same-requires same-requires-2 returns returns-2 returns-3 returns-4 returns-5)

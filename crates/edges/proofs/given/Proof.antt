@@ -1,8 +1,8 @@
--- `automata::given` meets its contract: a `from` state is in the set, or none is. Assumes nothing.
+-- `edges::given` meets its contract: a `from` state is in the set, or none is. Assumes nothing.
 use Rattle.sets.specs.Logic.{pick}
 use Rattle.sets.proofs.Members.{meets-not, meets-some}
-use Rattle.automata.proofs.given.Statement.{statement}
-use Rattle.automata.proofs.given.Tie as tie
+use Rattle.edges.proofs.given.Statement.{statement}
+use Rattle.edges.proofs.given.Tie as tie
 
 returns : tie.Need-returns
 unfolding pick
