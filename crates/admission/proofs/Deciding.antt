@@ -34,7 +34,7 @@ use Rattle.search.specs.Search.{Prepared, TellsMet, provable}
 use Rattle.search.proofs.Sharing.{part-none}
 use Rattle.goals.specs.declared.Terms.{Terms}
 use Rattle.admission.specs.Admits.{admitsBy, admitsTo, among, withEvery, withOwed, withoutAll}
-use Rattle.admission.specs.Deciding.{Asks, Borne, Found, Known, Undecided, allAutomata, isLacking, lackingOf}
+use Rattle.admission.specs.Deciding.{Asks, Borne, MetFound, Known, Undecided, allAutomata, isLacking, lackingOf}
 use Rattle.admission.proofs.Admitting.{admits-without, among-reached, without-part, without-shows}
 
 -- whether the automaton of a credential is one of L: none is not, and another is where L has it
@@ -364,7 +364,7 @@ module _ {t : List ℕ} {q : Query} {index arcs rows : List ℕ} {terms : Terms}
     )
 
     pub sought : {found : Family} → TellsMet t q (all .allowed) (all .constraints) (all .owed) found
-        → Found t q terms (all .owed) found
+        → MetFound t q terms (all .owed) found
     sought tells = record { asked-is = asks .owed-is; tells = rw (asks .allowed-is, asks .every-is, asks .owed-is) at tells }
 
   -- there are no more than eight

@@ -28,7 +28,7 @@ pub record Undecided (t : List ℕ) (q : Query) (index arcs rows : List ℕ) (te
   pub few : terms .owed < allSets
 
 -- what can be met of `asked`, which is all that is owed and all that the set may owe
-pub record Found (t : List ℕ) (q : Query) (terms : Terms) (asked : ℕ) (found : Family) : Type 0 where
+pub record MetFound (t : List ℕ) (q : Query) (terms : Terms) (asked : ℕ) (found : Family) : Type 0 where
   pub asked-is : asked ≡ bitOr (terms .owed) (owedOf t (terms .allowed))
   pub tells : TellsMet t q (terms .allowed) (terms .constraints) (bitOr (terms .owed) (owedOf t (terms .allowed))) found
 

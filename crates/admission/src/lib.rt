@@ -24,7 +24,7 @@ ghost use Rattle.attached.specs.Attached.{markedOf, owedOf};
 ghost use Rattle.search.specs.Search.{Prepared};
 ghost use Rattle.admission.specs.Admits;
 ghost use Rattle.admission.specs.Admits.{admitsBy, admitsTo, among, withoutAll};
-ghost use Rattle.admission.specs.Deciding.{Asks, Borne, Found, Known, Undecided, allAutomata};
+ghost use Rattle.admission.specs.Deciding.{Asks, Borne, MetFound, Known, Undecided, allAutomata};
 ghost use Rattle.admission.specs.Deciding.{isLacking, lackingOf};
 
 const ALL_AUTOMATA: AutomatonSet = 255;
@@ -130,7 +130,7 @@ fn admits_found(
     k: usize,
 ) -> bool
     requires { ⌜ Undecided (now table) query (now index) (now arcs) (now rows) terms marks k ⌝ }
-    requires { ⌜ Found (now table) query terms asked found ⌝ }
+    requires { ⌜ MetFound (now table) query terms asked found ⌝ }
     ensures { λ r. ⌜ r ≡ admitsTo (now (table .entry)) query (terms .allowed) (terms .constraints) (terms .owed) k ⌝ }
 {
     if !found.covers(terms.owed) {

@@ -20,10 +20,10 @@ use Rattle.table.specs.declared.Edge.{Edge}
 use Rattle.table.specs.declared.Role.{Role}
 use Rattle.edges.specs.Edges.{leads, matches}
 use Rattle.automata.specs.Automata.{moved, movedBy}
-use Rattle.automata.specs.Arcs.{Ended, Row, arcCells, fromCell, led, mostArcs, toCell}
+use Rattle.automata.specs.Arcs.{Ended, ArcRow, arcCells, fromCell, led, mostArcs, toCell}
 use Rattle.automata.proofs.Arcs.{led-ended}
 use Rattle.automata.proofs.Moves.{leadsTo, moved-next}
-use Rattle.arcs.specs.Filling.{Cleared, Filling, Found, MaskOf, arcWith}
+use Rattle.arcs.specs.Filling.{Cleared, Filling, ArcFound, MaskOf, arcWith}
 use Rattle.arcs.proofs.Cells.{arc-in-row}
 use Rattle.arcs.proofs.Putting.{Fits, arc-kept, to-changed}
 use Rattle.arcs.proofs.Reaching.{edgeReaches, led-changed}
@@ -75,7 +75,7 @@ module _ {t : List ℕ} {r : Role} {arcs : List ℕ} {p n : ℕ} (f : Filling t 
       }
 
   -- it matches, and goes into the arc that has been found
-  module _ (l : ℕ) (fits : Fits arcs p l e) (found : Found arcs p (2 ^ (e .to)) l) (on : matches e r ≡ true) where
+  module _ (l : ℕ) (fits : Fits arcs p l e) (found : ArcFound arcs p (2 ^ (e .to)) l) (on : matches e r ≡ true) where
     abbrev more : List ℕ
     more = arcWith arcs p l e
 
@@ -152,6 +152,6 @@ module _ {t : List ℕ} {r : Role} {arcs : List ℕ} {p n : ℕ} (f : Filling t 
         }
 
 -- all edges have been taken
-pub filling-all : {t : List ℕ} {r : Role} {arcs : List ℕ} {p n : ℕ} → Filling t r arcs p n → n ≡ edges t → Row t r arcs p
+pub filling-all : {t : List ℕ} {r : Role} {arcs : List ℕ} {p n : ℕ} → Filling t r arcs p n → n ≡ edges t → ArcRow t r arcs p
 unfolding moved
 filling-all f all = record { moves = λ k x less. f .moves k x less ∙ rw all; ended = f .ended }

@@ -7,7 +7,7 @@ use native.Mathlib.Omega.{arith}
 use native.Mathlib.Decide.{ℕ-discrete}
 use lib.ListN.{getD}
 use Rattle.automata.specs.Arcs.{mostArcs, toCell}
-use Rattle.arcs.specs.Filling.{Found}
+use Rattle.arcs.specs.Filling.{ArcFound}
 
 pub record Looking (arcs : List ℕ) (p to l : ℕ) : Type 0 where
   pub few : l ≤ mostArcs
@@ -37,5 +37,5 @@ looking-more arcs p to l k less other some =
     }
 
 pub found-here : {arcs : List ℕ} {p to l : ℕ} → Looking arcs p to l
-    → (l < mostArcs → (getD arcs (toCell p l) 0 ≡ to) ⊎ (getD arcs (toCell p l) 0 ≡ 0)) → Found arcs p to l
+    → (l < mostArcs → (getD arcs (toCell p l) 0 ≡ to) ⊎ (getD arcs (toCell p l) 0 ≡ 0)) → ArcFound arcs p to l
 found-here k is = record { few = k .few; passed = k .passed; others = k .others; here = is }

@@ -18,7 +18,7 @@ use Rattle.table.specs.declared.Role.{Role}
 use Rattle.edges.specs.Edges.{matches}
 use Rattle.automata.specs.Arcs.{Arcs, indexCells, made, madeCell, mostArcs}
 use Rattle.automata.proofs.Arcs.{index-whole}
-use Rattle.arcs.specs.Filling.{Cleared, Elsewhere, Filling, Found, RowMade, arcWith}
+use Rattle.arcs.specs.Filling.{Cleared, Elsewhere, Filling, ArcFound, RowMade, arcWith}
 use Rattle.arcs.proofs.Filling.{filling-all, filling-more, filling-none, filling-past}
 use Rattle.arcs.proofs.Marking.{arcs-elsewhere, arcs-marked, head-same}
 use Rattle.arcs.proofs.Rooms.{arc-there}
@@ -85,7 +85,7 @@ module _ {t : List ℕ} {r : Role} {p n : ℕ} {before arcs : List ℕ} (m : Mak
       }
 
   -- or it does, and there is an arc for it
-  module _ (l : ℕ) {to : ℕ} (leads : to ≡ 2 ^ (e .to)) (found : Found arcs p to l) (state : e .to ≤ lastState) where
+  module _ (l : ℕ) {to : ℕ} (leads : to ≡ 2 ^ (e .to)) (found : ArcFound arcs p to l) (state : e .to ≤ lastState) where
     pub making-found : l < mostArcs
     making-found = arc-there (m .filling) e l (rw leads at found) (omega (arith, state))
 

@@ -10,7 +10,7 @@ use lib.Seq.{getD-set-same, getD-set-other}
 use Rattle.table.specs.Limits.{mostAutomata, mostCredentials}
 use Rattle.table.specs.Layout.{credential, credentials}
 use Rattle.table.specs.declared.Role.{Role}
-use Rattle.automata.specs.Arcs.{Arcs, Row, arcCells, firstRow, fromCell, indexCells, led, made, madeCell, mostArcs, rowCells}
+use Rattle.automata.specs.Arcs.{Arcs, ArcRow, arcCells, firstRow, fromCell, indexCells, led, made, madeCell, mostArcs, rowCells}
 use Rattle.arcs.specs.Filling.{Elsewhere, rowCell}
 use Rattle.arcs.proofs.Cells.{arc-in-row}
 
@@ -29,7 +29,7 @@ module _ (q : ℕ) (before after : List ℕ) (same : SameRow q before after) whe
       let to = from-same n mostAutomata (omega arith) (omega arith) in
       rw (from-same n k (omega arith) (omega arith), to, led-same k x n less (omega arith))
 
-  pub row-same : {t : List ℕ} {r : Role} → Row t r before q → Row t r after q
+  pub row-same : {t : List ℕ} {r : Role} → ArcRow t r before q → ArcRow t r after q
   row-same row =
       record {
         moves = λ k x less. led-same k x mostArcs less (omega arith) ∙ row .moves k x less;
@@ -60,13 +60,13 @@ module _ {p : ℕ} {before after : List ℕ} (e : Elsewhere p before after) wher
       }
     where
       rows : (q : ℕ) → q < credentials t → getD before (madeCell q) 0 ≡ made → Dec (q ≡ p)
-          → Row t (credential t (suc q) .role) after q
+          → ArcRow t (credential t (suc q) .role) after q
       rows q there is (yes own) = absurd (unmade (rw (sym own) is))
       rows q there is (no other) = row-same q before after (other-row q other) (a .rows q there is)
 
 -- the mark of that row has changed
 pub arcs-marked : {t : List ℕ} {arcs : List ℕ} (p v : ℕ) → Arcs t arcs → length arcs ≡ indexCells → p < credentials t
-    → credentials t ≤ mostCredentials → (v ≡ made → Row t (credential t (suc p) .role) arcs p) → Arcs t (set arcs (madeCell p) v)
+    → credentials t ≤ mostCredentials → (v ≡ made → ArcRow t (credential t (suc p) .role) arcs p) → Arcs t (set arcs (madeCell p) v)
 arcs-marked {t} {arcs} p v a full there few row =
     record {
       room = inr (length-set arcs _ v ∙ full);
@@ -81,7 +81,7 @@ arcs-marked {t} {arcs} p v a full there few row =
     same q x less = other (rowCell q x) (omega arith)
 
     rows : (q : ℕ) → q < credentials t → getD (set arcs (madeCell p) v) (madeCell q) 0 ≡ made → Dec (q ≡ p)
-        → Row t (credential t (suc q) .role) (set arcs (madeCell p) v) q
+        → ArcRow t (credential t (suc q) .role) (set arcs (madeCell p) v) q
     rows q in-table is (yes own) =
         rw own
         (row-same p arcs _ (same p)

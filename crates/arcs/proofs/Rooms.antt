@@ -11,12 +11,12 @@ use Rattle.sets.specs.Logic.{pick}
 use Rattle.table.specs.declared.Edge.{Edge}
 use Rattle.table.specs.declared.Role.{Role}
 use Rattle.automata.specs.Arcs.{mostArcs, toCell}
-use Rattle.arcs.specs.Filling.{Filling, Found, MaskOf}
+use Rattle.arcs.specs.Filling.{Filling, ArcFound, MaskOf}
 use Rattle.arcs.proofs.Crowding.{Different, too-many}
 
 -- an arc has been looked for, for the edge e
 module _ {t : List ℕ} {r : Role} {arcs : List ℕ} {p n : ℕ} (f : Filling t r arcs p n) (e : Edge) (l : ℕ)
-    (found : Found arcs p (2 ^ (e .to)) l) (state : e .to < mostArcs) where
+    (found : ArcFound arcs p (2 ^ (e .to)) l) (state : e .to < mostArcs) where
   -- the masks of all arcs, and that of the edge's `to` state
   abbrev masks : ℕ → ℕ
   masks i = pick (ltb i mostArcs) (getD arcs (toCell p i) 0) (2 ^ (e .to))

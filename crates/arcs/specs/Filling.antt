@@ -31,7 +31,7 @@ pub record Cleared (p : ℕ) (before after : List ℕ) : Type 0 where
   pub blank : (x : ℕ) → x < rowCells → getD after (rowCell p x) 0 ≡ 0
 
 -- the arc that leads to the state of the mask `to`, or the first that leads nowhere yet; sixteen where there is neither
-pub record Found (arcs : List ℕ) (p to l : ℕ) : Type 0 where
+pub record ArcFound (arcs : List ℕ) (p to l : ℕ) : Type 0 where
   pub few : l ≤ mostArcs
   pub passed : (m : ℕ) → m < l → getD arcs (toCell p m) 0 ≡ 0 → ⊥
   pub others : (m : ℕ) → m < l → getD arcs (toCell p m) 0 ≡ to → ⊥

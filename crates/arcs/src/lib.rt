@@ -19,7 +19,7 @@ ghost use Rattle.table.specs.Limits.{lastState, mostAutomata, mostCredentials};
 ghost use Rattle.table.specs.Layout.{Numbered, credentials};
 ghost use Rattle.table.specs.Holding.{WellFormed};
 ghost use Rattle.automata.specs.Arcs.{Arcs, indexCells, made, madeCell, mostArcs};
-ghost use Rattle.arcs.specs.Filling.{Cleared, Found, RowMade, arcWith};
+ghost use Rattle.arcs.specs.Filling.{Cleared, ArcFound, RowMade, arcWith};
 
 // Begins an index: the accepting sets, and no row.
 pub fn begin(table: &[Number], arcs: &mut [StateSet])
@@ -113,7 +113,7 @@ fn clear(arcs: &mut [StateSet], place: usize)
 // The arc that leads to the state of the mask; where there is none, the first that leads nowhere yet.
 fn find(arcs: &[StateSet], place: usize, to: StateSet) -> usize
     requires { ⌜ (length (now arcs) ≡ indexCells) × (place < mostCredentials) ⌝ }
-    ensures { λ r. ⌜ Found (now (arcs .entry)) place to r ⌝ }
+    ensures { λ r. ⌜ ArcFound (now (arcs .entry)) place to r ⌝ }
 {
     let row = FIRST_ROW + ROW_CELLS * place;
     let mut l = 0;

@@ -22,7 +22,7 @@ use Rattle.table.specs.Layout.{automata, automaton, credential, credentials}
 use Rattle.table.specs.Holding.{WellFormed}
 use Rattle.table.specs.declared.Role.{Role}
 use Rattle.automata.specs.Automata.{acceptsFrom}
-use Rattle.automata.specs.Arcs.{Arcs, Ended, Row, accepting, acceptingCell, arcCells, firstRow, fromCell, indexCells}
+use Rattle.automata.specs.Arcs.{Arcs, Ended, ArcRow, accepting, acceptingCell, arcCells, firstRow, fromCell, indexCells}
 use Rattle.automata.specs.Arcs.{led, ledSets, made, madeCell, mostArcs, rowCells, toCell, withArc}
 use Rattle.automata.specs.Together.{acceptingSet, movedSets, setFor}
 use Rattle.automata.specs.declared.StateSets.{StateSets}
@@ -50,7 +50,7 @@ index-whole room some = ⊎-elim (λ none. absurd (some none)) (λ full. full) r
 -- and so has one in which the code has found a row made, which then has the arcs of its credential's role
 pub row-made : {t : List ℕ} {arcs : List ℕ} (p : ℕ) {flag : Bool} → Arcs t arcs → p < credentials t
     → flag ≡ eqb (getD arcs (madeCell p) 0) made → flag ≡ true
-    → (length arcs ≡ indexCells) × Row t (credential t (suc p) .role) arcs p
+    → (length arcs ≡ indexCells) × ArcRow t (credential t (suc p) .role) arcs p
 row-made {t} {arcs} p a there test on =
     let is = eqb-true _ _ (sym test ∙ on) in
     (index-whole (a .room) (λ none. unmade arcs p none is), a .rows p there is)
@@ -131,7 +131,7 @@ led-all arcs p l from ended few = ⊎-elim
     (λ none. together-same _ _ (λ k less. led-ended arcs p _ _ l mostArcs ended few (omega arith) none))
 
 -- the arcs of a row move the sets as the edges do
-pub row-moves : (t : List ℕ) (r : Role) (arcs : List ℕ) (p : ℕ) (from : StateSets) → Row t r arcs p
+pub row-moves : (t : List ℕ) (r : Role) (arcs : List ℕ) (p : ℕ) (from : StateSets) → ArcRow t r arcs p
     → ledSets arcs p from mostArcs ≡ movedSets t r from
 unfolding ledSets movedSets
 row-moves t r arcs p from row = together-same _ _ (λ k less. rw (sub-one (suc k)) (row .moves k _ less))

@@ -67,7 +67,7 @@ Ended arcs p =
     (l m : ℕ) → l ≤ m → m < mostArcs → getD arcs (toCell p l) 0 ≡ 0 → getD arcs (toCell p m) 0 ≡ 0
 
 -- the arcs of a row move every set as the edges do
-pub record Row (t : List ℕ) (r : Role) (arcs : List ℕ) (p : ℕ) : Type 0 where
+pub record ArcRow (t : List ℕ) (r : Role) (arcs : List ℕ) (p : ℕ) : Type 0 where
   pub moves : (k x : ℕ) → k < mostAutomata → led arcs p k x mostArcs ≡ moved t (suc k) r x
   pub ended : Ended arcs p
 
@@ -79,7 +79,7 @@ accepting t k = pick (within 1 (automata t) k) (automaton t k .accepting) 0
 pub record Arcs (t arcs : List ℕ) : Type 0 where
   pub room : (length arcs ≡ 0) ⊎ (length arcs ≡ indexCells)
   pub accepts : (k : ℕ) → k < mostAutomata → length arcs ≡ indexCells → getD arcs (acceptingCell k) 0 ≡ accepting t (suc k)
-  pub rows : (p : ℕ) → p < credentials t → getD arcs (madeCell p) 0 ≡ made → Row t (credential t (suc p) .role) arcs p
+  pub rows : (p : ℕ) → p < credentials t → getD arcs (madeCell p) 0 ≡ made → ArcRow t (credential t (suc p) .role) arcs p
 
 -- what the first n arcs give, from the sets of all eight automata
 unfoldable pub ledSets : List ℕ → ℕ → StateSets → ℕ → StateSets

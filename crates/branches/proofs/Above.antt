@@ -14,7 +14,7 @@ use Rattle.table.specs.Limits.{mostDepth}
 use Rattle.table.specs.declared.Goal.{Goal}
 use Rattle.sets.proofs.Tests.{and-false}
 use Rattle.derivation.specs.Rules.{fresh, sameGoal}
-use Rattle.derivation.specs.Held.{Room, noGoal}
+use Rattle.derivation.specs.Held.{GoalsFit, noGoal}
 use Rattle.branches.specs.Held.{above, upTo}
 use Rattle.branches.specs.declared.Branch.{Branch}
 
@@ -24,7 +24,7 @@ up-to-set goals g len zero h = refl
 up-to-set goals g len (suc n) h =
     rw (getD-set-other goals len n g noGoal (λ e. omega arith), up-to-set goals g len n (omega arith))
 
-pub above-with : (b : Branch) (g : Goal) → Room mostDepth (b .len) (b .goals) → b .len < mostDepth
+pub above-with : (b : Branch) (g : Goal) → GoalsFit mostDepth (b .len) (b .goals) → b .len < mostDepth
     → above (record { len = b .len + 1; goals = set (b .goals) (b .len) g }) ≡ g ∷ above b
 unfolding above upTo
 above-with b g room less =
@@ -32,8 +32,8 @@ above-with b g room less =
     let others = up-to-set (b .goals) g (b .len) (b .len) (omega arith) in
     rw (add-one (b .len), nearest, others)
 
-pub room-with : (b : Branch) (g : Goal) → Room mostDepth (b .len) (b .goals) → b .len < mostDepth
-    → Room mostDepth (b .len + 1) (set (b .goals) (b .len) g)
+pub room-with : (b : Branch) (g : Goal) → GoalsFit mostDepth (b .len) (b .goals) → b .len < mostDepth
+    → GoalsFit mostDepth (b .len + 1) (set (b .goals) (b .len) g)
 room-with b g room less = record { fits = omega arith; size = simp length-set (room .size) }
 
 -- the goals below i are others, and so is goal i

@@ -9,7 +9,7 @@ ghost use mathlib.Core.List.{[], _∷_};
 ghost use Prim.Native.Nat.{_+_, _<_};
 ghost use Rattle.table.specs.Limits.{mostDepth};
 ghost use Rattle.derivation.specs.Rules.{fresh, sameGoal};
-ghost use Rattle.derivation.specs.Held.{Room};
+ghost use Rattle.derivation.specs.Held.{GoalsFit};
 ghost use Rattle.branches.specs.Held.{above};
 
 // As many levels as a query can allow.
@@ -24,7 +24,7 @@ pub struct Branch {
 impl Branch {
     // Nothing stands above the query's goal.
     pub fn empty() -> Branch
-        ensures { λ r. ⌜ Room mostDepth (r .len) (r .goals) × ((r .len ≡ 0) × (above r ≡ [])) ⌝ }
+        ensures { λ r. ⌜ GoalsFit mostDepth (r .len) (r .goals) × ((r .len ≡ 0) × (above r ≡ [])) ⌝ }
     {
         let none = Goal {
             principal: Principal(0),
@@ -40,9 +40,9 @@ impl Branch {
     }
 
     pub fn with(self, goal: Goal) -> Branch
-        requires { ⌜ Room mostDepth (self .len) (self .goals) ⌝ }
+        requires { ⌜ GoalsFit mostDepth (self .len) (self .goals) ⌝ }
         requires { ⌜ self .len < mostDepth ⌝ }
-        ensures { λ r. ⌜ Room mostDepth (r .len) (r .goals) × ((r .len ≡ self .len + 1) × (above r ≡ goal ∷ above self)) ⌝ }
+        ensures { λ r. ⌜ GoalsFit mostDepth (r .len) (r .goals) × ((r .len ≡ self .len + 1) × (above r ≡ goal ∷ above self)) ⌝ }
     {
         let at = self.len;
         let mut goals = self.goals;
@@ -55,7 +55,7 @@ impl Branch {
 
     // Whether the goal, as a pair of principal and role, is none of those above it.
     pub fn is_fresh(self, goal: Goal) -> bool
-        requires { ⌜ Room mostDepth (self .len) (self .goals) ⌝ }
+        requires { ⌜ GoalsFit mostDepth (self .len) (self .goals) ⌝ }
         ensures { λ r. ⌜ r ≡ fresh (above self) goal ⌝ }
     {
         let len = self.len;

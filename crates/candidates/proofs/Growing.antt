@@ -25,7 +25,7 @@ use Rattle.table.specs.Holding.{WellFormed}
 use Rattle.table.specs.declared.Query.{Query}
 use Rattle.admission.specs.Admits.{admits}
 use Rattle.admission.proofs.Admitting.{admits-mono}
-use Rattle.candidates.specs.Candidates.{Bears, Grown, Kept, hasListed}
+use Rattle.candidates.specs.Candidates.{Bears, Grown, InsertedIfLeast, hasListed}
 
 module _ (t : List ℕ) (wf : WellFormed t) (q : Query) where
   pub admits-monotone : Monotone (admits t q) (credentials t)
@@ -131,9 +131,9 @@ none-spare p n mono set fits passes i all none =
 
 -- a set is kept where it is least
 module _ {p : ℕ → Bool} {set : ℕ} {sets : List ℕ} {found : ℕ} where
-  pub kept-not : isLeast p set ≡ false → Kept p set sets found sets found
+  pub kept-not : isLeast p set ≡ false → InsertedIfLeast p set sets found sets found
   kept-not h = record { least = λ e. absurd (false-true (sym h ∙ e)); other = λ e. (refl, refl) }
 
   pub kept-least : {sets′ : List ℕ} {found′ : ℕ} → isLeast p set ≡ true → Inserted sets found set sets′ found′
-      → Kept p set sets found sets′ found′
+      → InsertedIfLeast p set sets found sets′ found′
   kept-least h there = record { least = λ e. there; other = λ e. absurd (false-true (sym e ∙ h)) }

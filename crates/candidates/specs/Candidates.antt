@@ -16,7 +16,7 @@ abbrev pub Bears : (ℕ → Bool) → ℕ → Type 0
 Bears p usable = (Y : ℕ) → p (bitAnd Y usable) ≡ p Y
 
 -- a set that passes is put into the buffer where it is least
-pub record Kept (p : ℕ → Bool) (set : ℕ) (sets : List ℕ) (found : ℕ) (sets′ : List ℕ) (found′ : ℕ) : Type 0 where
+pub record InsertedIfLeast (p : ℕ → Bool) (set : ℕ) (sets : List ℕ) (found : ℕ) (sets′ : List ℕ) (found′ : ℕ) : Type 0 where
   pub least : isLeast p set ≡ true → Inserted sets found set sets′ found′
   pub other : isLeast p set ≡ false → (sets′ ≡ sets) × (found′ ≡ found)
 

@@ -17,7 +17,7 @@ ghost use Rattle.table.specs.Layout.{credentials};
 ghost use Rattle.table.specs.Holding.{WellFormed};
 ghost use Rattle.search.specs.Search.{Prepared};
 ghost use Rattle.admission.specs.Admits.{admits};
-ghost use Rattle.candidates.specs.Candidates.{Bears, Grown, Kept, hasListed};
+ghost use Rattle.candidates.specs.Candidates.{Bears, Grown, InsertedIfLeast, hasListed};
 
 // Puts an admitted set into the buffer if it is minimal. That is known where each of its credentials is in some cut the only one;
 // where the array is full it is tested.
@@ -36,7 +36,7 @@ pub fn keep(
     requires { ⌜ admits (now table) query set ≡ true ⌝ }
     requires { ⌜ (full ≡ false → isLeast (admits (now table) query) set ≡ true) ⌝ }
     requires { ⌜ now found < 2 ^ 32 ⌝ }
-    ensures { λ r. ⌜ Kept (admits (now (table .entry)) query) set (now (sets .entry)) (now (found .entry))
+    ensures { λ r. ⌜ InsertedIfLeast (admits (now (table .entry)) query) set (now (sets .entry)) (now (found .entry))
         (now (sets .exit)) (now (found .exit)) ⌝ }
 {
     if full {

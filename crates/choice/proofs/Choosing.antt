@@ -36,7 +36,7 @@ use Rattle.members.proofs.ByKind.{by-none, middleAt, middleGoals, middleRole, n
 use Rattle.members.proofs.ByKind.{roles-4}
 use Rattle.members.specs.declared.above.Above.{Above}
 use Rattle.search.specs.Asking.{Pair, pair, rolePairs}
-use Rattle.search.specs.Search.{Searched, Stands, Tried, goalAt, proves, provesAt, provesWith, shares}
+use Rattle.search.specs.Search.{Searchable, Stands, Tried, goalAt, proves, provesAt, provesWith, shares}
 use Rattle.search.proofs.Pairs.{asks-none}
 use Rattle.search.proofs.Owing.{proves-less}
 use Rattle.search.proofs.Sharing.{shares-member, shares-shows}
@@ -131,7 +131,7 @@ children-are t S A O levels above s goals pairs placed each credential middle no
     found k l = placed-proved (placed .each k l) S A O levels above s 0 (each k (omega (arith, placed .count)))
 
 -- credential i + 1 proves its goal
-module _ {t index arcs rows : List ℕ} {S levels last : ℕ} (searched : Searched t index arcs rows S levels last) {person i : ℕ}
+module _ {t index arcs rows : List ℕ} {S levels last : ℕ} (searched : Searchable t index arcs rows S levels last) {person i : ℕ}
     (tried : Tried t person i) (A O : ℕ) (above : Above) (s : StateSets) (wants : ℕ → Bool) where
   abbrev one : Goal → ℕ → Bool
   one = proves t S A O levels above s
@@ -339,7 +339,7 @@ pub not-linking : (t : List ℕ) (i : ℕ) (x : Credential) → x ≡ credential
 not-linking t i x read other three = other (ap (λ (y : Credential). y .kind) (as-read t i x read) ∙ three)
 
 -- the least credential, number i + 1, for the goal at `person` and `place`
-module _ {t index arcs rows : List ℕ} {S levels last : ℕ} (searched : Searched t index arcs rows S levels last)
+module _ {t index arcs rows : List ℕ} {S levels last : ℕ} (searched : Searchable t index arcs rows S levels last)
     {person place i : ℕ} (stands : Stands t person place) (A O : ℕ) (above : Above) (s : StateSets) (wants : ℕ → Bool)
     (there : i < credentials t)
     (is : suc i ≡ leastCredential t S (suits (proves t S A O levels above s) O wants) (endsWell t A O wants s)

@@ -30,8 +30,8 @@ use Rattle.members.specs.declared.above.Above.{Above}
 use Rattle.members.proofs.Reading.{numbered}
 use Rattle.members.proofs.ByKind.{with-goals}
 use Rattle.search.specs.Asking.{Pair, pair}
-use Rattle.search.specs.Failing.{Told, goalTest}
-use Rattle.search.specs.Search.{Searched, Stands, Tried, goalAt, proves, provesAt}
+use Rattle.search.specs.Failing.{FoundBelow, goalTest}
+use Rattle.search.specs.Search.{Searchable, Stands, Tried, goalAt, proves, provesAt}
 use Rattle.search.proofs.Sharing.{first-unshared}
 use Rattle.search.proofs.Judging.{no-sets, none-covered}
 use Rattle.search.proofs.Placing.{cell-middle, first-cell, linkPairs, linkedRole, middle-unlisted, own, partRole, second-cell}
@@ -124,7 +124,7 @@ module _ (t index rows : List ℕ) (row person i j found first second : ℕ)
   listed-not off = set-not _ found j so-far (rw (read, read′) at (sym e ∙ off))
 
 -- credential i + 1, of kind 3, with the principal at j as the middle
-module _ {t index arcs rows : List ℕ} {S levels last : ℕ} (searched : Searched t index arcs rows S levels last) {person i : ℕ}
+module _ {t index arcs rows : List ℕ} {S levels last : ℕ} (searched : Searchable t index arcs rows S levels last) {person i : ℕ}
     (tried : Tried t person i) (kind : credential t (suc i) .kind ≡ 3) {j : ℕ} (there : j < credentials t)
     (named : isPerson t j ≡ true) where
   pub first-stands : {place : ℕ} → place ≡ getD index (askedCell i 0) 0 → Stands t j place
@@ -136,7 +136,7 @@ module _ {t index arcs rows : List ℕ} {S levels last : ℕ} (searched : Search
       (stands-at t person (linkedRole t i j) (tried .who) (tried .named))
 
 -- a middle leads on exactly where both goals, by places, can be proved such that a set that is wanted is met
-module _ {t index arcs rows : List ℕ} {S levels last : ℕ} (searched : Searched t index arcs rows S levels last) {person i : ℕ}
+module _ {t index arcs rows : List ℕ} {S levels last : ℕ} (searched : Searchable t index arcs rows S levels last) {person i : ℕ}
     (tried : Tried t person i) (kind : credential t (suc i) .kind ≡ 3) (A O : ℕ) (above : Above) (s : StateSets)
     (wants : ℕ → Bool) where
   abbrev one : Goal → ℕ → Bool
@@ -178,11 +178,11 @@ module _ {t index arcs rows : List ℕ} {S levels last : ℕ} (searched : Search
       false-true (sym (middle-unlisted searched tried A O above s X kind j l missing) ∙ led)))
 
 -- what is told of both goals
-module _ {t index arcs rows : List ℕ} {S levels last : ℕ} (searched : Searched t index arcs rows S levels last) {person i : ℕ}
+module _ {t index arcs rows : List ℕ} {S levels last : ℕ} (searched : Searchable t index arcs rows S levels last) {person i : ℕ}
     (tried : Tried t person i) (kind : credential t (suc i) .kind ≡ 3) {j : ℕ} (there : j < credentials t)
     (named : isPerson t j ≡ true) (A : ℕ) (above : Above) (s : StateSets) {O : ℕ} {wanted : Family} (want : Wanted O wanted)
     {first : ℕ} (read : first ≡ getD index (askedCell i 0) 0) {f : Family}
-    (told : Told O (goalTest t S A O levels s j first) above f) where
+    (told : FoundBelow O (goalTest t S A O levels s j first) above f) where
   abbrev proved : Pair → ℕ → Bool
   proved = λ (p : Pair) Y. provesAt t S A O levels above s (p .person) (p .place) Y
 
@@ -206,7 +206,7 @@ module _ {t index arcs rows : List ℕ} {S levels last : ℕ} (searched : Search
           ∙ told .all 0 (part-zero O) (pair-less t S A O levels above s Y 0 (pair j first) (part-zero Y) h)))
 
   pub leads-told : {second : ℕ} → second ≡ getD index (linkCell i j) 0 → {h : Family} (both : Family)
-      → Told O (goalTest t S A O levels s person second) above h → FamilyOf (joins f h) both
+      → FoundBelow O (goalTest t S A O levels s person second) above h → FamilyOf (joins f h) both
       → {r : Bool} → r ≡ anyBelow (λ X. inFamily both X and inFamily wanted X) allSets → r ≡ leadsTo
   unfolding suits
   leads-told {second} read′ both told′ all e =
@@ -234,7 +234,7 @@ pub record MiddlesLeft (t : List ℕ) (passes : ℕ → Bool) (left : ℕ) : Typ
   pub people : (k : ℕ) → inSet left k ≡ true → isPerson t k ≡ true
 
 -- at first those whom the row has
-pub left-first : {t index arcs rows : List ℕ} {S levels last : ℕ} → Searched t index arcs rows S levels last → {person i : ℕ}
+pub left-first : {t index arcs rows : List ℕ} {S levels last : ℕ} → Searchable t index arcs rows S levels last → {person i : ℕ}
     → Tried t person i → credential t (suc i) .kind ≡ 3 → (A O : ℕ) (above : Above) (s : StateSets) (wants : ℕ → Bool)
     → (row left : ℕ) → row ≡ lesser levels last → left ≡ listedMiddles t index rows row person i (credentials t)
     → MiddlesLeft t (leads t (suits (proves t S A O levels above s) O wants) (endsWell t A O wants s) (goalAt t person i) (suc i))

@@ -27,7 +27,7 @@ use Rattle.members.specs.Trying.{provedPremises, provesBy}
 use Rattle.members.specs.declared.above.Above.{Above}
 use Rattle.members.proofs.Stepping.{all-by-mono}
 use Rattle.members.proofs.Branching.{nothing-room}
-use Rattle.search.specs.Failing.{Judged, Told, ownTest}
+use Rattle.search.specs.Failing.{Judged, FoundBelow, ownTest}
 use Rattle.search.specs.Asking.{Pair}
 use Rattle.search.specs.Search.{ends, goalAt, proves, provesAt, shares}
 use Rattle.search.proofs.Owing.{proves-less}
@@ -38,7 +38,7 @@ use Rattle.choice.specs.Choice.{Wanted, endsWell, suits}
 
 -- some set that is wanted is found exactly where the test passes some set that is wanted
 pub meets-wanted : {O : ℕ} {wanted : Family} → Wanted O wanted → {test : ℕ → Above → Bool} {above : Above} {found : Family}
-    → Told O test above found → {r : Bool} → r ≡ anyBelow (λ X. inFamily found X and inFamily wanted X) allSets
+    → FoundBelow O test above found → {r : Bool} → r ≡ anyBelow (λ X. inFamily found X and inFamily wanted X) allSets
     → r ≡ anyBelow (λ X. inFamily wanted X and test X above) (suc O)
 meets-wanted {O} {wanted} want {test} {above} {found} told e = e ∙ same-test _ _ on back
   where
@@ -109,7 +109,7 @@ module _ (wants : ℕ → Bool) (n : ℕ) (all : ℕ → List Goal → Bool) (wo
 
 -- what is found of credential i + 1 tells whether it proves its goal such that what is wanted is met
 pub own-wanted : (t : List ℕ) (S A levels : ℕ) (above : Above) (s : StateSets) (person i : ℕ) {O : ℕ} {wanted found : Family}
-    → Wanted O wanted → Told O (ownTest t S A O levels s person i) above found → {r : Bool}
+    → Wanted O wanted → FoundBelow O (ownTest t S A O levels s person i) above found → {r : Bool}
     → r ≡ anyBelow (λ X. inFamily found X and inFamily wanted X) allSets
     → r ≡ provesBy t (suits (proves t S A O levels above s) O (inFamily wanted)) (endsWell t A O (inFamily wanted) s)
     (goalAt t person i) (suc i)
@@ -120,8 +120,8 @@ own-wanted t S A levels above s person i {O} {wanted} want told e =
     t (goalAt t person i) (suc i)
 
 -- what is told of one branch
-pub told-here : {O : ℕ} {test : ℕ → Above → Bool} {above : Above} {found : Family} → Told O test above found
-    → Told O (λ X b. test X above) nothingAbove found
+pub told-here : {O : ℕ} {test : ℕ → Above → Bool} {above : Above} {found : Family} → FoundBelow O test above found
+    → FoundBelow O (λ X b. test X above) nothingAbove found
 told-here told =
     record { finds = record { inside = told .finds .inside; passes = told .finds .passes }; all = told .all }
 
@@ -136,8 +136,8 @@ pair-less t S A O levels above s Y Y′ p fewer h =
 -- what goals meet together: one alone, and one before others
 module _ {G : Type 0} (one : G → ℕ → Bool) (O : ℕ)
     (less : (Y Y′ : ℕ) (g : G) → part Y′ Y ≡ true → one g Y ≡ true → one g Y′ ≡ true) where
-  pub told-alone : (g : G) {found : Family} → Told O (λ X b. one g X) nothingAbove found
-      → Told O (λ X b. shares one O (g ∷ []) X) nothingAbove found
+  pub told-alone : (g : G) {found : Family} → FoundBelow O (λ X b. one g X) nothingAbove found
+      → FoundBelow O (λ X b. shares one O (g ∷ []) X) nothingAbove found
   unfolding shares
   told-alone g told =
       record {
@@ -152,7 +152,7 @@ module _ {G : Type 0} (one : G → ℕ → Bool) (O : ℕ)
         all = λ X owed is. told .all X owed (shares-alone one O less g X is);
       }
 
-  judged : {test : ℕ → Bool} {found : Family} → Told O (λ X b. test X) nothingAbove found
+  judged : {test : ℕ → Bool} {found : Family} → FoundBelow O (λ X b. test X) nothingAbove found
       → Judged O (λ X b. test X) nothingAbove found nothingAbove
   judged told =
       record {
@@ -162,8 +162,8 @@ module _ {G : Type 0} (one : G → ℕ → Bool) (O : ℕ)
       }
 
   pub told-joined : (g : G) (goals : List G) {f rest r : Family} → FamilyOf (joins f rest) r
-      → Told O (λ X b. one g X) nothingAbove f → Told O (λ X b. shares one O goals X) nothingAbove rest
-      → Told O (λ X b. shares one O (g ∷ goals) X) nothingAbove r
+      → FoundBelow O (λ X b. one g X) nothingAbove f → FoundBelow O (λ X b. shares one O goals X) nothingAbove rest
+      → FoundBelow O (λ X b. shares one O (g ∷ goals) X) nothingAbove r
   told-joined g goals all first others =
       judged-told nothing-room
       (judged-joined O (λ b. one) g goals (λ b Y Y′. less Y Y′ g) all {both = nothingAbove} (λ r l. sym (or-self _))

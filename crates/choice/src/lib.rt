@@ -25,7 +25,7 @@ ghost use Rattle.table.specs.Layout.{credential, credentials};
 ghost use Rattle.table.specs.Holding.{WellFormed};
 ghost use Rattle.members.specs.Members.{Placed, askedCell, linkCell};
 ghost use Rattle.search.specs.Asking.{Fits, askedPairs, pair};
-ghost use Rattle.search.specs.Search.{Searched, Stands, goalAt};
+ghost use Rattle.search.specs.Search.{Searchable, Stands, goalAt};
 ghost use Rattle.search.specs.Failing.{Remembered};
 ghost use Rattle.choice.specs.Choice.{Chosen, LastUsable, Made, Wanted, leastCredential, provesWith, suitsAll};
 ghost use Rattle.choice.specs.Choice.{suitsWord};
@@ -53,7 +53,7 @@ pub fn choose(
     above: Above,
     memory: &mut [u32],
 ) -> Node
-    requires { ⌜ Searched (now table) (now index) (now arcs) (now rows) (terms .allowed) levels (terms .last) ⌝ }
+    requires { ⌜ Searchable (now table) (now index) (now arcs) (now rows) (terms .allowed) levels (terms .last) ⌝ }
     requires { ⌜ Stands (now table) person place × (place < credentials (now table)) ⌝ }
     requires { ⌜ Wanted (terms .owed) wanted ⌝ }
     requires { ⌜ Remembered (now table) (terms .allowed) (terms .constraints) (terms .owed) (now memory) ⌝ }
@@ -115,7 +115,7 @@ fn least_credential(
     above: Above,
     memory: &mut [u32],
 ) -> usize
-    requires { ⌜ Searched (now table) (now index) (now arcs) (now rows) (terms .allowed) levels (terms .last) ⌝ }
+    requires { ⌜ Searchable (now table) (now index) (now arcs) (now rows) (terms .allowed) levels (terms .last) ⌝ }
     requires { ⌜ Stands (now table) person place × (place < credentials (now table)) ⌝ }
     requires { ⌜ Wanted (terms .owed) wanted ⌝ }
     requires { ⌜ Remembered (now table) (terms .allowed) (terms .constraints) (terms .owed) (now memory) ⌝ }

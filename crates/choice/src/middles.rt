@@ -18,7 +18,7 @@ ghost use Rattle.table.specs.Holding.{WellFormed};
 ghost use Rattle.members.specs.Members.{Indexed, tableCells};
 ghost use Rattle.members.specs.Places.{isPerson};
 ghost use Rattle.members.specs.Trying.{provesBy};
-ghost use Rattle.search.specs.Search.{Searched, Tried, goalAt};
+ghost use Rattle.search.specs.Search.{Searchable, Tried, goalAt};
 ghost use Rattle.search.specs.Failing.{Remembered};
 ghost use Rattle.choice.specs.Choice.{LeastMiddle, LeastNamed, Wanted, comesBefore, leads};
 ghost use Rattle.choice.specs.Choice.{listedMiddles, suitsAll, suitsWord};
@@ -39,7 +39,7 @@ pub fn least_middle(
     above: Above,
     memory: &mut [u32],
 ) -> usize
-    requires { ⌜ Searched (now table) (now index) (now arcs) (now rows) (terms .allowed) levels (terms .last) ⌝ }
+    requires { ⌜ Searchable (now table) (now index) (now arcs) (now rows) (terms .allowed) levels (terms .last) ⌝ }
     requires { ⌜ Tried (now table) person i × (credential (now table) (suc i) .kind ≡ 3) ⌝ }
     requires { ⌜ Wanted (terms .owed) wanted ⌝ }
     requires { ⌜ Remembered (now table) (terms .allowed) (terms .constraints) (terms .owed) (now memory) ⌝ }
@@ -157,7 +157,7 @@ fn leads_on(
     above: Above,
     memory: &mut [u32],
 ) -> bool
-    requires { ⌜ Searched (now table) (now index) (now arcs) (now rows) (terms .allowed) levels (terms .last) ⌝ }
+    requires { ⌜ Searchable (now table) (now index) (now arcs) (now rows) (terms .allowed) levels (terms .last) ⌝ }
     requires { ⌜ Tried (now table) person i × (credential (now table) (suc i) .kind ≡ 3) ⌝ }
     requires { ⌜ (j < credentials (now table)) × (isPerson (now table) j ≡ true) ⌝ }
     requires { ⌜ Wanted (terms .owed) wanted ⌝ }

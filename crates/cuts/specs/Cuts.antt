@@ -78,7 +78,7 @@ pub record Barren (p : ℕ → Bool) (chosen free : ℕ) (cuts : List ℕ) (coun
 
 -- what the cuts alone tell of a region, for any monotone test: none of it is least, or each that is chosen is in some cut the
 -- only one chosen, where that is known
-pub record Judged (cuts : List ℕ) (count chosen free : ℕ) (barren : Bool) : Type 0 where
+pub record RegionJudged (cuts : List ℕ) (count chosen free : ℕ) (barren : Bool) : Type 0 where
   pub none : barren ≡ true → (p : ℕ → Bool) (n : ℕ) → Monotone p n → Ready p n chosen free cuts count
       → Barren p chosen free cuts count
   pub sole : barren ≡ false → count < length cuts → (c : ℕ) → inSet chosen c ≡ true → isSole cuts count chosen c ≡ true

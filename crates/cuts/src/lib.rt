@@ -8,7 +8,7 @@ ghost use lib.ListN.{length};
 ghost use Rattle.sets.specs.Logic.{_and_};
 ghost use Rattle.sets.specs.Sets.{inSet, part};
 ghost use Rattle.cuts.specs.Cuts;
-ghost use Rattle.cuts.specs.Cuts.{Judged, isSole, meetsAll};
+ghost use Rattle.cuts.specs.Cuts.{RegionJudged, isSole, meetsAll};
 
 // The set meets each of the cuts.
 pub fn meets_all(cuts: &[CredentialSet], count: usize, set: CredentialSet) -> bool
@@ -92,7 +92,7 @@ pub fn is_barren(
     free: CredentialSet,
 ) -> bool
     requires { ⌜ count ≤ length (now cuts) ⌝ }
-    ensures { λ r. ⌜ Judged (now (cuts .entry)) count chosen free r ⌝ }
+    ensures { λ r. ⌜ RegionJudged (now (cuts .entry)) count chosen free r ⌝ }
 {
     if !meets_all(cuts, count, chosen | free) {
         return true;

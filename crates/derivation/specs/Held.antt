@@ -11,7 +11,7 @@ use Rattle.derivation.specs.Rules.{goal}
 use Rattle.derivation.specs.declared.Premises.{Premises}
 
 -- so many goals, in an array with room for `most`
-pub record Room (most len : ℕ) (goals : List Goal) : Type 0 where
+pub record GoalsFit (most len : ℕ) (goals : List Goal) : Type 0 where
   pub fits : len ≤ most
   pub size : length goals ≡ most
 

@@ -20,11 +20,11 @@ ghost use Rattle.table.specs.Limits.{mostParts};
 ghost use Rattle.table.specs.Holding.{WellFormed};
 ghost use Rattle.derivation.specs.Rules;
 ghost use Rattle.derivation.specs.Rules.{containmentAsks, intersectionAsks, linkingAsks, membershipAsks};
-ghost use Rattle.derivation.specs.Held.{Room, given};
+ghost use Rattle.derivation.specs.Held.{GoalsFit, given};
 
 pub fn premises(table: &[Number], goal: Goal, c: Number, middle: Number) -> Premises
     requires { ⌜ WellFormed (now table) ⌝ }
-    ensures { λ r. ⌜ Room mostParts (r .len) (r .goals) × (given r ≡ Rules.premises (now (table .entry)) goal c middle) ⌝ }
+    ensures { λ r. ⌜ GoalsFit mostParts (r .len) (r .goals) × (given r ≡ Rules.premises (now (table .entry)) goal c middle) ⌝ }
 {
     if c == 0 {
         return not_applying(goal);
@@ -52,7 +52,7 @@ pub fn premises(table: &[Number], goal: Goal, c: Number, middle: Number) -> Prem
 }
 
 fn not_applying(goal: Goal) -> Premises
-    ensures { λ r. ⌜ Room mostParts (r .len) (r .goals) × (given r ≡ none) ⌝ }
+    ensures { λ r. ⌜ GoalsFit mostParts (r .len) (r .goals) × (given r ≡ none) ⌝ }
 {
     Premises {
         applies: false,
@@ -63,7 +63,7 @@ fn not_applying(goal: Goal) -> Premises
 
 // Kind 1: the goal's principal itself is the member, and nothing is left to ask.
 fn membership(c: Credential, goal: Goal, middle: Number) -> Premises
-    ensures { λ r. ⌜ Room mostParts (r .len) (r .goals) × (given r ≡ membershipAsks goal c middle) ⌝ }
+    ensures { λ r. ⌜ GoalsFit mostParts (r .len) (r .goals) × (given r ≡ membershipAsks goal c middle) ⌝ }
 {
     if c.first != goal.principal.0 {
         return not_applying(goal);
@@ -80,7 +80,7 @@ fn membership(c: Credential, goal: Goal, middle: Number) -> Premises
 
 // Kind 2: the same principal in the role that the credential names.
 fn containment(c: Credential, goal: Goal, middle: Number) -> Premises
-    ensures { λ r. ⌜ Room mostParts (r .len) (r .goals) × (given r ≡ containmentAsks goal c middle) ⌝ }
+    ensures { λ r. ⌜ GoalsFit mostParts (r .len) (r .goals) × (given r ≡ containmentAsks goal c middle) ⌝ }
 {
     if middle != 0 {
         return not_applying(goal);
@@ -102,7 +102,7 @@ fn containment(c: Credential, goal: Goal, middle: Number) -> Premises
 
 // Kind 3: the middle in the owner's first role, then the goal's principal in the middle's second.
 fn linking(c: Credential, goal: Goal, middle: Number) -> Premises
-    ensures { λ r. ⌜ Room mostParts (r .len) (r .goals) × (given r ≡ linkingAsks goal c middle) ⌝ }
+    ensures { λ r. ⌜ GoalsFit mostParts (r .len) (r .goals) × (given r ≡ linkingAsks goal c middle) ⌝ }
 {
     if middle == 0 {
         return not_applying(goal);
@@ -138,7 +138,7 @@ fn linking(c: Credential, goal: Goal, middle: Number) -> Premises
 // Kind 4: the goal's principal in every part's role, in chain order.
 fn intersection(chain: Chain, goal: Goal, middle: Number) -> Premises
     requires { ⌜ (chain .len ≤ mostParts) × (length (chain .roles) ≡ mostParts) ⌝ }
-    ensures { λ r. ⌜ Room mostParts (r .len) (r .goals)
+    ensures { λ r. ⌜ GoalsFit mostParts (r .len) (r .goals)
         × (given r ≡ intersectionAsks goal (take (chain .len) (chain .roles)) middle) ⌝ }
 {
     if middle != 0 {

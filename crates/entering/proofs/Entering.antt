@@ -13,7 +13,7 @@ use Rattle.table.specs.declared.Goal.{Goal}
 use Rattle.derivation.specs.Rules.{fresh, premises}
 use Rattle.entering.specs.Entry.{Entry, admitted, entry}
 use Rattle.entering.specs.Entry.Entry.{ask, halt}
-use Rattle.derivation.specs.Held.{Room}
+use Rattle.derivation.specs.Held.{GoalsFit}
 use Rattle.entering.specs.Steps.{Halted, may, stepped}
 use Rattle.entering.specs.declared.Step.{Step}
 
@@ -38,7 +38,7 @@ step-asks s rec h = rw h
 
 -- a step that halts says of the record what its entry says
 pub halts-with : {s : Step} {number : ℕ} {e : Entry} (rec : List ℕ) → 0 < number → Halted s number → halt number ≡ e
-    → Room mostParts (s .len) (s .goals) × (stepped s rec ≡ e)
+    → GoalsFit mostParts (s .len) (s .goals) × (stepped s rec ≡ e)
 halts-with {s} {number} rec some-number halted h =
     (halted .room, step-halts s rec (λ z. omega (arith, halted .refusal)) ∙ ap halt (halted .refusal) ∙ h)
 

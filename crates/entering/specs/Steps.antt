@@ -11,7 +11,7 @@ use Rattle.table.specs.declared.Goal.{Goal}
 use Rattle.automata.specs.Together.{acceptingSet}
 use Rattle.automata.specs.declared.StateSets.{StateSets}
 use Rattle.derivation.specs.Rules.{fresh}
-use Rattle.derivation.specs.Held.{Room}
+use Rattle.derivation.specs.Held.{GoalsFit}
 use Rattle.entering.specs.Entry.{Entry}
 use Rattle.entering.specs.Entry.Entry.{ask, halt}
 use Rattle.entering.specs.declared.Step.{Step}
@@ -29,7 +29,7 @@ stepped s rec =
 -- an entry that stops with a number
 pub record Halted (s : Step) (number : ℕ) : Type 0 where
   pub refusal : s .refusal ≡ number
-  pub room : Room mostParts (s .len) (s .goals)
+  pub room : GoalsFit mostParts (s .len) (s .goals)
 
 -- what is kept once a node that asks so many goals is entered: one that asks none ends a word
 abbrev pub afterNode : (ℕ → ℕ → ℕ) → List ℕ → ℕ → StateSets → ℕ → ℕ

@@ -16,7 +16,7 @@ ghost use Rattle.table.specs.Limits.{mostCredentials, mostDepth, mostParts};
 ghost use Rattle.table.specs.Layout.{Numbered};
 ghost use Rattle.table.specs.Holding.{WellFormed};
 ghost use Rattle.automata.specs.Arcs.{Arcs};
-ghost use Rattle.derivation.specs.Held.{Room};
+ghost use Rattle.derivation.specs.Held.{GoalsFit};
 ghost use Rattle.branches.specs.Held.{above};
 ghost use Rattle.entering.specs.Entry.{entry};
 ghost use Rattle.entering.specs.Steps.{Halted, afterNode, may, stepped};
@@ -31,7 +31,7 @@ pub struct Step {
 }
 
 // The automata that have accepted every word so far, and those that have accepted some word.
-pub struct Kept {
+pub struct WordsKept {
     pub every: AutomatonSet,
     pub some: AutomatonSet,
 }
@@ -39,8 +39,8 @@ pub struct Kept {
 // Rows 11, 12 and 13 of one node, in that order.
 pub fn enter(table: &[Number], rec: &[Number], goal: Goal, levels: usize, branch: Branch) -> Step
     requires { ⌜ WellFormed (now table) ⌝ }
-    requires { ⌜ Room mostDepth (branch .len) (branch .goals) × (branch .len + levels ≤ mostDepth) ⌝ }
-    ensures { λ r. ⌜ Room mostParts (r .len) (r .goals)
+    requires { ⌜ GoalsFit mostDepth (branch .len) (branch .goals) × (branch .len + levels ≤ mostDepth) ⌝ }
+    ensures { λ r. ⌜ GoalsFit mostParts (r .len) (r .goals)
         × (stepped r (now (rec .entry)) ≡ entry (now (table .entry)) (may levels (above branch) goal) goal (now (rec .entry))) ⌝ }
 {
     if rec.len() < 2 {
@@ -95,20 +95,20 @@ pub fn after_node(
     some: AutomatonSet,
     states: StateSets,
     len: usize,
-) -> Kept
+) -> WordsKept
     requires { ⌜ WellFormed (now table) ⌝ }
     requires { ⌜ Arcs (now table) (now arcs) ⌝ }
     ensures { λ r. ⌜ (r .every ≡ afterNode bitAnd (now (table .entry)) every states len)
         × (r .some ≡ afterNode bitOr (now (table .entry)) some states len) ⌝ }
 {
     if len != 0 {
-        return Kept {
+        return WordsKept {
             every: every,
             some: some,
         };
     }
     let accepting = states.accepting(table, arcs);
-    Kept {
+    WordsKept {
         every: every & accepting,
         some: some | accepting,
     }

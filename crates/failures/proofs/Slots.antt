@@ -16,7 +16,7 @@ use Rattle.table.specs.Limits.{mostAutomata, mostCredentials}
 use Rattle.automata.specs.declared.StateSets.{StateSets}
 use Rattle.members.specs.declared.above.Above.{Above}
 use Rattle.members.proofs.Reading.{below-next}
-use Rattle.failures.specs.Failures.{Kept, Recalled, SlotIn, blockingCell, familyCell, slotCell, slotCells, stateCell}
+use Rattle.failures.specs.Failures.{SlotWritten, Recalled, SlotIn, blockingCell, familyCell, slotCell, slotCells, stateCell}
 use Rattle.failures.specs.Cells.{CoveredAt, StatesAt, Written}
 
 -- a cell by two ways to count it
@@ -153,7 +153,7 @@ module _ (k person place levels : ℕ) (s : StateSets) (blocking : Above) (found
   first-is : (x y : ℕ) → x < 3 → y ≡ slotCells * k + x → getD new y 0 ≡ getD (levels ∷ person ∷ place ∷ []) x 0
   first-is x y few e = rw e (first-kept (slotCells * k + x) (omega arith) ∙ first .each x few)
 
-  pub kept : Kept k person place levels s blocking found old new
+  pub kept : SlotWritten k person place levels s blocking found old new
   kept =
       record {
         room = fourth .room ∙ third .room ∙ second .room ∙ first .room;

@@ -52,7 +52,7 @@ pub record SlotsIn (memory : List ℕ) (count : ℕ) : Type 0 where
   pub all : (k : ℕ) → SlotIn memory k → k < count
 
 -- what slot k holds
-pub record Holds (memory : List ℕ) (k person place levels : ℕ) (s : StateSets) (blocking : Above) (found : Family) : Type 0 where
+pub record SlotHolds (memory : List ℕ) (k person place levels : ℕ) (s : StateSets) (blocking : Above) (found : Family) : Type 0 where
   pub levels-is : getD memory (slotCell k 0) 0 ≡ levels
   pub person-is : getD memory (slotCell k 1) 0 ≡ person
   pub place-is : getD memory (slotCell k 2) 0 ≡ place
@@ -69,10 +69,10 @@ pub record Recalled (memory : List ℕ) (k person place levels : ℕ) (s : State
   pub covered : (r : ℕ) → r < mostCredentials → part (getD memory (blockingCell k r) 0) (getD (above .persons) r 0) ≡ true
 
 -- slot k is written, and no other
-pub record Kept (k person place levels : ℕ) (s : StateSets) (blocking : Above) (found : Family) (before after : List ℕ)
+pub record SlotWritten (k person place levels : ℕ) (s : StateSets) (blocking : Above) (found : Family) (before after : List ℕ)
     : Type 0 where
   pub room : length after ≡ length before
-  pub holds : Holds after k person place levels s blocking found
+  pub holds : SlotHolds after k person place levels s blocking found
   pub others : (x : ℕ) → (x < slotCell k 0) ⊎ (slotCell (k + 1) 0 ≤ x) → getD after x 0 ≡ getD before x 0
 
 -- the blocking pairs of slot k

@@ -12,7 +12,7 @@ ghost use mathlib.Core.Bool.{true};
 ghost use Prim.Native.Nat.{_<_, _≤_};
 ghost use Rattle.families.specs.Families.{familyWords};
 ghost use Rattle.table.specs.Limits.{mostAutomata, mostCredentials, mostDepth};
-ghost use Rattle.failures.specs.Failures.{BlockingAt, FamilyAt, Joined, Kept, Recalled, SlotIn, SlotsIn, Spared};
+ghost use Rattle.failures.specs.Failures.{BlockingAt, FamilyAt, Joined, SlotWritten, Recalled, SlotIn, SlotsIn, Spared};
 ghost use Rattle.failures.specs.Failures.{blockingCell, familyCell, stateCell};
 ghost use Rattle.failures.specs.Cells.{CoveredAt, StatesAt, Written};
 
@@ -197,7 +197,7 @@ pub fn keep(
 )
     requires { ⌜ SlotIn (now memory) k ⌝ }
     requires { ⌜ (person < mostCredentials) × ((place < mostCredentials) × (levels ≤ mostDepth)) ⌝ }
-    ensures { λ r. ⌜ Kept k person place levels states blocking found (now (memory .entry)) (now (memory .exit)) ⌝ }
+    ensures { λ r. ⌜ SlotWritten k person place levels states blocking found (now (memory .entry)) (now (memory .exit)) ⌝ }
 {
     let at = SLOT_CELLS * k;
     memory[at] = levels as u32;

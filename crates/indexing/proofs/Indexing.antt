@@ -15,7 +15,7 @@ use Rattle.sets.proofs.Tests.{any-all}
 use Rattle.table.specs.Limits.{mostCredentials, mostParts}
 use Rattle.table.specs.Layout.{cell, chain, credential, credentials, name, parts, role, sameRole}
 use Rattle.table.specs.Checks.{chainOk}
-use Rattle.table.specs.Holding.{Holds}
+use Rattle.table.specs.Holding.{HoldsChain}
 use Rattle.table.specs.declared.Role.{Role}
 use Rattle.table.specs.declared.Query.{Query}
 use Rattle.table.specs.declared.Chain.{Chain}
@@ -25,7 +25,7 @@ use Rattle.derivation.specs.Rules.{goalOf}
 use Rattle.members.specs.Places.{defines, isNaming, least, personAt, roleAt}
 use Rattle.members.specs.Members.{Aimed, Indexed, askedCell, goalPerson, goalRole, indexCells, linkCell, linksBase}
 use Rattle.members.specs.Members.{Whole, padded, roleCell, rolesAsked}
-use Rattle.indexing.specs.Indexing.{Asked, Linked, OneAsked, PartsAt, Place, Put, Room, Small, Written, names}
+use Rattle.indexing.specs.Indexing.{Asked, Linked, OneAsked, PartsAt, Place, Put, EntryRoom, Small, Written, names}
 use Rattle.members.proofs.Reading.{as-read, below-next, held-length, kind-read, zeros}
 use Rattle.members.proofs.Places.{least-found, least-none}
 use Rattle.members.proofs.ByKind.{one-padded, padded-inside, roles-2, roles-3, roles-4}
@@ -114,7 +114,7 @@ padded-behind (r ∷ s ∷ roles) zero (suc last) d e l = absurd (omega arith)
 padded-behind (r ∷ s ∷ roles) (suc k) (suc last) d e l = padded-behind (s ∷ roles) k last d (omega arith) (omega arith)
 
 -- a chain as the code holds it
-module _ (t : List ℕ) (first : ℕ) (held : Chain) (holds : Holds t first held) where
+module _ (t : List ℕ) (first : ℕ) (held : Chain) (holds : HoldsChain t first held) where
   pub held-some : chainOk t first ≡ true → 1 ≤ held .len
   unfolding parts
   held-some ok =
@@ -176,7 +176,7 @@ pub record Copied (i : ℕ) (asked : List ℕ) (count : ℕ) (old new : List ℕ
   pub written : Written (roleCell i) (roleCell (i + 1)) old new
   pub each : (k : ℕ) → k < count → getD new (askedCell i k) 0 ≡ getD asked k 0
 
-module _ (i role : ℕ) (asked old : List ℕ) (room : Room old i) (few : Small role asked) where
+module _ (i role : ℕ) (asked old : List ℕ) (room : EntryRoom old i) (few : Small role asked) where
   pub copied-none : Copied i asked 0 old old
   copied-none = record { written = written-none _ _ old; each = λ k l. absurd (omega arith) }
 
@@ -220,7 +220,7 @@ module _ (t : List ℕ) (nm i : ℕ) (old : List ℕ) where
           each = below-next _ j (so-far .each) (λ one. absurd (other (kind-read t j x read ∙ one)));
         }
 
-    pub linked-next : Room old i → j < mostCredentials → (place : ℕ) → Place (roleAt t (role (x .first) nm)) place
+    pub linked-next : EntryRoom old i → j < mostCredentials → (place : ℕ) → Place (roleAt t (role (x .first) nm)) place
         → Linked t nm i (j + 1) old (set new (linkCell i j) place)
     linked-next room l place found =
         record {
@@ -243,11 +243,11 @@ pub record PlacesAt (t index : List ℕ) (i : ℕ) (c : Credential) : Type 0 whe
       → getD index (linkCell i j) 0 ≡ roleAt t (role (credential t (suc j) .first) (c .second))
 
 -- the cells of credential i + 1 are as they were
-record Kept (old new : List ℕ) (i : ℕ) : Type 0 where
+record SameCells (old new : List ℕ) (i : ℕ) : Type 0 where
   places : (x : ℕ) → roleCell i ≤ x → x < roleCell (i + 1) → getD new x 0 ≡ getD old x 0
   links : (x : ℕ) → linkCell i 0 ≤ x → x < linkCell (i + 1) 0 → getD new x 0 ≡ getD old x 0
 
-places-kept : (t old new : List ℕ) (i : ℕ) (c : Credential) → credentials t ≤ mostCredentials → Kept old new i
+places-kept : (t old new : List ℕ) (i : ℕ) (c : Credential) → credentials t ≤ mostCredentials → SameCells old new i
     → PlacesAt t old i c → PlacesAt t new i c
 places-kept t old new i c few kept at =
     record {
@@ -300,7 +300,7 @@ module _ (t : List ℕ) (few : credentials t ≤ mostCredentials) (i : ℕ) (the
         linked = λ j l three one. links .each three j l one;
       }
 
-  kept-before : (k : ℕ) → k < i → Kept old new k
+  kept-before : (k : ℕ) → k < i → SameCells old new k
   kept-before k l =
       record {
         places = λ y low high. before-links y (omega arith) ∙ put .written .before y (omega arith);

@@ -48,7 +48,7 @@ pub record Written (from to : ℕ) (old new : List ℕ) : Type 0 where
   pub small : ((x : ℕ) → getD old x 0 ≤ mostCredentials) → (x : ℕ) → getD new x 0 ≤ mostCredentials
 
 -- there is room for the cells of credential i + 1
-pub record Room (index : List ℕ) (i : ℕ) : Type 0 where
+pub record EntryRoom (index : List ℕ) (i : ℕ) : Type 0 where
   pub cells : length index ≡ indexCells
   pub there : i < mostCredentials
 

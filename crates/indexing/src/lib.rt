@@ -25,7 +25,7 @@ ghost use Rattle.table.specs.Checks.{chainOk};
 ghost use Rattle.table.specs.Holding.{WellFormed};
 ghost use Rattle.members.specs.Places.{personAt, roleAt};
 ghost use Rattle.members.specs.Members.{Aimed, Indexed, Whole};
-ghost use Rattle.indexing.specs.Indexing.{Asked, Linked, OneAsked, PartsAt, Place, Put, Room, Small, names};
+ghost use Rattle.indexing.specs.Indexing.{Asked, Linked, OneAsked, PartsAt, Place, Put, EntryRoom, Small, names};
 
 // The index of a table and a query: for each credential its five cells, and its links where it is of kind 3.
 pub fn index(table: &[Number], query: Query) -> [u8; INDEX_CELLS]
@@ -63,7 +63,7 @@ pub fn index(table: &[Number], query: Query) -> [u8; INDEX_CELLS]
 
 // The five cells of credential i + 1.
 fn put(index: &mut [u8], i: usize, role: u8, asked: [u8; layout::MOST_PARTS])
-    requires { ⌜ Room (now index) i ⌝ }
+    requires { ⌜ EntryRoom (now index) i ⌝ }
     requires { ⌜ Small role asked ⌝ }
     ensures { λ r. ⌜ Put i role asked (now (index .entry)) (now (index .exit)) ⌝ }
 {
@@ -183,7 +183,7 @@ fn parts(table: &[Number], first: Number) -> [u8; layout::MOST_PARTS]
 // The role of that name of each principal that a simple membership names, for credential i + 1.
 fn links(table: &[Number], name: Number, i: usize, index: &mut [u8])
     requires { ⌜ WellFormed (now table) ⌝ }
-    requires { ⌜ Room (now index) i ⌝ }
+    requires { ⌜ EntryRoom (now index) i ⌝ }
     ensures { λ r. ⌜ Linked (now (table .entry)) name i (credentials (now (table .entry)))
         (now (index .entry)) (now (index .exit)) ⌝ }
 {

@@ -23,7 +23,7 @@ use Rattle.members.specs.Places.{personAt, roleAt}
 use Rattle.members.specs.Trying.{everyGoal, mayUse, provesBy}
 use Rattle.members.specs.Members.{Indexed, Members, askedCell, lesser, listed, roleCell, rowCell, rowCells, tableCells}
 use Rattle.members.specs.Members.{within}
-use Rattle.levels.specs.Levels.{Copied, FirstLevel, Grown, Kept, Named, NamedBy, isRest, mask, provedMembers, restOf}
+use Rattle.levels.specs.Levels.{Copied, FirstLevel, RowGrown, UnchangedUpTo, Named, NamedBy, isRest, mask, provedMembers, restOf}
 use Rattle.members.proofs.Reading.{numbered}
 use Rattle.members.proofs.Places.{person-is, person-named, person-stands, place-same, role-defined, role-few, same-place}
 use Rattle.members.proofs.Places.{same-self}
@@ -210,8 +210,8 @@ module _ (t index : List ℕ) (wf : WellFormed t) (made : Indexed t index) (S ot
   -- the row behind a level is copied from it, and then takes in whom the other credentials prove
   module _ (rows rows₁ rows₂ : List ℕ) (level : ℕ) (isNew : Bool) (few : level < mostDepth)
       (at : Reached t index S others level rows) (copy : Copied level rowCells rows rows₁)
-      (next : Grown t index others level (credentials t) rows₁ rows₂ isNew) where
-    kept : Kept level rows rows₂
+      (next : RowGrown t index others level (credentials t) rows₁ rows₂ isNew) where
+    kept : UnchangedUpTo level rows rows₂
     kept x l = next .kept x l ∙ copy .kept x l
 
     same-row : (k : ℕ) → k ≤ level → (r : ℕ) → r ≤ mostCredentials → mask rows₂ k r ≡ mask rows k r

@@ -19,7 +19,7 @@ use Rattle.table.specs.Limits.{mostCredentials, mostDepth}
 use Rattle.table.specs.Layout.{credential}
 use Rattle.table.specs.declared.Credential.{Credential}
 use Rattle.members.specs.Members.{Blank, Indexed, askedCell, roleCell, rowCell, rowCells, tableCells}
-use Rattle.levels.specs.Levels.{Copied, FirstLevel, Grown, NamedBy, ProvedBy, isRest, mask, provedMembers, restOf}
+use Rattle.levels.specs.Levels.{Copied, FirstLevel, RowGrown, NamedBy, ProvedBy, isRest, mask, provedMembers, restOf}
 use Rattle.members.proofs.Reading.{below-next, kind-read}
 use Rattle.levels.proofs.Masks.{proved-same}
 
@@ -166,7 +166,7 @@ copied-more level r rows rows′ few l so-far =
 
 -- a row that takes in whom the credentials prove
 pub grown-starts : (t index rows : List ℕ) (others level : ℕ) → length rows ≡ tableCells
-    → Grown t index others level 0 rows rows false
+    → RowGrown t index others level 0 rows rows false
 grown-starts t index rows others level room =
     record {
       room = room;
@@ -178,8 +178,8 @@ grown-starts t index rows others level room =
     }
 
 module _ (t index rows rows′ : List ℕ) (others level i : ℕ) (isNew : Bool)
-    (so-far : Grown t index others level i rows rows′ isNew) where
-  pub grown-outside : inSet others i ≡ false → Grown t index others level (i + 1) rows rows′ isNew
+    (so-far : RowGrown t index others level i rows rows′ isNew) where
+  pub grown-outside : inSet others i ≡ false → RowGrown t index others level (i + 1) rows rows′ isNew
   grown-outside out =
       record {
         room = so-far .room;
@@ -207,7 +207,7 @@ module _ (t index rows rows′ : List ℕ) (others level i : ℕ) (isNew : Bool)
 
     -- it has them all
     pub grown-same : bitOr (mask rows′ (level + 1) place) v ≡ mask rows′ (level + 1) place
-        → Grown t index others level (i + 1) rows rows′ isNew
+        → RowGrown t index others level (i + 1) rows rows′ isNew
     unfolding proved-at
     grown-same same =
         record {
@@ -242,7 +242,7 @@ module _ (t index rows rows′ : List ℕ) (others level i : ℕ) (isNew : Bool)
         or-either (λ old. so-far .only y p (rw at old)) (proved-here y p at)
         (sym (inSet-or (getD rows′ proved-at 0) v p) ∙ h))
 
-    pub grown-more : Grown t index others level (i + 1) rows
+    pub grown-more : RowGrown t index others level (i + 1) rows
         (set rows′ (rowCell (level + 1) place) (bitOr (mask rows′ (level + 1) place) v)) true
     unfolding proved-at with-proved
     grown-more =
@@ -259,5 +259,5 @@ module _ (t index rows rows′ : List ℕ) (others level i : ℕ) (isNew : Bool)
         }
 
 pub grown-is : (t index : List ℕ) (others level i : ℕ) (rows rows′ rows″ : List ℕ) (isNew isNew′ : Bool) → rows″ ≡ rows′
-    → isNew′ ≡ isNew → Grown t index others level i rows rows′ isNew → Grown t index others level i rows rows″ isNew′
+    → isNew′ ≡ isNew → RowGrown t index others level i rows rows′ isNew → RowGrown t index others level i rows rows″ isNew′
 grown-is t index others level i rows rows′ rows″ isNew isNew′ same alike h = rw (same, alike) h

@@ -75,13 +75,13 @@ pub record FirstLevel (t index : List ℕ) (S n : ℕ) (rows : List ℕ) (others
   pub rest : others ≡ restOf t S n
 
 -- the cells up to the row of a level are as they were
-abbrev pub Kept : ℕ → List ℕ → List ℕ → Type 0
-Kept level rows rows′ = (x : ℕ) → x < rowCell (level + 1) 0 → getD rows′ x 0 ≡ getD rows x 0
+abbrev pub UnchangedUpTo : ℕ → List ℕ → List ℕ → Type 0
+UnchangedUpTo level rows rows′ = (x : ℕ) → x < rowCell (level + 1) 0 → getD rows′ x 0 ≡ getD rows x 0
 
 -- the first n cells of the row behind a level are that row's
 pub record Copied (level n : ℕ) (rows rows′ : List ℕ) : Type 0 where
   pub room : length rows′ ≡ tableCells
-  pub kept : Kept level rows rows′
+  pub kept : UnchangedUpTo level rows rows′
   pub copied : (r : ℕ) → r < n → mask rows′ (level + 1) r ≡ mask rows level r
 
 -- credential i + 1 of the set proves by the level's row whoever stands at p, and x is the cell of its role in the row behind
@@ -92,9 +92,9 @@ pub record ProvedBy (t index : List ℕ) (others level : ℕ) (rows : List ℕ) 
 
 -- the row behind a level has taken in whom those of the first n credentials that are in the set prove by the level's row, and
 -- nobody else
-pub record Grown (t index : List ℕ) (others level n : ℕ) (rows rows′ : List ℕ) (isNew : Bool) : Type 0 where
+pub record RowGrown (t index : List ℕ) (others level n : ℕ) (rows rows′ : List ℕ) (isNew : Bool) : Type 0 where
   pub room : length rows′ ≡ tableCells
-  pub kept : Kept level rows rows′
+  pub kept : UnchangedUpTo level rows rows′
   pub grown : (x : ℕ) → part (getD rows x 0) (getD rows′ x 0) ≡ true
   pub proved : (i : ℕ) → i < n → inSet others i ≡ true
       → part (provedMembers t index rows level i) (mask rows′ (level + 1) (getD index (roleCell i) 0)) ≡ true

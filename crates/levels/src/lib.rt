@@ -12,7 +12,7 @@ ghost use Rattle.table.specs.Limits.{mostDepth, mostParts};
 ghost use Rattle.table.specs.Holding.{WellFormed};
 ghost use Rattle.table.specs.Layout.{credentials};
 ghost use Rattle.members.specs.Members.{Blank, Indexed, Members, rowCells, tableCells};
-ghost use Rattle.levels.specs.Levels.{Copied, FirstLevel, Grown, Readable};
+ghost use Rattle.levels.specs.Levels.{Copied, FirstLevel, RowGrown, Readable};
 ghost use Rattle.levels.specs.Levels.{askedMask, askedMembers, linkedMembers, provedMembers};
 
 // A cell for each place of a role, and one for the roles that nobody defines, which stays empty.
@@ -107,7 +107,7 @@ fn next_level(
     requires { ⌜ Indexed (now table) (now index) ⌝ }
     requires { ⌜ length (now rows) ≡ tableCells ⌝ }
     requires { ⌜ level < mostDepth ⌝ }
-    ensures { λ r. ⌜ Grown (now (table .entry)) (now (index .entry)) others level (credentials (now (table .entry)))
+    ensures { λ r. ⌜ RowGrown (now (table .entry)) (now (index .entry)) others level (credentials (now (table .entry)))
         (now (rows .entry)) (now (rows .exit)) r ⌝ }
 {
     let n = layout::credentials(table);

@@ -33,18 +33,18 @@ unfolding records.opened part setOf acceptingSet each movedSets startingSets tog
     minimalSets
 opened = tt
 
-pub data Row : Type 0 where
+pub data ShopRow : Type 0 where
   -- a table and a query are listed into a buffer: what is told, and what the buffer holds afterwards
-  lists : (table : List ℕ) (query : Query) (buffer : List ℕ) (outcome : Outcome) (after : List ℕ) → Row
+  lists : (table : List ℕ) (query : Query) (buffer : List ℕ) (outcome : Outcome) (after : List ℕ) → ShopRow
   -- a record is judged
-  judges : (row : records.Row) → Row
+  judges : (row : records.ShopRow) → ShopRow
 
 -- the record rows stand in crate verifier
-judging : List records.Row → List Row
+judging : List records.ShopRow → List ShopRow
 judging [] = []
 judging (row ∷ rows) = judges row ∷ judging rows
 
-pub shopRows : List Row
+pub shopRows : List ShopRow
 shopRows =
     lists tableT (annAsks 2) (9 ∷ 9 ∷ 9 ∷ 9 ∷ []) (accepted 2) (7 ∷ 8 ∷ 9 ∷ 9 ∷ [])
     ∷ lists tableT (annAsks 1) (9 ∷ 9 ∷ []) (accepted 1) (8 ∷ 9 ∷ [])
@@ -55,18 +55,18 @@ shopRows =
     ∷ judging records.recordRows
 
 -- every row's result is the expected one
-pub Holds : List Row → Type 0
-Holds [] = Unit {0}
-Holds (lists t q buffer outcome after ∷ rows) =
-    (listing t q (length buffer) ≡ outcome) × (bufferAfter t q buffer ≡ after) × Holds rows
-Holds (judges row ∷ rows) = (verdict (row .table) (row .query) (row .rec) ≡ row .outcome) × Holds rows
+pub RowsHold : List ShopRow → Type 0
+RowsHold [] = Unit {0}
+RowsHold (lists t q buffer outcome after ∷ rows) =
+    (listing t q (length buffer) ≡ outcome) × (bufferAfter t q buffer ≡ after) × RowsHold rows
+RowsHold (judges row ∷ rows) = (verdict (row .table) (row .query) (row .rec) ≡ row .outcome) × RowsHold rows
 
-judged : (rows : List records.Row) → records.Holds rows → Holds (judging rows)
-unfolding Holds judging records.Holds
+judged : (rows : List records.ShopRow) → records.RowsHold rows → RowsHold (judging rows)
+unfolding RowsHold judging records.RowsHold
 judged [] h = tt
 judged (row ∷ rows) h = (h .0, judged rows (h .1))
 
-pub shop-rows : Holds shopRows
-unfolding opened Holds shopRows
+pub shop-rows : RowsHold shopRows
+unfolding opened RowsHold shopRows
 shop-rows =
     (refl, refl, (refl, refl, (refl, refl, (refl, refl, (refl, refl, (refl, refl, judged records.recordRows records.record-rows))))))

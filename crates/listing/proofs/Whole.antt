@@ -14,7 +14,7 @@ use Rattle.sets.proofs.Members.{inSet-and, inSet-zero, part-le, part-shown, par
 use Rattle.cuts.specs.Cuts.{Ready, between, isLeast}
 use Rattle.cuts.proofs.Least.{least-least, least-passes, least-within}
 use Rattle.cuts.proofs.Meeting.{between-shown}
-use Rattle.sorted.specs.Sorted.{Holds, laid}
+use Rattle.sorted.specs.Sorted.{HoldsLeast, laid}
 use Rattle.sorted.proofs.Ascending.{those-numbers}
 use Rattle.sorted.proofs.Holding.{holds-none, holds-same}
 use Rattle.table.specs.Outcome.{Outcome}
@@ -24,7 +24,7 @@ use Rattle.table.specs.Holding.{WellFormed}
 use Rattle.table.specs.Checks.{requestOutcome}
 use Rattle.table.specs.declared.Query.{Query}
 use Rattle.admission.specs.Admits.{admits}
-use Rattle.listing.specs.Minimal.{Tells, afterwards, bufferAfter, isMinimal, minimalSets}
+use Rattle.listing.specs.Minimal.{TellsList, afterwards, bufferAfter, isMinimal, minimalSets}
 use Rattle.candidates.specs.Candidates.{Bears}
 use Rattle.candidates.proofs.Growing.{admits-monotone}
 use Rattle.regions.specs.Below.{Ended, Held, andLeast}
@@ -65,14 +65,14 @@ start-held n usable sets =
 module _ (t : List ℕ) (q : Query) (usable : ℕ) (few : usable < 2 ^ credentials t) (bears : Bears (admits t q) usable) where
   -- the buffer holds the minimal sets
   pub start-ended : {cuts : List ℕ} {cuts′ : List ℕ} {count′ : ℕ} {sets sets′ : List ℕ} {found′ : ℕ}
-      → Ended t q 0 usable cuts 0 cuts′ count′ sets 0 sets′ found′ → Holds (isMinimal t q) (2 ^ credentials t) sets sets′ found′
+      → Ended t q 0 usable cuts 0 cuts′ count′ sets 0 sets′ found′ → HoldsLeast (isMinimal t q) (2 ^ credentials t) sets sets′ found′
   unfolding start-held
   start-ended {sets = sets} e =
       holds-same _ (isMinimal t q) (2 ^ credentials t) (whole-least (admits t q) (credentials t) usable few bears)
       (e .adds (start-held (credentials t) usable sets))
 
   -- where all that bears on the query is not admitted none is minimal
-  pub start-none : WellFormed t → admits t q usable ≡ false → (sets : List ℕ) → Holds (isMinimal t q) (2 ^ credentials t) sets sets 0
+  pub start-none : WellFormed t → admits t q usable ≡ false → (sets : List ℕ) → HoldsLeast (isMinimal t q) (2 ^ credentials t) sets sets 0
   start-none wf fails sets =
       holds-none (isMinimal t q) (2 ^ credentials t) sets (λ Y l.
       refuted (isMinimal t q Y) (λ least.
@@ -82,7 +82,7 @@ module _ (t : List ℕ) (q : Query) (usable : ℕ) (few : usable < 2 ^ credentia
 
 -- where it is admitted some set is found
 pub some-found : (t : List ℕ) (q : Query) (usable : ℕ) {before after : List ℕ} {found : ℕ}
-    → Holds (isMinimal t q) (2 ^ credentials t) before after found → usable < 2 ^ credentials t → admits t q usable ≡ true
+    → HoldsLeast (isMinimal t q) (2 ^ credentials t) before after found → usable < 2 ^ credentials t → admits t q usable ≡ true
     → found ≡ 0 → ⊥
 some-found t q usable held few passes none =
     let (M, least, within) = least-within (admits t q) usable passes in
@@ -95,16 +95,16 @@ pub told-instead : {A : Type 0} {x y z : Outcome} → x ≡ y → (y ≡ z) × A
 told-instead e h = (e ∙ h .0, h .1)
 
 module _ (t : List ℕ) (q : Query) (before after : List ℕ) (found : ℕ)
-    (held : Holds (isMinimal t q) (2 ^ credentials t) before after found) where
-  pub none-told : found ≡ 0 → Tells t q before after (refused 9 0)
+    (held : HoldsLeast (isMinimal t q) (2 ^ credentials t) before after found) where
+  pub none-told : found ≡ 0 → TellsList t q before after (refused 9 0)
   unfolding minimalSets
   none-told none = (sym (none-counted _ _ .1 (sym (held .count) ∙ none)), held .held)
 
-  pub longer-told : length before < found → Tells t q before after (refused 10 0)
+  pub longer-told : length before < found → TellsList t q before after (refused 10 0)
   unfolding minimalSets
   longer-told long = (sym (more-counted _ _ .1 (omega (arith, held .count))), held .held)
 
-  pub listed-told : (found ≡ 0 → ⊥) → found ≤ length before → Tells t q before after (accepted found)
+  pub listed-told : (found ≡ 0 → ⊥) → found ≤ length before → TellsList t q before after (accepted found)
   unfolding minimalSets
   listed-told some fits =
       (rw (← held .count) (sym (listed-counted (length before) found (omega arith) fits)), held .held)

@@ -30,8 +30,8 @@ unfoldable pub counted : ℕ → ℕ → Outcome
 counted cells count = demand (not (eqb count 0)) 9 0 andThen demand (leb count cells) 10 0 andThen accepted count
 
 -- past the checks of table and query: what is told, and what the buffer holds afterwards
-abbrev pub Tells : List ℕ → Query → List ℕ → List ℕ → Outcome → Type 0
-Tells t q before after o = (o ≡ counted (length before) (length (minimalSets t q))) × (after ≡ laid (minimalSets t q) before)
+abbrev pub TellsList : List ℕ → Query → List ℕ → List ℕ → Outcome → Type 0
+TellsList t q before after o = (o ≡ counted (length before) (length (minimalSets t q))) × (after ≡ laid (minimalSets t q) before)
 
 -- the request's rows, then 9, 10 or the count
 unfoldable pub listing : List ℕ → Query → ℕ → Outcome

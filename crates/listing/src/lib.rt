@@ -18,7 +18,7 @@ ghost use Rattle.table.specs.Outcome.{Outcome};
 ghost use Rattle.search.specs.Search.{Prepared};
 ghost use Rattle.relevance.specs.Relevance.{Relevant};
 ghost use Rattle.admission.specs.Admits.{admits};
-ghost use Rattle.listing.specs.Minimal.{Tells, bufferAfter, listing, listingTold};
+ghost use Rattle.listing.specs.Minimal.{TellsList, bufferAfter, listing, listingTold};
 
 // The count of minimal sets, which stand in the buffer's first cells.
 pub enum Listing {
@@ -53,7 +53,7 @@ pub fn list_with(table: &[Number], query: Query, room: usize, sets: &mut [Creden
 fn list_checked(table: &[Number], query: Query, room: usize, sets: &mut [CredentialSet]) -> Listing
     requires { ⌜ WellFormed (now table) ⌝ }
     requires { ⌜ Valid query ⌝ }
-    ensures { λ r. ⌜ Tells (now (table .entry)) query (now (sets .entry)) (now (sets .exit)) (listingTold r) ⌝ }
+    ensures { λ r. ⌜ TellsList (now (table .entry)) query (now (sets .entry)) (now (sets .exit)) (listingTold r) ⌝ }
 {
     let index = indexing::index(table, query);
     let usable = relevance::relevant(table, query, &index);
@@ -81,7 +81,7 @@ fn list_over(
     requires { ⌜ Prepared (now table) query (now index) (now arcs) ⌝ }
     requires { ⌜ Relevant (now table) query usable ⌝ }
     requires { ⌜ admits (now table) query usable ≡ true ⌝ }
-    ensures { λ r. ⌜ Tells (now (table .entry)) query (now (sets .entry)) (now (sets .exit)) (listingTold r) ⌝ }
+    ensures { λ r. ⌜ TellsList (now (table .entry)) query (now (sets .entry)) (now (sets .exit)) (listingTold r) ⌝ }
 {
     let mut cuts = [0; MOST_CUTS];
     let few = if room < MOST_CUTS { room } else { MOST_CUTS };
@@ -101,7 +101,7 @@ fn list_admitted(
     requires { ⌜ Prepared (now table) query (now index) (now arcs) ⌝ }
     requires { ⌜ Relevant (now table) query usable ⌝ }
     requires { ⌜ admits (now table) query usable ≡ true ⌝ }
-    ensures { λ r. ⌜ Tells (now (table .entry)) query (now (sets .entry)) (now (sets .exit)) (listingTold r) ⌝ }
+    ensures { λ r. ⌜ TellsList (now (table .entry)) query (now (sets .entry)) (now (sets .exit)) (listingTold r) ⌝ }
 {
     let cells = sets.len();
     let mut count = 0;

@@ -9,7 +9,7 @@ use native.Mathlib.Numerals.{add-one}
 use lib.ListN.{length, replicate}
 use lib.Seq.{length-take-le}
 use Rattle.table.specs.Layout.{Numbered, credential, credentials, parts}
-use Rattle.table.specs.Holding.{Holds, WellFormed}
+use Rattle.table.specs.Holding.{HoldsChain, WellFormed}
 use Rattle.table.specs.declared.Chain.{Chain}
 use Rattle.table.specs.declared.Credential.{Credential}
 use Rattle.table.proofs.WellFormed.{wf-credential}
@@ -46,7 +46,7 @@ whole t wf i there x read =
     }
 
 -- a chain as the code holds it
-pub held-length : (t : List ℕ) (first : ℕ) (held : Chain) → Holds t first held → length (parts t first) ≡ held .len
+pub held-length : (t : List ℕ) (first : ℕ) (held : Chain) → HoldsChain t first held → length (parts t first) ≡ held .len
 held-length t first held holds =
     rw (← holds .roles) (length-take-le (held .len) (held .roles) (omega (arith, holds .few, holds .room)))
 

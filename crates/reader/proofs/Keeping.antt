@@ -22,8 +22,8 @@ use Rattle.entering.specs.Entry.Entry.{ask, halt}
 use Rattle.entering.specs.Steps.{afterNode, may}
 use Rattle.reader.specs.Reading.{Reading, entered, followed, joined, readAll, reader}
 use Rattle.reader.specs.Reading.Reading.{read, stop}
-use Rattle.reader.specs.Tally.{ReadOn, Told, keptFrom, numbersTold, tally, tallyOn}
-use Rattle.reader.specs.Tally.Told.{passed, stopped}
+use Rattle.reader.specs.Tally.{ReadOn, Tallied, keptFrom, numbersTold, tally, tallyOn}
+use Rattle.reader.specs.Tally.Tallied.{passed, stopped}
 use Rattle.table.specs.Holding.{WellFormed}
 use Rattle.reader.proofs.FirstGoal.{reader-end}
 use Rattle.derivation.proofs.Applying.{applies-role, asks-more}
@@ -34,7 +34,7 @@ pub count-next : (n : ℕ) (f : Forest) → countFrom (suc n) f ≡ suc (countFr
 count-next n f = omega (arith, count-from (suc n) f, count-from n f)
 
 -- what follows a reading is read from what is kept by then
-onward : List ℕ → StateSets → (List ℕ → ℕ → Reading) → Told → Told
+onward : List ℕ → StateSets → (List ℕ → ℕ → Reading) → Tallied → Tallied
 onward t s later (passed rest used nodes every some) = tally t s used nodes every some (later rest (suc nodes))
 onward t s later (stopped number at) = stopped number at
 
@@ -83,7 +83,7 @@ reads-none t (suc levels) branch s rec used nodes every some = refl
 module _ {t : List ℕ} {levels : ℕ} {branch : List Goal} {g : Goal} {s : StateSets} {rec : List ℕ} {used nodes every some : ℕ}
     {rest : List ℕ} {used′ nodes′ every′ some′ refusal : ℕ}
     (r : ReadOn t levels branch g s rec used nodes every some rest used′ nodes′ every′ some′ refusal) (goals : List Goal) where
-  abbrev both : Told
+  abbrev both : Tallied
   both = tallyOn t levels branch (g ∷ goals) s rec used nodes every some
 
   split : onward t s (reader t levels branch goals) (tallyOn t levels branch (g ∷ []) s rec used nodes every some) ≡ both
@@ -178,7 +178,7 @@ module _ (t : List ℕ) (wf : WellFormed t) (g : Goal) (s : StateSets) (used nod
       rw (applies-role t g c m (h ∷ goals) applies, not-one, ne-eqb (suc (length goals)) 0 (λ e. omega arith))
 
   -- what is kept once the node is counted and its word, if it ends one, is judged
-  abbrev counted : ℕ → Reading → Told
+  abbrev counted : ℕ → Reading → Tallied
   counted len after =
       tally t below (bitOr used (2 ^ (c - 1))) (suc nodes) (afterNode bitAnd t every below len) (afterNode bitOr t some below len)
       after

@@ -17,11 +17,11 @@ use Rattle.automata.specs.declared.StateSets.{StateSets}
 use Rattle.automata.proofs.Together.{states-moved}
 use Rattle.entering.specs.Entry.{entry}
 use Rattle.entering.specs.Entry.Entry.{ask}
-use Rattle.derivation.specs.Held.{Room, noGoal}
+use Rattle.derivation.specs.Held.{GoalsFit, noGoal}
 use Rattle.branches.specs.Held.{above}
 use Rattle.entering.specs.Steps.{afterNode, may, stepped}
-use Rattle.reader.specs.Tally.{ReadOn, Told, tallyOn}
-use Rattle.reader.specs.Tally.Told.{passed, stopped}
+use Rattle.reader.specs.Tally.{ReadOn, Tallied, tallyOn}
+use Rattle.reader.specs.Tally.Tallied.{passed, stopped}
 use Rattle.branches.specs.declared.Branch.{Branch}
 use Rattle.entering.specs.declared.Step.{Step}
 use Rattle.derivation.proofs.Applying.{applies-numbered, applies-role}
@@ -62,7 +62,7 @@ stops-told stops told = record { told = stopped-told _ _ _ _ _ _ stops ∙ told;
 -- the first i children have been read, none was refused, and the others are still to be read
 pub record Onward (t : List ℕ) (levels : ℕ) (branch goals : List Goal) (len : ℕ) (s : StateSets) (rest₀ : List ℕ)
     (used₀ nodes₀ every₀ some₀ : ℕ) (rest : List ℕ) (used nodes every some refusal i : ℕ) : Type 0 where
-  pub held : Room mostParts len goals
+  pub held : GoalsFit mostParts len goals
   pub few : i ≤ len
   pub no-refusal : refusal ≡ 0
   pub room : nodes + length rest ≤ nodes₀ + length rest₀
@@ -70,7 +70,7 @@ pub record Onward (t : List ℕ) (levels : ℕ) (branch goals : List Goal) (len 
       ≡ tallyOn t levels branch (take len goals) s rest₀ used₀ nodes₀ every₀ some₀
 
 pub onward-starts : {t : List ℕ} {levels : ℕ} {branch goals : List Goal} {len : ℕ} {s : StateSets} {rest : List ℕ}
-    {used nodes every some refusal : ℕ} → Room mostParts len goals → refusal ≡ 0
+    {used nodes every some refusal : ℕ} → GoalsFit mostParts len goals → refusal ≡ 0
     → Onward t levels branch goals len s rest used nodes every some rest used nodes every some refusal 0
 onward-starts held h = record { held = held; few = omega arith; no-refusal = h; room = omega arith; whole = refl }
 
@@ -78,7 +78,7 @@ module _ {t : List ℕ} {levels : ℕ} {branch goals : List Goal} {len : ℕ} {s
     {used₀ nodes₀ every₀ some₀ : ℕ} {rest : List ℕ} {used nodes every some refusal i : ℕ}
     (o : Onward t levels branch goals len s rest₀ used₀ nodes₀ every₀ some₀ rest used nodes every some refusal i) where
   -- what is kept once every child is read
-  abbrev all-kept : Told
+  abbrev all-kept : Tallied
   all-kept = tallyOn t levels branch (take len goals) s rest₀ used₀ nodes₀ every₀ some₀
 
   onward-fits : len ≤ length goals
@@ -114,7 +114,7 @@ module _ {t : List ℕ} {levels : ℕ} {branch goals : List Goal} {len : ℕ} {s
 -- a node that the code has entered with `step`
 pub record Node (t : List ℕ) (levels : ℕ) (branch : Branch) (g : Goal) (rec : List ℕ) (step : Step) : Type 0 where
   pub table : WellFormed t
-  pub held : Room mostParts (step .len) (step .goals)
+  pub held : GoalsFit mostParts (step .len) (step .goals)
   pub enters : stepped step rec ≡ entry t (may levels (above branch) g) g rec
   pub goes : step .refusal ≡ 0
 

@@ -33,23 +33,23 @@ everyFrom t s every f = keptFrom bitAnd t s every f
 abbrev pub someFrom : List ℕ → StateSets → ℕ → Forest → ℕ
 someFrom t s some f = keptFrom bitOr t s some f
 
-pub data Told : Type 0 where
-  passed : (rest : List ℕ) (used nodes every some : ℕ) → Told
-  stopped : (number node : ℕ) → Told
+pub data Tallied : Type 0 where
+  passed : (rest : List ℕ) (used nodes every some : ℕ) → Tallied
+  stopped : (number node : ℕ) → Tallied
 
 -- what is kept after a reading, on top of what was kept before
-unfoldable pub tally : List ℕ → StateSets → ℕ → ℕ → ℕ → ℕ → Reading → Told
+unfoldable pub tally : List ℕ → StateSets → ℕ → ℕ → ℕ → ℕ → Reading → Tallied
 tally t s used nodes every some (read rest f) =
     passed rest (usedFrom used f) (countFrom nodes f) (everyFrom t s every f) (someFrom t s some f)
 tally t s used nodes every some (stop number at) = stopped number at
 
 -- the same from the code's numbers: no refusal is 0
-unfoldable pub numbersTold : List ℕ → ℕ → ℕ → ℕ → ℕ → ℕ → Told
+unfoldable pub numbersTold : List ℕ → ℕ → ℕ → ℕ → ℕ → ℕ → Tallied
 numbersTold rest used nodes every some refusal =
     pick (eqb refusal 0) (passed rest used nodes every some) (stopped refusal nodes)
 
 -- reading goals on, from what is kept so far
-unfoldable pub tallyOn : List ℕ → ℕ → List Goal → List Goal → StateSets → List ℕ → ℕ → ℕ → ℕ → ℕ → Told
+unfoldable pub tallyOn : List ℕ → ℕ → List Goal → List Goal → StateSets → List ℕ → ℕ → ℕ → ℕ → ℕ → Tallied
 tallyOn t levels branch goals s rec used nodes every some =
     tally t s used nodes every some (reader t levels branch goals rec (suc nodes))
 

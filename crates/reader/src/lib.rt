@@ -16,7 +16,7 @@ ghost use lib.ListN.{length};
 ghost use Rattle.table.specs.Limits.{mostDepth};
 ghost use Rattle.table.specs.Holding.{WellFormed};
 ghost use Rattle.automata.specs.Arcs.{Arcs};
-ghost use Rattle.derivation.specs.Held.{Room};
+ghost use Rattle.derivation.specs.Held.{GoalsFit};
 ghost use Rattle.branches.specs.Held.{above};
 ghost use Rattle.reader.specs.Tally.{ReadOn};
 
@@ -37,7 +37,7 @@ pub fn read<'a>(
     refusal: &mut u32,
 ) -> &'a [Number]
     requires { ⌜ WellFormed (now table) ⌝ }
-    requires { ⌜ Room mostDepth (branch .len) (branch .goals) × (branch .len + levels ≤ mostDepth) ⌝ }
+    requires { ⌜ GoalsFit mostDepth (branch .len) (branch .goals) × (branch .len + levels ≤ mostDepth) ⌝ }
     requires { ⌜ now nodes + length (now rec) < 2 ^ 63 ⌝ }
     requires { ⌜ now refusal ≡ 0 ⌝ }
     requires { ⌜ Arcs (now table) (now arcs) ⌝ }

@@ -16,7 +16,7 @@ use Rattle.sets.specs.Sets.{inSet, part}
 use Rattle.sets.proofs.Tests.{and-first, and-is-off, and-second, false-true, or-and, or-assoc, or-false, refuted}
 use Rattle.sets.proofs.Members.{one-bit, part-le, part-member, part-zero}
 use Rattle.sets.proofs.Without.{and-part, without-own, without-part}
-use Rattle.cuts.specs.Cuts.{Barren, Judged, More, Ready, between, isLeast}
+use Rattle.cuts.specs.Cuts.{Barren, RegionJudged, More, Ready, between, isLeast}
 use Rattle.cuts.proofs.Meeting.{more-more, more-ready, more-same}
 use Rattle.cuts.proofs.Lines.{between-apart, between-in, between-out, between-split, chosen-fits, chosen-here}
 use Rattle.cuts.proofs.Lines.{free-fits, more-stored, outside-cut, outside-unmet, passed-barren, passed-least}
@@ -28,7 +28,7 @@ use Rattle.table.specs.Layout.{credentials}
 use Rattle.table.specs.Holding.{WellFormed}
 use Rattle.table.specs.declared.Query.{Query}
 use Rattle.admission.specs.Admits.{admits}
-use Rattle.candidates.specs.Candidates.{Grown, Kept}
+use Rattle.candidates.specs.Candidates.{Grown, InsertedIfLeast}
 use Rattle.candidates.proofs.Growing.{admits-monotone}
 use Rattle.regions.specs.Below.{Decided, Ended, Held, andLeast}
 
@@ -82,7 +82,7 @@ module _ {t : List ℕ} {q : Query} {chosen free : ℕ} {cuts : List ℕ} {count
 
   -- what is chosen is the only set here that may be minimal
   pub ended-kept : {sets′ : List ℕ} {found′ : ℕ} → WellFormed t → Ready (admits t q) (credentials t) chosen free cuts count
-      → admits t q chosen ≡ true → Kept (admits t q) chosen sets found sets′ found′
+      → admits t q chosen ≡ true → InsertedIfLeast (admits t q) chosen sets found sets′ found′
       → Ended t q chosen free cuts count cuts count sets found sets′ found′
   ended-kept {sets′} {found′} wf r passes k = go (isLeast (admits t q) chosen) refl
     where
@@ -117,7 +117,7 @@ module _ {t : List ℕ} {q : Query} {chosen free : ℕ} {cuts : List ℕ} {count
 -- where the array is not full and the cuts do not rule the region out, what is chosen and admitted is minimal
 pub judged-least : (t : List ℕ) (q : Query) {chosen free : ℕ} {cuts : List ℕ} {count : ℕ} {barren : Bool} → WellFormed t
     → Ready (admits t q) (credentials t) chosen free cuts count → admits t q chosen ≡ true
-    → Judged cuts count chosen free barren → barren ≡ false → eqb count (length cuts) ≡ false → isLeast (admits t q) chosen ≡ true
+    → RegionJudged cuts count chosen free barren → barren ≡ false → eqb count (length cuts) ≡ false → isLeast (admits t q) chosen ≡ true
 judged-least t q {cuts = cuts} {count = count} wf r passes j h more =
     sole-least r (admits-monotone t wf q) passes (j .sole h (omega (arith, eqb-false count (length cuts) more, r .known .room)))
 

@@ -7,7 +7,7 @@ use mathlib.Core.Bool.{Bool, true, false}
 use Rattle.sets.specs.Logic.{_and_, _or_}
 use Rattle.sets.specs.Sets.{part}
 use Rattle.cuts.specs.Cuts.{More, Searched, between, isLeast}
-use Rattle.sorted.specs.Sorted.{Holds}
+use Rattle.sorted.specs.Sorted.{HoldsLeast}
 use Rattle.table.specs.Layout.{credentials}
 use Rattle.table.specs.declared.Query.{Query}
 use Rattle.admission.specs.Admits.{admits}
@@ -20,7 +20,7 @@ andLeast found p chosen free Y = found Y or (between chosen free Y and isLeast p
 pub record Held (n chosen free : ℕ) (sets : List ℕ) (found : ℕ) : Type 0 where
   pub test : ℕ → Bool
   pub before : List ℕ
-  pub holds : Holds test (2 ^ n) before sets found
+  pub holds : HoldsLeast test (2 ^ n) before sets found
   pub apart : (Y : ℕ) → between chosen free Y ≡ true → test Y ≡ false
 
 -- what the search leaves: more cuts, by which the region is searched, and its least sets beside those that the buffer held
@@ -29,7 +29,7 @@ pub record Ended (t : List ℕ) (q : Query) (chosen free : ℕ) (cuts : List ℕ
   pub more : More (admits t q) (credentials t) cuts count cuts′ count′
   pub searched : Searched (admits t q) chosen free cuts′ count′
   pub adds : (h : Held (credentials t) chosen free sets found)
-      → Holds (andLeast (h .test) (admits t q) chosen free) (2 ^ credentials t) (h .before) sets′ found′
+      → HoldsLeast (andLeast (h .test) (admits t q) chosen free) (2 ^ credentials t) (h .before) sets′ found′
 
 -- what is left to branch on is free; where nothing is left the search is over, and otherwise nothing is found yet
 pub record Decided (t : List ℕ) (q : Query) (chosen free : ℕ) (cuts : List ℕ) (count : ℕ) (cuts′ : List ℕ) (count′ : ℕ)

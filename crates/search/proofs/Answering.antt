@@ -30,7 +30,7 @@ use Rattle.failures.specs.Failures.{Joined}
 use Rattle.goals.specs.Goals.{Trimmed}
 use Rattle.search.specs.Asking.{Fits, Pair, SameLater, askedPairs, pair, pairsFrom, rolePairs}
 use Rattle.search.specs.declared.asking.Asked.{Asked}
-use Rattle.search.specs.Search.{AllStand, Searched, Stands, Tried, ends, provesAt, shares}
+use Rattle.search.specs.Search.{AllStand, Searchable, Stands, Tried, ends, provesAt, shares}
 use Rattle.families.proofs.Covering.{covers-only}
 use Rattle.search.specs.Failing.{Bounds, Covers, Fails, Finds, Judged, LaterJudged, goalTest, noFamily, ownTest, sharedTest}
 use Rattle.search.proofs.Pairs.{asked-end, asked-from}
@@ -200,7 +200,7 @@ asked-stands {t} asked all k l =
     rw (here, zero-add k) at there
 
 -- the roles that a credential of kind 2 or 4 asks have places
-pub roles-stand : {t index arcs rows : List ℕ} {S levels last : ℕ} → Searched t index arcs rows S levels last → {person i : ℕ}
+pub roles-stand : {t index arcs rows : List ℕ} {S levels last : ℕ} → Searchable t index arcs rows S levels last → {person i : ℕ}
     → Tried t person i → (credential t (suc i) .kind ≡ 2) ⊎ (credential t (suc i) .kind ≡ 4) → (n : ℕ) → n ≤ 4
     → AllStand t (rolePairs index person i n 0)
 roles-stand {index = index} searched {person} {i} tried kind n few k l =
@@ -229,7 +229,7 @@ module _ (t : List ℕ) (A : ℕ) (s : StateSets) (X : ℕ) where
   ends-both = part-or A X _
 
 -- a word ends: what it meets of the owed automata, where the credential names the principal and the imposed ones accept it
-pub word-judged : {t index arcs rows : List ℕ} {S levels last : ℕ} → Searched t index arcs rows S levels last → {person i : ℕ}
+pub word-judged : {t index arcs rows : List ℕ} {S levels last : ℕ} → Searchable t index arcs rows S levels last → {person i : ℕ}
     → Tried t person i → credential t (suc i) .kind ≡ 1 → (A O : ℕ) → O < allSets → (s : StateSets) {above blocking : Above} {found : Family}
     → FamilyOf (λ X. eqb (getD index (askedCell i 0) 0) person and part A (acceptingSet t s)
     and eqb (bitAnd O (acceptingSet t s)) X) found → blocking ≡ nothingAbove
@@ -288,7 +288,7 @@ pub two-or-four : {k : ℕ} → (k ≡ 2) ⊎ (k ≡ 4) → k ≡ 3 → ⊥
 two-or-four kind three = ⊎-elim (λ two. omega arith) (λ four. omega arith) kind
 
 -- what some middle proves, credential i + 1 of kind 3 does
-module _ {t index arcs rows : List ℕ} {S levels last : ℕ} (searched : Searched t index arcs rows S levels last) {person i : ℕ}
+module _ {t index arcs rows : List ℕ} {S levels last : ℕ} (searched : Searchable t index arcs rows S levels last) {person i : ℕ}
     (tried : Tried t person i) (kind : credential t (suc i) .kind ≡ 3) (A O : ℕ) (s : StateSets) where
   pub linked-all : (j : ℕ) → j ≡ credentials t → {above blocking : Above} {found : Family}
       → Judged O (linkedTest t index S A O levels s person i j) above found blocking

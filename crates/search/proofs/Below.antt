@@ -33,7 +33,7 @@ use Rattle.members.specs.Places.{isPerson}
 use Rattle.failures.specs.Failures.{Joined, Spared}
 use Rattle.goals.specs.Goals.{Left, mayBeProved, stepped, steppedOn, usable}
 use Rattle.search.specs.Asking.{Pair, pair}
-use Rattle.search.specs.Search.{Searched, Stands, Tried, ends, goalAt, proves, provesAt, provesWith, shares}
+use Rattle.search.specs.Search.{Searchable, Stands, Tried, ends, goalAt, proves, provesAt, provesWith, shares}
 use Rattle.search.specs.Failing.{Bounds, Covers, Fails, Finds, Judged, Sought, Wide, anyTest, goalTest}
 use Rattle.search.specs.Failing.{ownTest, sharedTest}
 use Rattle.search.proofs.Failing.{covered-above, covers-none, failed-again, fails-above}
@@ -143,7 +143,7 @@ module _ (t rows : List ℕ) (last person place levels : ℕ) (may : mayBeProved
   unfolding mayBeProved
   may-there = ltb-true place (credentials t) (and-first _ _ (and-second _ _ may))
 
-pub opened : {t index arcs rows : List ℕ} {S levels last person place : ℕ} → Searched t index arcs rows S levels last
+pub opened : {t index arcs rows : List ℕ} {S levels last person place : ℕ} → Searchable t index arcs rows S levels last
     → Stands t person place → {told : Bool} → told ≡ mayBeProved t rows last person place levels → not told ≡ false
     → Open t levels person place
 opened {t} {rows = rows} {levels = levels} {last} {person} {place} searched stands e on =
@@ -160,7 +160,7 @@ opened {t} {rows = rows} {levels = levels} {last} {person} {place} searched stan
 -- the goal at these places
 module _ (t : List ℕ) (S A O levels : ℕ) (s : StateSets) (person place : ℕ) (stands : Stands t person place) where
   -- the rows do not have it
-  pub goal-unlisted : {index arcs rows : List ℕ} {last : ℕ} → Searched t index arcs rows S levels last
+  pub goal-unlisted : {index arcs rows : List ℕ} {last : ℕ} → Searchable t index arcs rows S levels last
       → mayBeProved t rows last person place levels ≡ false → (X : ℕ) (b : Above)
       → goalTest t S A O levels s person place X b ≡ false
   unfolding mayBeProved

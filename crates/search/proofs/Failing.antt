@@ -23,7 +23,7 @@ use Rattle.families.specs.Families.{allSets, covers}
 use Rattle.families.specs.declared.Family.{Family}
 use Rattle.families.proofs.Words.{same-sets}
 use Rattle.families.proofs.Covering.{covers-more}
-use Rattle.failures.specs.Failures.{FamilyAt, Holds, Joined, Kept, BlockingAt, Recalled, SlotIn, Spared, slotCell, slotCells}
+use Rattle.failures.specs.Failures.{FamilyAt, SlotHolds, Joined, SlotWritten, BlockingAt, Recalled, SlotIn, Spared, slotCell, slotCells}
 use Rattle.members.specs.Members.{Blank}
 use Rattle.search.specs.Search.{goalAt, provesAt}
 use Rattle.search.specs.Failing.{Bounds, Covers, Failed, Fails, Remembered, Wide}
@@ -156,7 +156,7 @@ module _ (t : List ℕ) (S A O : ℕ) where
         fewer-fail levels _ (recalled .enough) b s person place X
         (remembered .each k person place _ s blocking found l eight holds X owed missed b wide covers)
       where
-        holds : Holds memory k person place (getD memory (slotCell k 0) 0) s blocking found
+        holds : SlotHolds memory k person place (getD memory (slotCell k 0) 0) s blocking found
         holds =
             record {
               levels-is = refl;
@@ -169,11 +169,11 @@ module _ (t : List ℕ) (S A O : ℕ) where
 
   -- a slot is written with a goal and what it can meet
   module _ {before after : List ℕ} {k person place levels : ℕ} {s : StateSets} {blocking : Above} {found : Family}
-      (remembered : Remembered t S A O before) (kept-at : Kept k person place levels s blocking found before after)
+      (remembered : Remembered t S A O before) (kept-at : SlotWritten k person place levels s blocking found before after)
       (eight : length (s .sets) ≡ mostAutomata) (bounds : Bounds O (asks levels s person place) found blocking) where
     -- the slot itself
     module _ (person′ place′ levels′ : ℕ) (s′ : StateSets) (blocking′ : Above) (found′ : Family)
-        (eight′ : length (s′ .sets) ≡ mostAutomata) (holds : Holds after k person′ place′ levels′ s′ blocking′ found′) where
+        (eight′ : length (s′ .sets) ≡ mostAutomata) (holds : SlotHolds after k person′ place′ levels′ s′ blocking′ found′) where
       same-states : s ≡ s′
       same-states =
           ap (λ x. record { sets = x }) (ext-getD 0 (s .sets) (s′ .sets) (eight ∙ sym eight′) (λ j l.
@@ -205,7 +205,7 @@ module _ (t : List ℕ) (S A O : ℕ) where
 
     -- another slot
     other-slot : (k′ person′ place′ levels′ : ℕ) (s′ : StateSets) (blocking′ : Above) (found′ : Family) → (k′ ≡ k → ⊥)
-        → Holds after k′ person′ place′ levels′ s′ blocking′ found′ → Holds before k′ person′ place′ levels′ s′ blocking′ found′
+        → SlotHolds after k′ person′ place′ levels′ s′ blocking′ found′ → SlotHolds before k′ person′ place′ levels′ s′ blocking′ found′
     other-slot k′ person′ place′ levels′ s′ blocking′ found′ other holds =
         record {
           levels-is = sym (cell 0 (omega arith)) ∙ holds .levels-is;
@@ -228,7 +228,7 @@ module _ (t : List ℕ) (S A O : ℕ) where
     remembered-more = record { few = remembered .few; room = rw (kept-at .room) (remembered .room); each = each }
       where
         each : (k′ person′ place′ levels′ : ℕ) (s′ : StateSets) (blocking′ : Above) (found′ : Family) → SlotIn after k′
-            → length (s′ .sets) ≡ mostAutomata → Holds after k′ person′ place′ levels′ s′ blocking′ found′
+            → length (s′ .sets) ≡ mostAutomata → SlotHolds after k′ person′ place′ levels′ s′ blocking′ found′
             → Bounds O (asks levels′ s′ person′ place′) found′ blocking′
         each k′ person′ place′ levels′ s′ blocking′ found′ l eight′ holds = go (ℕ-discrete k′ k)
           where

@@ -23,7 +23,7 @@ use Rattle.members.specs.declared.above.Above.{Above}
 use Rattle.failures.specs.Failures.{Joined}
 use Rattle.goals.specs.Goals.{Trimmed}
 use Rattle.search.specs.Search.{shares}
-use Rattle.search.specs.Failing.{Bounds, Covers, Fails, Finds, Judged, Sought, Told, Wide}
+use Rattle.search.specs.Failing.{Bounds, Covers, Fails, Finds, Judged, Sought, FoundBelow, Wide}
 use Rattle.search.proofs.Sharing.{shares-less, shares-reached, shares-shows}
 use Rattle.search.proofs.Failing.{covered-both, covers-none, fails-first, fails-second}
 
@@ -98,7 +98,7 @@ module _ {O : ℕ} {test : ℕ → Above → Bool} {above : Above} where
       }
 
   -- the answer of one branch
-  pub judged-told : {found : Family} {blocking : Above} → Wide above → Judged O test above found blocking → Told O test above found
+  pub judged-told : {found : Family} {blocking : Above} → Wide above → Judged O test above found blocking → FoundBelow O test above found
   judged-told {found} wide judged =
       record {
         finds = judged .finds;

@@ -12,7 +12,7 @@ use borrow.Author.Tests.{ne-eqb}
 use Rattle.sets.specs.Logic.{pick}
 use Rattle.table.specs.Limits.{mostParts}
 use Rattle.table.specs.Layout.{credential, credentials}
-use Rattle.table.specs.Holding.{Holds, WellFormed}
+use Rattle.table.specs.Holding.{HoldsChain, WellFormed}
 use Rattle.table.specs.declared.Chain.{Chain}
 use Rattle.table.specs.declared.Credential.{Credential}
 use Rattle.members.specs.Members.{askedCell, rolesAsked}
@@ -41,7 +41,7 @@ module _ (persons places : List ℕ) where
 
 -- how many roles a credential asks, by its kind
 module _ (t : List ℕ) (c : Credential) where
-  pub asks-parts : c .kind ≡ 4 → (held : Chain) → Holds t (c .first) held → held .len ≡ length (rolesAsked t c)
+  pub asks-parts : c .kind ≡ 4 → (held : Chain) → HoldsChain t (c .first) held → held .len ≡ length (rolesAsked t c)
   asks-parts four held holds = sym (ap length (roles-4 t c four) ∙ held-length t (c .first) held holds)
 
   pub asks-one : c .kind ≡ 2 → 1 ≡ length (rolesAsked t c)

@@ -40,7 +40,7 @@ use Rattle.members.specs.declared.above.Above.{Above}
 use Rattle.goals.specs.Goals.{stepped}
 use Rattle.goals.proofs.Testing.{row-within}
 use Rattle.search.specs.Asking.{Pair, pair, rolePairs}
-use Rattle.search.specs.Search.{Searched, Stands, Tried, ends, goalAt, proves, provesAt, shares}
+use Rattle.search.specs.Search.{Searchable, Stands, Tried, ends, goalAt, proves, provesAt, shares}
 use Rattle.search.proofs.Owing.{proves-less}
 use Rattle.search.proofs.Sharing.{every-by, first-unshared, second-unshared, shares-each}
 
@@ -112,7 +112,7 @@ module _ (t : List ℕ) (S A O : ℕ) where
 
 -- fewer levels
 pub searched-fewer : {t index arcs rows : List ℕ} {S levels last : ℕ} (levels′ : ℕ) → levels′ ≤ levels
-    → Searched t index arcs rows S levels last → Searched t index arcs rows S levels′ last
+    → Searchable t index arcs rows S levels last → Searchable t index arcs rows S levels′ last
 searched-fewer levels′ fewer searched =
     let members = searched .members in
     record {
@@ -188,7 +188,7 @@ unfolding rolesAsked padded pick
 linking-role t c three = rw three
 
 -- what a credential proves, cell by cell of the index: the search for each goal that it asks, by places
-module _ {t index arcs rows : List ℕ} {S levels last : ℕ} (searched : Searched t index arcs rows S levels last) {person i : ℕ}
+module _ {t index arcs rows : List ℕ} {S levels last : ℕ} (searched : Searchable t index arcs rows S levels last) {person i : ℕ}
     (tried : Tried t person i) where
   pub part-cell : (credential t (suc i) .kind ≡ 2) ⊎ (credential t (suc i) .kind ≡ 4) → (k : ℕ) → k < 4
       → getD index (askedCell i k) 0 ≡ roleAt t (partRole t i k)

@@ -24,8 +24,8 @@ use Rattle.members.specs.Above.{nothingAbove}
 use Rattle.members.specs.Members.{Aimed, Indexed, Members, goalPerson, goalRole, listed}
 use Rattle.members.proofs.Places.{person-is, person-stands}
 use Rattle.goals.specs.Goals.{mayBeProved}
-use Rattle.search.specs.Search.{Prepared, Searched, Stands, TellsMet, proves, provable, provesAt}
-use Rattle.search.specs.Failing.{Told, goalTest}
+use Rattle.search.specs.Search.{Prepared, Searchable, Stands, TellsMet, proves, provable, provesAt}
+use Rattle.search.specs.Failing.{FoundBelow, goalTest}
 use Rattle.search.proofs.Below.{goal-unlisted}
 use Rattle.search.proofs.Owing.{proves-less}
 use Rattle.search.proofs.Exact.{members-exact}
@@ -40,7 +40,7 @@ prepared-by (wf, valid) (indexed, aimed) moving =
 
 -- the search may be asked with the members within the query's depth
 pub goal-searched : {t : List ℕ} {q : Query} {index arcs : List ℕ} → Prepared t q index arcs → {S depth last : ℕ} {rows : List ℕ}
-    → depth ≡ q .depth → Members t S (q .depth) last rows → Searched t index arcs rows S depth last
+    → depth ≡ q .depth → Members t S (q .depth) last rows → Searchable t index arcs rows S depth last
 goal-searched {q = q} prepared levels members =
     record {
       wellFormed = prepared .wellFormed;
@@ -85,7 +85,7 @@ module _ {t : List ℕ} {q : Query} {index arcs : List ℕ} (prepared : Prepared
 
     -- what is found of the goal
     pub goal-told : (S A O depth : ℕ) → depth ≡ q .depth
-        → {found : Family} → Told O (goalTest t S A O depth (startingSets t) person place) nothingAbove found
+        → {found : Family} → FoundBelow O (goalTest t S A O depth (startingSets t) person place) nothingAbove found
         → TellsMet t q S A O found
     goal-told S A O depth levels {found} told X among =
         same-test (covers found X) (provable t q S A X)

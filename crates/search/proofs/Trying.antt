@@ -30,7 +30,7 @@ use Rattle.search.proofs.Placing.{cell-parts, first-cell, linkedRole, m
 use Rattle.search.proofs.Placing.{part-unlisted, partMissed, partRole, provesOwn, second-cell, stands-at}
 use Rattle.members.specs.declared.above.Above.{Above}
 use Rattle.search.specs.Asking.{Pair, pair}
-use Rattle.search.specs.Search.{Searched, Stands, Tried, ends, goalAt, proves, provesAt, provesWith, shares}
+use Rattle.search.specs.Search.{Searchable, Stands, Tried, ends, goalAt, proves, provesAt, provesWith, shares}
 use Rattle.search.specs.Failing.{anyTest}
 
 -- levels are left: the goal is decided one level further down
@@ -132,7 +132,7 @@ mask-missed index rows level i person off =
 
 -- from part to part: the roles that a credential of kind 2 or 4 asks have places, and what is found of them decides what it
 -- proves
-module _ {t index arcs rows : List ℕ} {S levels last : ℕ} (searched : Searched t index arcs rows S levels last) {person i : ℕ}
+module _ {t index arcs rows : List ℕ} {S levels last : ℕ} (searched : Searchable t index arcs rows S levels last) {person i : ℕ}
     (tried : Tried t person i) (kind : (credential t (suc i) .kind ≡ 2) ⊎ (credential t (suc i) .kind ≡ 4)) where
   pub stands-part : (k : ℕ) → k < 4 → (place : ℕ) → place ≡ getD index (askedCell i k) 0 → Stands t person place
   stands-part k l place e =
@@ -178,7 +178,7 @@ module _ {t index arcs rows : List ℕ} {S levels last : ℕ} (searched : Search
 
 -- credential i + 1, of kind 3, is tried with the principal at j as the middle: the row told whether both are in their roles
 pub record Middle (t index arcs rows : List ℕ) (S levels last person i row j first second : ℕ) (told : Bool) : Type 0 where
-  pub searched : Searched t index arcs rows S levels last
+  pub searched : Searchable t index arcs rows S levels last
   pub tried : Tried t person i
   pub kind : credential t (suc i) .kind ≡ 3
   pub there : j < credentials t

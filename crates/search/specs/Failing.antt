@@ -16,7 +16,7 @@ use Rattle.automata.specs.declared.StateSets.{StateSets}
 use Rattle.members.specs.Above.{pairAbove}
 use Rattle.members.specs.declared.above.Above.{Above}
 use Rattle.members.specs.Trying.{provesBy}
-use Rattle.failures.specs.Failures.{Holds, SlotIn}
+use Rattle.failures.specs.Failures.{SlotHolds, SlotIn}
 use Rattle.search.specs.Asking.{Pair}
 use Rattle.search.specs.declared.asking.Asked.{Asked}
 use Rattle.search.specs.Search.{ends, goalAt, proves, provesAt, provesWith, shares}
@@ -65,11 +65,11 @@ pub record Remembered (t : List ℕ) (S A O : ℕ) (memory : List ℕ) : Type 0 
   pub few : O < allSets
   pub room : SlotIn memory 0
   pub each : (k person place levels : ℕ) (s : StateSets) (blocking : Above) (found : Family) → SlotIn memory k
-      → length (s .sets) ≡ mostAutomata → Holds memory k person place levels s blocking found
+      → length (s .sets) ≡ mostAutomata → SlotHolds memory k person place levels s blocking found
       → Bounds O (λ X above. provesAt t S A O levels above s person place X) found blocking
 
 -- what a search reports of a branch: sets that can be met below it, and each set that can is included in one of them
-pub record Told (O : ℕ) (test : ℕ → Above → Bool) (above : Above) (found : Family) : Type 0 where
+pub record FoundBelow (O : ℕ) (test : ℕ → Above → Bool) (above : Above) (found : Family) : Type 0 where
   pub finds : Finds O test above found
   pub all : (X : ℕ) → part X O ≡ true → test X above ≡ true → covers found X ≡ true
 

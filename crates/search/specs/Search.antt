@@ -114,7 +114,7 @@ pub record Stands (t : List ℕ) (person place : ℕ) : Type 0 where
 
 -- a search with so many levels left, no more than a query allows: an accepted table, its index, the members within these levels
 -- by the credentials of S, and an index of arcs
-pub record Searched (t index arcs rows : List ℕ) (S levels last : ℕ) : Type 0 where
+pub record Searchable (t index arcs rows : List ℕ) (S levels last : ℕ) : Type 0 where
   pub wellFormed : WellFormed t
   pub indexed : Indexed t index
   pub members : Members t S levels last rows

@@ -28,8 +28,8 @@ ghost use Rattle.members.specs.Above.{nothingAbove};
 ghost use Rattle.table.specs.Holding.{WellFormed};
 ghost use Rattle.table.specs.Checks.{Valid};
 ghost use Rattle.members.specs.Members.{Aimed, Indexed, Members};
-ghost use Rattle.search.specs.Search.{Prepared, Searched, Stands, TellsMet, provable};
-ghost use Rattle.search.specs.Failing.{Remembered, Told, goalTest};
+ghost use Rattle.search.specs.Search.{Prepared, Searchable, Stands, TellsMet, provable};
+ghost use Rattle.search.specs.Failing.{Remembered, FoundBelow, goalTest};
 
 // Whether some derivation of the queried membership uses only allowed credentials, where no automaton is imposed and none owed: the
 // table of members tells it by itself.
@@ -121,10 +121,10 @@ fn from_start(
     levels: usize,
     memory: &mut [u32],
 ) -> Family
-    requires { ⌜ Searched (now table) (now index) (now arcs) (now rows) (terms .allowed) levels (terms .last) ⌝ }
+    requires { ⌜ Searchable (now table) (now index) (now arcs) (now rows) (terms .allowed) levels (terms .last) ⌝ }
     requires { ⌜ Stands (now table) person place ⌝ }
     requires { ⌜ Remembered (now table) (terms .allowed) (terms .constraints) (terms .owed) (now memory) ⌝ }
-    ensures { λ r. ⌜ Told (terms .owed) (goalTest (now (table .entry)) (terms .allowed) (terms .constraints) (terms .owed)
+    ensures { λ r. ⌜ FoundBelow (terms .owed) (goalTest (now (table .entry)) (terms .allowed) (terms .constraints) (terms .owed)
         levels (startingSets (now (table .entry))) person place) nothingAbove r ⌝ }
 {
     let answer = seeking::goal_search(

@@ -32,7 +32,7 @@ ghost use Rattle.members.specs.Above.{nothingAbove};
 ghost use Rattle.failures.specs.Failures.{SlotIn};
 ghost use Rattle.goals.specs.Goals.{stepped};
 ghost use Rattle.search.specs.Asking.{Fits, askedPairs, pair};
-ghost use Rattle.search.specs.Search.{AllStand, Searched, Stands, Tried};
+ghost use Rattle.search.specs.Search.{AllStand, Searchable, Stands, Tried};
 ghost use Rattle.search.specs.Failing.{Judged, LaterJudged, Recalls, Remembered, Sought};
 ghost use Rattle.search.specs.Failing.{anyTest, goalTest, ownTest, sharedTest};
 
@@ -65,7 +65,7 @@ pub fn goal_search(
     above: Above,
     memory: &mut [u32],
 ) -> Answer
-    requires { ⌜ Searched (now table) (now index) (now arcs) (now rows) (terms .allowed) levels (terms .last) ⌝ }
+    requires { ⌜ Searchable (now table) (now index) (now arcs) (now rows) (terms .allowed) levels (terms .last) ⌝ }
     requires { ⌜ Stands (now table) person place ⌝ }
     requires { ⌜ Remembered (now table) (terms .allowed) (terms .constraints) (terms .owed) (now memory) ⌝ }
     ensures { λ r. ⌜ Judged (terms .owed) (goalTest (now (table .entry)) (terms .allowed) (terms .constraints) (terms .owed) levels states person place) above (r .found) (r .blocking)
@@ -132,7 +132,7 @@ fn definers_search(
     above: Above,
     memory: &mut [u32],
 ) -> Answer
-    requires { ⌜ Searched (now table) (now index) (now arcs) (now rows) (terms .allowed) levels (terms .last) ⌝ }
+    requires { ⌜ Searchable (now table) (now index) (now arcs) (now rows) (terms .allowed) levels (terms .last) ⌝ }
     requires { ⌜ Stands (now table) person place × (place < credentials (now table)) ⌝ }
     requires { ⌜ Remembered (now table) (terms .allowed) (terms .constraints) (terms .owed) (now memory) ⌝ }
     ensures { λ r. ⌜ Sought (terms .owed) (anyTest (now (table .entry)) (terms .allowed) (terms .constraints) (terms .owed) levels
@@ -189,7 +189,7 @@ pub fn credential_search(
     above: Above,
     memory: &mut [u32],
 ) -> Answer
-    requires { ⌜ Searched (now table) (now index) (now arcs) (now rows) (terms .allowed) levels (terms .last) ⌝ }
+    requires { ⌜ Searchable (now table) (now index) (now arcs) (now rows) (terms .allowed) levels (terms .last) ⌝ }
     requires { ⌜ Tried (now table) person i ⌝ }
     requires { ⌜ Remembered (now table) (terms .allowed) (terms .constraints) (terms .owed) (now memory) ⌝ }
     ensures { λ r. ⌜ Judged (terms .owed) (ownTest (now (table .entry)) (terms .allowed) (terms .constraints) (terms .owed) levels states person i) above (r .found) (r .blocking)
@@ -259,7 +259,7 @@ fn parts_search(
     above: Above,
     memory: &mut [u32],
 ) -> Answer
-    requires { ⌜ Searched (now table) (now index) (now arcs) (now rows) (terms .allowed) levels (terms .last) ⌝ }
+    requires { ⌜ Searchable (now table) (now index) (now arcs) (now rows) (terms .allowed) levels (terms .last) ⌝ }
     requires { ⌜ Tried (now table) person i ⌝ }
     requires { ⌜ (credential (now table) (suc i) .kind ≡ 2) ⊎ (credential (now table) (suc i) .kind ≡ 4) ⌝ }
     requires { ⌜ Remembered (now table) (terms .allowed) (terms .constraints) (terms .owed) (now memory) ⌝ }
@@ -323,7 +323,7 @@ fn linked_search(
     above: Above,
     memory: &mut [u32],
 ) -> Answer
-    requires { ⌜ Searched (now table) (now index) (now arcs) (now rows) (terms .allowed) levels (terms .last) ⌝ }
+    requires { ⌜ Searchable (now table) (now index) (now arcs) (now rows) (terms .allowed) levels (terms .last) ⌝ }
     requires { ⌜ Tried (now table) person i ⌝ }
     requires { ⌜ credential (now table) (suc i) .kind ≡ 3 ⌝ }
     requires { ⌜ Remembered (now table) (terms .allowed) (terms .constraints) (terms .owed) (now memory) ⌝ }
@@ -381,7 +381,7 @@ fn link_search(
     above: Above,
     memory: &mut [u32],
 ) -> Answer
-    requires { ⌜ Searched (now table) (now index) (now arcs) (now rows) (terms .allowed) levels (terms .last) ⌝ }
+    requires { ⌜ Searchable (now table) (now index) (now arcs) (now rows) (terms .allowed) levels (terms .last) ⌝ }
     requires { ⌜ Stands (now table) middle first × Stands (now table) person second ⌝ }
     requires { ⌜ Remembered (now table) (terms .allowed) (terms .constraints) (terms .owed) (now memory) ⌝ }
     ensures { λ r. ⌜ Judged (terms .owed) (sharedTest (now (table .entry)) (terms .allowed) (terms .constraints) (terms .owed)
@@ -448,7 +448,7 @@ fn shared_search(
     above: Above,
     memory: &mut [u32],
 ) -> Answer
-    requires { ⌜ Searched (now table) (now index) (now arcs) (now rows) (terms .allowed) levels (terms .last) ⌝ }
+    requires { ⌜ Searchable (now table) (now index) (now arcs) (now rows) (terms .allowed) levels (terms .last) ⌝ }
     requires { ⌜ Fits asked × AllStand (now table) (askedPairs asked) ⌝ }
     requires { ⌜ Remembered (now table) (terms .allowed) (terms .constraints) (terms .owed) (now memory) ⌝ }
     ensures { λ r. ⌜ Judged (terms .owed) (sharedTest (now (table .entry)) (terms .allowed) (terms .constraints) (terms .owed)
@@ -503,7 +503,7 @@ fn asked_search(
     above: Above,
     memory: &mut [u32],
 ) -> Answer
-    requires { ⌜ Searched (now table) (now index) (now arcs) (now rows) (terms .allowed) levels (terms .last) ⌝ }
+    requires { ⌜ Searchable (now table) (now index) (now arcs) (now rows) (terms .allowed) levels (terms .last) ⌝ }
     requires { ⌜ Fits asked × AllStand (now table) (askedPairs asked) ⌝ }
     requires { ⌜ (k < asked .len) × (length each ≡ mostParts) ⌝ }
     requires { ⌜ LaterJudged (now table) (terms .allowed) (terms .constraints) (terms .owed) levels states asked (suc k) above each blocking ⌝ }

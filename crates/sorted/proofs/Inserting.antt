@@ -10,7 +10,7 @@ use lib.Seq.{getD-append-add, getD-append-seam}
 use borrow.Author.Tests.{eq-eqb, ne-eqb}
 use Rattle.sets.specs.Logic.{_or_}
 use Rattle.sets.proofs.Tests.{or-false, or-second}
-use Rattle.sorted.specs.Sorted.{Holds, Inserted, laid, orIs, those}
+use Rattle.sorted.specs.Sorted.{HoldsLeast, Inserted, laid, orIs, those}
 use Rattle.sorted.proofs.Lists.{less-or-not, those-same, those-skips, those-takes}
 use Rattle.sorted.proofs.Ascending.{those-numbers}
 use Rattle.sorted.proofs.Between.{between, between-seam, laid-between}
@@ -91,7 +91,7 @@ module _ (p : ℕ → Bool) (x n : ℕ) (s : Split p x n) where
   split-within : length (those p x) ≤ length (those p n)
   split-within = rw (s .without) (omega (arith, length-append (those p x) (s .rest)))
 
-  module _ (before entry exit : List ℕ) (found : ℕ) (b : Holds p n before entry found) (h : Placed entry found x exit) where
+  module _ (before entry exit : List ℕ) (found : ℕ) (b : HoldsLeast p n before entry found) (h : Placed entry found x exit) where
     -- no number less than x stands from its place on, and none that is greater stands before it
     place-early : h .place < length (those p x) → length before ≤ h .place
     place-early early =

@@ -18,7 +18,7 @@ unfoldable pub laid : List ℕ → List ℕ → List ℕ
 laid numbers buffer = take (length buffer) numbers ++ drop (length numbers) buffer
 
 -- a buffer that was `before` holds the numbers below n that pass, as far as it has cells, and so many of them there are
-pub record Holds (p : ℕ → Bool) (n : ℕ) (before after : List ℕ) (found : ℕ) : Type 0 where
+pub record HoldsLeast (p : ℕ → Bool) (n : ℕ) (before after : List ℕ) (found : ℕ) : Type 0 where
   pub held : after ≡ laid (those p n) before
   pub count : found ≡ length (those p n)
 
@@ -28,5 +28,5 @@ orIs p x y = p y or eqb x y
 
 -- whatever test the buffer held the numbers of, it now holds those and the number, where the number did not pass
 pub record Inserted (entry : List ℕ) (found number : ℕ) (exit : List ℕ) (found′ : ℕ) : Type 0 where
-  pub holds : (p : ℕ → Bool) (n : ℕ) (before : List ℕ) → Holds p n before entry found → number < n → p number ≡ false
-      → Holds (orIs p number) n before exit found′
+  pub holds : (p : ℕ → Bool) (n : ℕ) (before : List ℕ) → HoldsLeast p n before entry found → number < n → p number ≡ false
+      → HoldsLeast (orIs p number) n before exit found′

@@ -10,7 +10,7 @@ use Rattle.table.specs.Checks.{AcceptedTable}
 use Rattle.table.specs.declared.Chain.{Chain}
 
 -- a chain held in an array: the first `len` of its four roles are the parts
-pub record Holds (t : List ℕ) (first : ℕ) (held : Chain) : Type 0 where
+pub record HoldsChain (t : List ℕ) (first : ℕ) (held : Chain) : Type 0 where
   pub few : held .len ≤ mostParts
   pub room : length (held .roles) ≡ mostParts
   pub roles : take (held .len) (held .roles) ≡ parts t first

@@ -17,7 +17,7 @@ ghost use Rattle.table.specs.Limits.{mostAutomata, mostCells, mostCreden
 ghost use Rattle.table.specs.Layout;
 ghost use Rattle.table.specs.Layout.{Numbered, automatonSize, cellSize, credentialSize, edgeSize};
 ghost use Rattle.table.specs.Checks.{chainOk};
-ghost use Rattle.table.specs.Holding.{Counted, Counts, Holds, Sized, WellFormed};
+ghost use Rattle.table.specs.Holding.{Counted, Counts, HoldsChain, Sized, WellFormed};
 
 pub const MOST_CREDENTIALS: Number = 20;
 
@@ -137,7 +137,7 @@ pub fn chain(table: &[Number], first: Number) -> Chain
     requires { ⌜ WellFormed (now table) ⌝ }
     requires { ⌜ Numbered (Layout.cells (now table)) first ⌝ }
     requires { ⌜ chainOk (now table) first ≡ true ⌝ }
-    ensures { λ r. ⌜ Holds (now (table .entry)) first r ⌝ }
+    ensures { λ r. ⌜ HoldsChain (now (table .entry)) first r ⌝ }
 {
     let mut roles = [Role {
         owner: Principal(0),

@@ -194,7 +194,7 @@ pub decimal-reads : DecimalReads
 decimal-reads = decimals.decimal-reads
 
 -- the rows of the shop example have the expected results
-pub shop-rows : shop.Holds shop.shopRows
+pub shop-rows : shop.RowsHold shop.shopRows
 shop-rows = shop.shop-rows
 
 -- INSIDE: what the demands do not rest on, in words of the search and of readings that are not ours.

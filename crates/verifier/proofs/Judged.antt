@@ -25,7 +25,7 @@ use Rattle.reader.specs.Reading.{Reading}
 use Rattle.reader.specs.Reading.Reading.{read, stop}
 use Rattle.attached.specs.Attached.{automataOf}
 use Rattle.reader.specs.Tally.{ReadOn, everyFrom, numbersTold, someFrom, tally, tallyOn}
-use Rattle.reader.specs.Tally.Told.{passed, stopped}
+use Rattle.reader.specs.Tally.Tallied.{passed, stopped}
 use Rattle.verifier.specs.Kept.{allAutomata, keeps}
 use Rattle.verifier.specs.Verdict.{judged}
 use Rattle.verifier.specs.DemandTwo.{Stops}

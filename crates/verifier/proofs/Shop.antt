@@ -25,16 +25,16 @@ unfolding table.opened inSet meets accepts acceptsFrom leads matches moved moved
     reader judged verdict
 opened = tt
 
-pub record Row : Type 0 where
+pub record ShopRow : Type 0 where
   pub table : List ℕ
   pub query : Query
   pub rec : List ℕ
   pub outcome : Outcome
 
-row : List ℕ → ℕ → List ℕ → Outcome → Row
+row : List ℕ → ℕ → List ℕ → Outcome → ShopRow
 row t depth rec outcome = record { table = t; query = annAsks depth; rec = rec; outcome = outcome }
 
-pub recordRows : List Row
+pub recordRows : List ShopRow
 recordRows =
     row tableT 2 (1 ∷ 2 ∷ 2 ∷ 0 ∷ 3 ∷ 0 ∷ []) (accepted 7)
     ∷ row tableU 2 (1 ∷ 2 ∷ 2 ∷ 0 ∷ 3 ∷ 0 ∷ []) (refused 14 1)
@@ -44,10 +44,10 @@ recordRows =
     ∷ []
 
 -- every row's verdict is the expected one
-unfoldable pub Holds : List Row → Type 0
-Holds [] = Unit {0}
-Holds (r ∷ rows) = (verdict (r .table) (r .query) (r .rec) ≡ r .outcome) × Holds rows
+unfoldable pub RowsHold : List ShopRow → Type 0
+RowsHold [] = Unit {0}
+RowsHold (r ∷ rows) = (verdict (r .table) (r .query) (r .rec) ≡ r .outcome) × RowsHold rows
 
-pub record-rows : Holds recordRows
-unfolding opened Holds recordRows row
+pub record-rows : RowsHold recordRows
+unfolding opened RowsHold recordRows row
 record-rows = (refl, (refl, (refl, (refl, (refl, tt)))))

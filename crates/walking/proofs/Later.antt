@@ -23,7 +23,7 @@ use Rattle.automata.specs.declared.StateSets.{StateSets}
 use Rattle.members.specs.declared.above.Above.{Above}
 use Rattle.search.specs.Asking.{pairsFrom}
 use Rattle.search.specs.Search.{goalAt, proves, provesAt, shares}
-use Rattle.search.specs.Failing.{Told, goalTest}
+use Rattle.search.specs.Failing.{FoundBelow, goalTest}
 use Rattle.search.proofs.Pairs.{asked-end, asked-from}
 use Rattle.search.proofs.Sharing.{shares-reached}
 use Rattle.search.proofs.Owing.{proves-less}
@@ -38,7 +38,7 @@ use Rattle.walking.proofs.Children.{or-behind}
 
 module _ (t : List ℕ) (S A O levels : ℕ) (s : StateSets) {above : Above} where
   -- no goals meet nothing
-  pub told-none : {f : Family} → FamilyOf (eqb 0) f → Told O (laterTest t S A O levels s []) above f
+  pub told-none : {f : Family} → FamilyOf (eqb 0) f → FoundBelow O (laterTest t S A O levels s []) above f
   unfolding shares
   told-none {f} only =
       record {
@@ -52,8 +52,8 @@ module _ (t : List ℕ) (S A O levels : ℕ) (s : StateSets) {above : Above} whe
 
   -- a goal more, before the others; its role is defined
   pub told-next : (person place : ℕ) → place < credentials t → (rest : List Goal) {f g r : Family} → FamilyOf (joins f g) r
-      → Told O (goalTest t S A O levels s person place) above f → Told O (laterTest t S A O levels s rest) above g
-      → Told O (laterTest t S A O levels s (goalAt t person place ∷ rest)) above r
+      → FoundBelow O (goalTest t S A O levels s person place) above f → FoundBelow O (laterTest t S A O levels s rest) above g
+      → FoundBelow O (laterTest t S A O levels s (goalAt t person place ∷ rest)) above r
   unfolding provesAt
   told-next person place there rest {f} {g} {r} all first others =
       record {
@@ -79,7 +79,7 @@ module _ (t : List ℕ) (S A O levels : ℕ) (s : StateSets) {above : Above} whe
 -- from the last of the goals that are asked to the first
 abbrev Later : List ℕ → ℕ → ℕ → ℕ → ℕ → StateSets → List ℕ → List ℕ → ℕ → Above → ℕ → Family → Type 0
 Later t S A O levels s persons places len above k f =
-    Told O (laterTest t S A O levels s (goalsAt t (pairsFrom persons places (len - k) k))) above f
+    FoundBelow O (laterTest t S A O levels s (goalsAt t (pairsFrom persons places (len - k) k))) above f
 
 module _ (t : List ℕ) (S A O levels : ℕ) (s : StateSets) (persons places : List ℕ) (len : ℕ) {above : Above} where
   pub later-none : {f : Family} → FamilyOf (eqb 0) f → Later t S A O levels s persons places len above len f
@@ -87,7 +87,7 @@ module _ (t : List ℕ) (S A O levels : ℕ) (s : StateSets) (persons places : L
   later-none only = rw (asked-end persons places len len (omega arith)) (told-none t S A O levels s only)
 
   pub later-next : (k : ℕ) → 1 ≤ k → k ≤ len → getD places (k - 1) 0 < credentials t → {f g r : Family} → FamilyOf (joins f g) r
-      → Told O (goalTest t S A O levels s (getD persons (k - 1) 0) (getD places (k - 1) 0)) above f
+      → FoundBelow O (goalTest t S A O levels s (getD persons (k - 1) 0) (getD places (k - 1) 0)) above f
       → Later t S A O levels s persons places len above k g → Later t S A O levels s persons places len above (k - 1) r
   unfolding goalsAt
   later-next k one few there all first others =
@@ -191,7 +191,7 @@ module _ (one : Goal → ℕ → Bool) (O : ℕ) (wanted : Family) (wants : Want
 
   -- otherwise what those behind it can meet is left to them
   pub here-left : (test : ℕ → Above → Bool) (above : Above) → ((X : ℕ) → test X above ≡ shares one O rest X)
-      → (later both r : Family) → Told O test above later
+      → (later both r : Family) → FoundBelow O test above later
       → FamilyOf (joins now later) both → FamilyOf (families.leaves wanted both O) r → Alike (inFamily r) (leaves one O left rest)
   here-left test above tests later both r told all is X l = is X l ∙ same-test _ _ on back
     where

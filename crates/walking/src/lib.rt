@@ -27,8 +27,8 @@ ghost use Rattle.derivation.specs.Rules.{goalOf};
 ghost use Rattle.derivation.specs.Forest.{written};
 ghost use Rattle.members.specs.Above.{nothingAbove};
 ghost use Rattle.members.specs.Members.{Members};
-ghost use Rattle.search.specs.Search.{Prepared, Searched, Stands, goalAt, provable, proves};
-ghost use Rattle.search.specs.Failing.{Remembered, Told};
+ghost use Rattle.search.specs.Search.{Prepared, Searchable, Stands, goalAt, provable, proves};
+ghost use Rattle.search.specs.Failing.{Remembered, FoundBelow};
 ghost use Rattle.choice.specs.Choice.{Children, Wanted, suitsAll};
 ghost use Rattle.walking.specs.First.{firstForest, leaves};
 ghost use Rattle.walking.specs.Walked.{Walked, Walks, firstOn, goalsFrom, laterTest};
@@ -100,7 +100,7 @@ fn walk(
     at: usize,
     rec: &mut [Number],
 ) -> Reached
-    requires { ⌜ Searched (now table) (now index) (now arcs) (now rows) (terms .allowed) levels (terms .last) ⌝ }
+    requires { ⌜ Searchable (now table) (now index) (now arcs) (now rows) (terms .allowed) levels (terms .last) ⌝ }
     requires { ⌜ Stands (now table) person place × (place < credentials (now table)) ⌝ }
     requires { ⌜ Wanted (terms .owed) wanted ⌝ }
     requires { ⌜ Remembered (now table) (terms .allowed) (terms .constraints) (terms .owed) (now memory) ⌝ }
@@ -174,7 +174,7 @@ fn walk_asked(
     from: usize,
     rec: &mut [Number],
 ) -> Reached
-    requires { ⌜ Searched (now table) (now index) (now arcs) (now rows) (terms .allowed) levels (terms .last) ⌝ }
+    requires { ⌜ Searchable (now table) (now index) (now arcs) (now rows) (terms .allowed) levels (terms .last) ⌝ }
     requires { ⌜ Children (now table) (terms .allowed) (terms .constraints) (terms .owed) levels above states
         (goalsFrom (now table) asked 0) asked ⌝ }
     requires { ⌜ Wanted (terms .owed) wanted ⌝ }
@@ -254,7 +254,7 @@ fn wanted_here(
     above: Above,
     memory: &mut [u32],
 ) -> Family
-    requires { ⌜ Searched (now table) (now index) (now arcs) (now rows) (terms .allowed) levels (terms .last) ⌝ }
+    requires { ⌜ Searchable (now table) (now index) (now arcs) (now rows) (terms .allowed) levels (terms .last) ⌝ }
     requires { ⌜ Children (now table) (terms .allowed) (terms .constraints) (terms .owed) levels above states
         (goalsFrom (now table) asked 0) asked ⌝ }
     requires { ⌜ Wanted (terms .owed) wanted ⌝ }
@@ -302,12 +302,12 @@ fn met_from(
     above: Above,
     memory: &mut [u32],
 ) -> Family
-    requires { ⌜ Searched (now table) (now index) (now arcs) (now rows) (terms .allowed) levels (terms .last) ⌝ }
+    requires { ⌜ Searchable (now table) (now index) (now arcs) (now rows) (terms .allowed) levels (terms .last) ⌝ }
     requires { ⌜ Children (now table) (terms .allowed) (terms .constraints) (terms .owed) levels above states
         (goalsFrom (now table) asked 0) asked ⌝ }
     requires { ⌜ from ≤ asked .len ⌝ }
     requires { ⌜ Remembered (now table) (terms .allowed) (terms .constraints) (terms .owed) (now memory) ⌝ }
-    ensures { λ r. ⌜ Told (terms .owed) (laterTest (now (table .entry)) (terms .allowed) (terms .constraints) (terms .owed)
+    ensures { λ r. ⌜ FoundBelow (terms .owed) (laterTest (now (table .entry)) (terms .allowed) (terms .constraints) (terms .owed)
         levels states (goalsFrom (now (table .entry)) asked from)) above r
         × Remembered (now (table .entry)) (terms .allowed) (terms .constraints) (terms .owed) (now (memory .exit)) ⌝ }
 {

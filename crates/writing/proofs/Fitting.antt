@@ -17,7 +17,7 @@ use Rattle.table.specs.declared.Query.{Query}
 use Rattle.table.proofs.Stages.{demand-off, demand-on, refused-accepted}
 use Rattle.listing.specs.Minimal.{isMinimal}
 use Rattle.walking.specs.First.{firstRecord}
-use Rattle.writing.specs.Writing.{Tells, filled, fitted}
+use Rattle.writing.specs.Writing.{TellsRecord, filled, fitted}
 
 module _ {listed : Bool} (len cells : ℕ) where
   pub fitted-unlisted : listed ≡ false → fitted listed len cells ≡ refused 15 0
@@ -85,16 +85,16 @@ module _ (listed : Bool) (len cells : ℕ) where
 
 -- past the request's rows: `fitted` is the outcome, and only a record that fits changes the cells
 module _ (t : List ℕ) (q : Query) (S : ℕ) (before : List ℕ) where
-  pub tells-unlisted : isMinimal t q S ≡ false → Tells t q S before before (refused 15 0)
+  pub tells-unlisted : isMinimal t q S ≡ false → TellsRecord t q S before before (refused 15 0)
   unfolding filled
   tells-unlisted off = (sym (fitted-unlisted _ _ off), refl)
 
   module _ (listed : isMinimal t q S ≡ true) where
-    pub tells-longer : length before < length (firstRecord t q S) → Tells t q S before before (refused 16 0)
+    pub tells-longer : length before < length (firstRecord t q S) → TellsRecord t q S before before (refused 16 0)
     unfolding filled
     tells-longer less = (sym (fitted-longer _ _ listed less), refl)
 
     pub tells-written : {after : List ℕ} {len : ℕ} → len ≡ length (firstRecord t q S) → len ≤ length before
-        → after ≡ laid (firstRecord t q S) before → Tells t q S before after (accepted len)
+        → after ≡ laid (firstRecord t q S) before → TellsRecord t q S before after (accepted len)
     unfolding filled
     tells-written e room held = (rw e (sym (fitted-written _ _ listed (rw e at room))), held)

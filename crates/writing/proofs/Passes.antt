@@ -26,7 +26,7 @@ use Rattle.members.specs.Above.{nothingAbove}
 use Rattle.walking.specs.First.{firstForest, firstRecord}
 use Rattle.walking.specs.Walked.{Walked}
 use Rattle.walking.proofs.Walking.{over-laid}
-use Rattle.writing.specs.Writing.{Settled, Tells, filled, recordAfter, writing}
+use Rattle.writing.specs.Writing.{Settled, TellsRecord, filled, recordAfter, writing}
 use Rattle.writing.proofs.Settling.{every-rest, owed-few}
 use Rattle.writing.proofs.Firsts.{minimal-provable}
 use Rattle.writing.proofs.Fitting.{tells-longer, tells-written}
@@ -43,7 +43,7 @@ passed-by {none = none} walked cells = none-before none cells (walked .size)
 
 -- what is told and held stands for what it is equal to
 pub tells-instead : (t : List ℕ) (q : Query) (S : ℕ) (before : List ℕ) {after after′ : List ℕ} {o o′ : Outcome} → o ≡ o′
-    → after ≡ after′ → Tells t q S before after′ o′ → Tells t q S before after o
+    → after ≡ after′ → TellsRecord t q S before after′ o′ → TellsRecord t q S before after o
 tells-instead t q S before same held tells = rw (same, held) tells
 
 -- the automata of the set, as the code finds them: the marked ones are owed, and the others are imposed
@@ -77,11 +77,11 @@ module _ {t : List ℕ} (q : Query) {S A O : ℕ} (by : Settled t S A O) (most :
 
   module _ (listed : isMinimal t q S ≡ true) {cells from to : List ℕ} (all : most ≡ length cells) {len : ℕ}
       (counted : Pass from to len) where
-    pub counted-longer : most < len → Tells t q S cells cells (refused 16 0)
+    pub counted-longer : most < len → TellsRecord t q S cells cells (refused 16 0)
     counted-longer less = tells-longer t q S cells listed (omega (arith, all, first-pass counted .stopped less))
 
     pub counted-written : len ≤ most → {after : List ℕ} {next : ℕ} → Pass cells after next
-        → Tells t q S cells after (accepted len)
+        → TellsRecord t q S cells after (accepted len)
     counted-written room {after} {next} pass =
         let len-is : len ≡ length (firstRecord t q S) = omega (arith, first-pass counted .whole room) in
         tells-written t q S cells listed len-is (omega (arith, all)) (go (decLt most next) (first-pass pass))
@@ -94,7 +94,7 @@ module _ {t : List ℕ} (q : Query) {S A O : ℕ} (by : Settled t S A O) (most :
 
 -- past the request's rows, and where they refuse
 module _ (t : List ℕ) (q : Query) (S : ℕ) (before : List ℕ) where
-  pub written-past : requestOutcome t q ≡ accepted 0 → {after : List ℕ} {o : Outcome} → Tells t q S before after o
+  pub written-past : requestOutcome t q ≡ accepted 0 → {after : List ℕ} {o : Outcome} → TellsRecord t q S before after o
       → (o ≡ writing t q S (length before)) × (after ≡ recordAfter t q S before)
   unfolding writing recordAfter
   written-past accepts tells =

@@ -39,8 +39,8 @@ pub record Settled (t : List ℕ) (S A O : ℕ) : Type 0 where
   pub owed : O ≡ owedOf t S
 
 -- past the request's rows: what is told, and what the cells hold afterwards
-abbrev pub Tells : List ℕ → Query → ℕ → List ℕ → List ℕ → Outcome → Type 0
-Tells t q S before after o =
+abbrev pub TellsRecord : List ℕ → Query → ℕ → List ℕ → List ℕ → Outcome → Type 0
+TellsRecord t q S before after o =
     (o ≡ fitted (isMinimal t q S) (length (firstRecord t q S)) (length before)) × (after ≡ filled o (firstRecord t q S) before)
 
 unfoldable pub writtenTold : Written → Outcome

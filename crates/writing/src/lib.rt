@@ -21,7 +21,7 @@ ghost use Rattle.members.specs.Members.{Members};
 ghost use Rattle.search.specs.Search.{Prepared};
 ghost use Rattle.search.specs.Failing.{Remembered};
 ghost use Rattle.listing.specs.Minimal.{isMinimal};
-ghost use Rattle.writing.specs.Writing.{Settled, Tells, recordAfter, writing, writtenTold};
+ghost use Rattle.writing.specs.Writing.{Settled, TellsRecord, recordAfter, writing, writtenTold};
 
 // The record's length in numbers; it stands in the first cells.
 pub enum Written {
@@ -45,7 +45,7 @@ pub fn write(table: &[Number], query: Query, set: CredentialSet, rec: &mut [Numb
 fn write_checked(table: &[Number], query: Query, set: CredentialSet, rec: &mut [Number]) -> Written
     requires { ⌜ WellFormed (now table) ⌝ }
     requires { ⌜ Valid query ⌝ }
-    ensures { λ r. ⌜ Tells (now (table .entry)) query set (now (rec .entry)) (now (rec .exit)) (writtenTold r) ⌝ }
+    ensures { λ r. ⌜ TellsRecord (now (table .entry)) query set (now (rec .entry)) (now (rec .exit)) (writtenTold r) ⌝ }
 {
     let index = indexing::index(table, query);
     if attached::automata_of(table, set) == 0 {
@@ -66,7 +66,7 @@ fn write_over(
     rec: &mut [Number],
 ) -> Written
     requires { ⌜ Prepared (now table) query (now index) (now arcs) ⌝ }
-    ensures { λ r. ⌜ Tells (now (table .entry)) query set (now (rec .entry)) (now (rec .exit)) (writtenTold r) ⌝ }
+    ensures { λ r. ⌜ TellsRecord (now (table .entry)) query set (now (rec .entry)) (now (rec .exit)) (writtenTold r) ⌝ }
 {
     if !is_listed(table, query, index, arcs, set) {
         return refused(Reason::NotListed);
@@ -106,7 +106,7 @@ fn write_listed(
 ) -> Written
     requires { ⌜ Prepared (now table) query (now index) (now arcs) ⌝ }
     requires { ⌜ isMinimal (now table) query set ≡ true ⌝ }
-    ensures { λ r. ⌜ Tells (now (table .entry)) query set (now (rec .entry)) (now (rec .exit)) (writtenTold r) ⌝ }
+    ensures { λ r. ⌜ TellsRecord (now (table .entry)) query set (now (rec .entry)) (now (rec .exit)) (writtenTold r) ⌝ }
 {
     let mut rows = [0; levels::TABLE_CELLS];
     let last = levels::fill(table, index, set, layout::wide(query.depth), &mut rows);
@@ -144,7 +144,7 @@ fn write_settled(
     requires { ⌜ Members (now table) (terms .allowed) (query .depth) (terms .last) (now rows) ⌝ }
     requires { ⌜ Settled (now table) (terms .allowed) (terms .constraints) (terms .owed) ⌝ }
     requires { ⌜ Remembered (now table) (terms .allowed) (terms .constraints) (terms .owed) (now memory) ⌝ }
-    ensures { λ r. ⌜ Tells (now (table .entry)) query (terms .allowed) (now (rec .entry)) (now (rec .exit)) (writtenTold r) ⌝ }
+    ensures { λ r. ⌜ TellsRecord (now (table .entry)) query (terms .allowed) (now (rec .entry)) (now (rec .exit)) (writtenTold r) ⌝ }
 {
     let cells = rec.len();
     let len = walking::from_goal(

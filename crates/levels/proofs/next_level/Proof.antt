@@ -5,14 +5,14 @@ use Prim.Native.Nat.{_-_, _≤_}
 use native.Mathlib.Omega.{arith}
 use denote.Ref.{now}
 use Rattle.table.specs.Layout.{credentials}
-use Rattle.levels.specs.Levels.{Grown}
+use Rattle.levels.specs.Levels.{RowGrown}
 use Rattle.levels.proofs.Rows.{grown-is, grown-more, grown-outside, grown-same, grown-starts, three-ways}
 use borrow.Author.Needs.{needs}
 use Rattle.levels.proofs.next_level.Statement.{statement}
 use Rattle.levels.proofs.next_level.Tie as tie
 
 abbrev Inv-loop : tie.InvT-loop
-Inv-loop table index others level rows₀ n is-new₀ i₀ rows is-new i = (i ≤ n) × Grown table index others level i rows₀ rows is-new
+Inv-loop table index others level rows₀ n is-new₀ i₀ rows is-new i = (i ≤ n) × RowGrown table index others level i rows₀ rows is-new
 
 abbrev μ-loop : tie.MeasureT-loop
 μ-loop table index others level rows₀ n is-new₀ i₀ rows is-new i = n - i

@@ -12,7 +12,7 @@ use denote.Ref.{now}
 use Rattle.table.specs.Limits.{mostDepth}
 use Rattle.table.specs.declared.Goal.{Goal}
 use Rattle.automata.specs.Arcs.{Arcs}
-use Rattle.derivation.specs.Held.{Room}
+use Rattle.derivation.specs.Held.{GoalsFit}
 use Rattle.branches.specs.Held.{above}
 use Rattle.reader.proofs.Onward.{Down, Node, Onward, child-stops, children-read, onward-goes, onward-starts, room-below}
 use Rattle.reader.proofs.Onward.{node-credential, node-halts, node-level, node-long, node-moves, node-place}
@@ -102,16 +102,16 @@ module _ (t : ℕ) where
   asked at = at .before .before .before
 
   -- where all is kept that its children start from
-  abbrev Kept : Type 0
-  Kept = read-lts.After-after-node (read-claims t) (read-at t) read.Post read-Inv-loop read-μ-loop
+  abbrev WordsKept : Type 0
+  WordsKept = read-lts.After-after-node (read-claims t) (read-at t) read.Post read-Inv-loop read-μ-loop
 
-  abbrev moved : Kept → Moved
+  abbrev moved : WordsKept → Moved
   moved at = at .before .before .before .before .before .before .before
 
-  abbrev own : Kept → Entered
+  abbrev own : WordsKept → Entered
   own at = entered (asked (moved at))
 
-  abbrev Keeps : Kept → List Goal → Type 0
+  abbrev Keeps : WordsKept → List Goal → Type 0
   Keeps at deeper =
       let from = start (own at) .args in
       let step = own at .before .enter .result in
@@ -119,7 +119,7 @@ module _ (t : ℕ) where
       (now (from .some)) deeper (moved at .moved .result .states) (at .before .before .before .before .with-credential .result)
       (at .after-node .result .every) (at .after-node .result .some)
 
-  keeps : (at : Kept) (deeper : List Goal) → let from = start (own at) .args in
+  keeps : (at : WordsKept) (deeper : List Goal) → let from = start (own at) .args in
       deeper ≡ from .goal ∷ above (from .branch) → Keeps at deeper
   keeps at deeper branches =
       record {
@@ -133,14 +133,14 @@ module _ (t : ℕ) where
   abbrev Children : Type 0
   Children = read-lts.After-with (read-claims t) (read-at t) read.Post read-Inv-loop read-μ-loop
 
-  abbrev kept : Children → Kept
+  abbrev kept : Children → WordsKept
   kept at = at .before .before .before
 
   down : (at : Children) → Keeps (kept at) (above (at .with .result))
   down at = keeps (kept at) _ (at .with .ensures .1 .1)
 
   deeper-fits : (at : Children) → let deeper = at .with .result in
-      Room mostDepth (deeper .len) (deeper .goals) × (deeper .len + (start (own (kept at)) .args .levels - 1) ≤ mostDepth)
+      GoalsFit mostDepth (deeper .len) (deeper .goals) × (deeper .len + (start (own (kept at)) .args .levels - 1) ≤ mostDepth)
   deeper-fits at =
       let from = own (kept at) in
       let one-more = at .with .ensures .1 .0 in

@@ -8,7 +8,7 @@ use Rattle.table.specs.Layout.{credentials}
 use Rattle.members.proofs.Reading.{zeros}
 use Rattle.failures.specs.Failures.{SlotIn, fewCells, memoryCells}
 use Rattle.members.specs.Members.{Blank}
-use Rattle.search.specs.Search.{Searched, Stands}
+use Rattle.search.specs.Search.{Searchable, Stands}
 use Rattle.search.specs.Failing.{Remembered}
 use Rattle.search.proofs.Placing.{below-most}
 use Rattle.search.proofs.Failing.{remembered-none}
@@ -73,7 +73,7 @@ slice-aggregate-from-start c = search needs
 
 -- the goal may be sought with a memory that has nothing yet, whatever its length
 seekable : (at : tie.After-wide) (memory : List ℕ) → SlotIn memory 0 → Blank memory → let args = from at .args in
-    Searched (now (args .table)) (now (args .index)) (now (args .arcs)) (now (args .rows)) (args .terms .allowed) (at .wide .result) (args .terms .last)
+    Searchable (now (args .table)) (now (args .index)) (now (args .arcs)) (now (args .rows)) (args .terms .allowed) (at .wide .result) (args .terms .last)
     × (Stands (now (args .table)) (at .before .before .before .before .goal-person .result) (at .before .goal-role .result)
     × Remembered (now (args .table)) (args .terms .allowed) (args .terms .constraints) (args .terms .owed) memory)
 seekable at memory room blank =

@@ -4,7 +4,7 @@ use Prim.Native.Nat.{_-_, _≤_}
 use native.Mathlib.Omega.{arith}
 use lib.ListN.{length}
 use Rattle.table.specs.Limits.{mostCredentials}
-use Rattle.search.specs.Failing.{Remembered, Told}
+use Rattle.search.specs.Failing.{Remembered, FoundBelow}
 use Rattle.search.specs.Asking.{pairsFrom}
 use Rattle.search.proofs.Answering.{asked-stands}
 use Rattle.search.proofs.Judging.{judged-told}
@@ -17,7 +17,7 @@ use Rattle.walking.proofs.met_from.Tie as tie
 abbrev Inv-loop : tie.InvT-loop
 Inv-loop table index arcs rows terms from levels states above memory₀ persons places met₀ k₀ memory met k =
     (from ≤ k) × (k ≤ k₀)
-    × Told (terms .owed) (laterTest table (terms .allowed) (terms .constraints) (terms .owed) levels states
+    × FoundBelow (terms .owed) (laterTest table (terms .allowed) (terms .constraints) (terms .owed) levels states
     (goalsAt table (pairsFrom persons places (k₀ - k) k))) above met
     × (length memory ≡ length memory₀) × Remembered table (terms .allowed) (terms .constraints) (terms .owed) memory
 
