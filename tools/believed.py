@@ -1,7 +1,7 @@
 #!/usr/bin/env python3
 """What must be believed: every definition on which the statements of the product rest.
 
-It starts at the statements that crates/theorems names, down to its heading INSIDE, and at the
+It starts at the statements that crates/theorems names, down to its heading APART, and at the
 contracts of the public calls, follows each name to its definition, and prints the definitions by file with their lines (without
 imports, comments and blank lines). It does not follow what the theorems say in full (`SAID`): whoever
 believes the demands need not believe how `verdict` computes its answer.
@@ -24,7 +24,7 @@ WIDTH = 100
 
 # the file that names every theorem; below the heading are those on which no demand rests
 THEOREMS = ROOT / "crates/theorems/proofs/Theorems.antt"
-INSIDE = "-- INSIDE"
+APART = "-- APART"
 
 # the public calls, whose contracts say what is proved of the code
 CALLS = {
@@ -39,7 +39,6 @@ CALLS = {
 # what a call answers, by the theorem that says in full what it must be
 SAID = {
     ("verifier", "Verdict", "verdict"): "DemandOne, DemandTwo, EveryRefusal",
-    ("reader", "Reading", "reader"): "FirstRefusal, OneDerivation",
     ("listing", "Minimal", "listing"): "DemandOne, DemandThree",
     ("listing", "Minimal", "bufferAfter"): "DemandOne, DemandThree",
     ("writing", "Writing", "writing"): "WritesFirst",
@@ -199,7 +198,7 @@ class Product:
 
 def theorem_roots(product):
     """The statements that the theorems' file names: what stands in the types of its definitions."""
-    module = read_specs("theorems", THEOREMS, THEOREMS.read_text().partition(INSIDE)[0])
+    module = read_specs("theorems", THEOREMS, THEOREMS.read_text().partition(APART)[0])
     for name, definition in module.defined.items():
         for token in definition.tokens:
             found = product.named(module, token)
@@ -245,7 +244,7 @@ def block(product, came):
     types = [d for d in believed if d.place[1].startswith("src/")]
     stated = [d for d in believed if d not in types]
     every = sum(d.lines for m in product.specs.values() for d in m.defined.values())
-    longest = max(stated, key=lambda d: d.lines)
+    longest = max(stated, key=lambda d: (d.lines, d.place[2]))
     files = {}
     for definition in believed:
         files.setdefault(definition.file, []).append(definition)

@@ -193,18 +193,18 @@ none-excluded = bounding.none-excluded
 pub decimal-reads : DecimalReads
 decimal-reads = decimals.decimal-reads
 
--- the rows of the shop example have the expected results
-pub shop-rows : shop.RowsHold shop.shopRows
-shop-rows = shop.shop-rows
-
--- INSIDE: what the demands do not rest on, in words of the search and of readings that are not ours.
--- Where no constraint is imposed and none owed, the table of members is exact
+-- APART: no demand and no ticket rests on what follows. It is in words of the search, of an example, or of readings that are not
+-- ours. Where no constraint is imposed and none owed, the table of members is exact
 pub members-exact : MembersExact
 members-exact = search.members-are-exact
 
 -- a search that leaves a dead branch loses nothing
 pub nothing-lost : NothingLost
 nothing-lost = leaving.nothing-lost
+
+-- the rows of the shop example have the expected results
+pub shop-rows : shop.RowsHold shop.shopRows
+shop-rows = shop.shop-rows
 
 -- each misreading of the 2015 text differs from ours, and so does a verifier that judges only the first word
 pub misread : Misreadings
