@@ -18,7 +18,7 @@ use table::SIMPLE_CONTAINMENT;
 use table::SIMPLE_MEMBERSHIP;
 use table::layout;
 ghost use mathlib.Core.Path.{_≡_};
-ghost use mathlib.Core.Bool.{false};
+ghost use mathlib.Core.Bool.{false, true};
 ghost use mathlib.Core.List.{[], _∷_};
 ghost use mathlib.Core.Logic.{_⊎_};
 ghost use Prim.Native.Nat.{suc, _<_};
@@ -43,8 +43,10 @@ pub struct Answer {
     pub blocking: Above,
 }
 
-// What is known of a goal before it is sought: while the blocking pairs are on the branch it can meet no more than `wanted`.
+// What is known of a goal before it is sought: while the blocking pairs are on the branch it can meet no more than `wanted`, and
+// where that is known to be nothing it fails.
 struct Known {
+    fails: bool,
     wanted: Family,
     blocking: Above,
 }
@@ -89,7 +91,7 @@ pub fn goal_search(
         states,
         above,
     );
-    if known.wanted.is_none() {
+    if known.fails {
         return failed(known.blocking);
     }
     let answer = definers_search(
@@ -545,15 +547,19 @@ fn recalled(
     above: Above,
 ) -> Known
     requires { ⌜ SlotIn (now memory) slot × (owed < allSets) ⌝ }
-    ensures { λ r. ⌜ Recalls owed (now (memory .entry)) person place levels states above (r .wanted) (r .blocking) ⌝ }
+    ensures { λ r. ⌜ Recalls owed (now (memory .entry)) person place levels states above (r .wanted) (r .blocking)
+        × (r .fails ≡ true → FamilyOf (λ X. false) (r .wanted)) ⌝ }
 {
     if failures::recalls(memory, slot, person, place, levels, states, above) {
+        let wanted = failures::family_at(memory, slot);
         return Known {
-            wanted: failures::family_at(memory, slot),
+            fails: wanted.is_none(),
+            wanted: wanted,
             blocking: failures::blocking_at(memory, slot),
         };
     }
     Known {
+        fails: false,
         wanted: Family::only(owed),
         blocking: Above::nothing(),
     }

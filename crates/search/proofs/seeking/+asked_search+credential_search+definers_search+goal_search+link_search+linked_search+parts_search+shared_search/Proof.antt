@@ -24,7 +24,7 @@ use Rattle.members.proofs.ByKind.{roles-few}
 use Rattle.search.proofs.Placing.{below-most, cell-roles, kind-other, kind-read, numbered, partMissed, row-fits}
 use Rattle.search.proofs.Placing.{searched-fewer}
 use Rattle.search.proofs.Failing.{remembered-more}
-use Rattle.search.proofs.Judging.{judged-failed, judged-never, judged-same, no-sets, none-covered}
+use Rattle.search.proofs.Judging.{judged-failed, judged-never, judged-same, none-covered}
 use Rattle.search.proofs.Leaving.{dead-tried}
 use Rattle.search.proofs.Trying.{Middle, all-proved, part-failed, part-proved, part-repeated, parts-unlisted, stands-first}
 use Rattle.search.proofs.Trying.{stands-part, stands-second}
@@ -202,7 +202,7 @@ abbrev definers-search-claims : ℕ → definers-search-lts.Claims
 definers-search-claims t = (stepped-reads.Asked, stepped-reads.Learnt, any-dead-reads.Asked, any-dead-reads.Learnt, nothing-reads.Asked, nothing-reads.Learnt, failed-reads.Asked, failed-reads.Learnt, left-owed-reads.Asked, left-owed-reads.Learnt, credentials-reads.Asked, credentials-reads.Learnt, none-reads.Asked, none-reads.Learnt, may-use-reads.Asked, may-use-reads.Learnt, credential-search-below t, credential-search.Post, or-reads.Asked, or-reads.Learnt, is-enough-reads.Asked, is-enough-reads.Learnt, answered-reads.Asked, answered-reads.Learnt, joined-reads.Asked, joined-reads.Learnt)
 
 abbrev goal-search-claims : ℕ → goal-search-lts.Claims
-goal-search-claims t = (may-be-proved-reads.Asked, may-be-proved-reads.Learnt, nothing-reads.Asked, nothing-reads.Learnt, failed-reads.Asked, failed-reads.Learnt, above-Above-has-reads.Asked, above-Above-has-reads.Learnt, with-reads.Asked, with-reads.Learnt, slot-count-reads.Asked, slot-count-reads.Learnt, slot-reads.Asked, slot-reads.Learnt, recalled-reads.Asked, recalled-reads.Learnt, is-none-reads.Asked, is-none-reads.Learnt, definers-search-below t, definers-search.Post, is-part-reads.Asked, is-part-reads.Learnt, answered-reads.Asked, answered-reads.Learnt, without-reads.Asked, without-reads.Learnt, keep-reads.Asked, keep-reads.Learnt)
+goal-search-claims t = (may-be-proved-reads.Asked, may-be-proved-reads.Learnt, nothing-reads.Asked, nothing-reads.Learnt, failed-reads.Asked, failed-reads.Learnt, above-Above-has-reads.Asked, above-Above-has-reads.Learnt, with-reads.Asked, with-reads.Learnt, slot-count-reads.Asked, slot-count-reads.Learnt, slot-reads.Asked, slot-reads.Learnt, recalled-reads.Asked, recalled-reads.Learnt, definers-search-below t, definers-search.Post, is-part-reads.Asked, is-part-reads.Learnt, answered-reads.Asked, answered-reads.Learnt, without-reads.Asked, without-reads.Learnt, keep-reads.Asked, keep-reads.Learnt)
 
 abbrev link-search-claims : ℕ → link-search-lts.Claims
 link-search-claims t = (link-asked-reads.Asked, link-asked-reads.Learnt, shared-search-below t, shared-search.Post, goal-search-below t, goal-search.Post, is-none-reads.Asked, is-none-reads.Learnt, failed-reads.Asked, failed-reads.Learnt)
@@ -479,7 +479,7 @@ module _ (t : ℕ) (at : goal-search-place goal-search-lts.After-slot t) where
 
 -- the credentials that define its role have been tried
 abbrev goal-search-slot : (t : ℕ) → goal-search-place goal-search-lts.After-definers-search t → goal-search-place goal-search-lts.After-slot t
-goal-search-slot t at = at .before .before .before .before .before .before .before
+goal-search-slot t at = at .before .before .before .before .before .before
 
 goal-search-may-be-proved-requires : goal-search-needs goal-search-lts.Need-may-be-proved-requires
 goal-search-may-be-proved-requires t c κs = search needs
@@ -540,9 +540,6 @@ goal-search-recalled-requires t c κs =
     let slot = c .before in
     (goal-search-inside t slot, goal-search-start t slot .pre .1 .1 .1 .few)
 
-goal-search-is-none-requires : goal-search-needs goal-search-lts.Need-is-none-requires
-goal-search-is-none-requires t c κs = search needs
-
 goal-search-failed-requires-3 : goal-search-needs goal-search-lts.Need-failed-requires-3
 goal-search-failed-requires-3 t c κs = search needs
 
@@ -551,25 +548,25 @@ goal-search-same-length t c = search needs
 
 goal-search-returns-3 : goal-search-needs goal-search-lts.Need-returns-3
 goal-search-returns-3 t c =
-    let recalled = c .before .before .before in
+    let recalled = c .before .before in
     let remembered = goal-search-start t (recalled .before .before) .pre .1 .1 .1 in
-    let (covered, bounds) = recalled .recalled .ensures _ _ _ remembered in
-    let none = no-sets _ _ (c .before .before .is-none .ensures) (c .before .if3 .taken) in (
+    let (covered, bounds) = recalled .recalled .ensures .0 _ _ _ remembered in
+    let none = recalled .recalled .ensures .1 (c .before .if3 .taken) in (
       rw (c .failed3 .ensures .1) (judged-failed (c .failed3 .ensures .0) covered (λ X owed. bounds X owed (none-covered _ none X))),
       remembered,
     )
 
 goal-search-sub-definers-search : goal-search-needs goal-search-lts.Need-sub-definers-search
-goal-search-sub-definers-search t c = omega (arith, goal-search-may t (c .before .before .before .before) .left)
+goal-search-sub-definers-search t c = omega (arith, goal-search-may t (c .before .before .before) .left)
 
 goal-search-with-requires-2 : goal-search-needs goal-search-lts.Need-with-requires-2
 goal-search-with-requires-2 t c κs =
-    let may = goal-search-may t (c .before .before .before .before) in
+    let may = goal-search-may t (c .before .before .before) in
     (may .few-persons, may .few-places)
 
 goal-search-definers-search-requires : goal-search-needs goal-search-lts.Need-definers-search-requires
 goal-search-definers-search-requires t c κs =
-    let slot = c .before .before .before .before .before .before in
+    let slot = c .before .before .before .before .before in
     let (measured, (searched, (stands, remembered))) = goal-search-start t slot .pre in
     let may = goal-search-may t slot in (
       omega (arith, measured, may .left),
@@ -590,7 +587,7 @@ goal-search-returns-4 t c =
     let tried = c .before .before .before .before .before .before in
     let slot = goal-search-slot t tried in
     let (searched, (stands, remembered)) = goal-search-start t slot .pre .1 in
-    let (covered, bounds) = tried .before .before .before .before .before .recalled .ensures _ _ _ remembered in
+    let (covered, bounds) = tried .before .before .before .before .recalled .ensures .0 _ _ _ remembered in
     let (sought, now-remembered) = tried .definers-search .ensures in
     let (found-is, blocking-is) = c .answered .ensures in (
       rw (found-is, blocking-is)
@@ -1328,7 +1325,6 @@ pub +asked-search+credential-search+definers-search+goal-search+link-search+link
     (goal-search-slot-count-requires t)
     (goal-search-slot-requires t)
     (goal-search-recalled-requires t)
-    (goal-search-is-none-requires t)
     (goal-search-failed-requires-3 t)
     (goal-search-same-length t)
     (goal-search-returns-3 t)
