@@ -4,20 +4,15 @@
 use checks::QueryCheck;
 use checks::TableCheck;
 use listing::Listing;
-use table::Name;
-use table::Principal;
-use table::Query;
-use table::Refusal;
 use verifier::Verdict;
 use writing::Written;
 ghost use mathlib.Core.Path.{_≡_};
 ghost use lib.ListN.{length};
-ghost use Rattle.table.specs.Outcome.{Outcome};
-ghost use Rattle.table.specs.Checks.{asQuery, requestOutcome, tableOutcome, told};
+ghost use Rattle.table.specs.Checks.{asQuery, requestOutcome, tableOutcome};
 ghost use Rattle.verifier.specs.Verdict.{verdict};
 ghost use Rattle.listing.specs.Minimal.{bufferAfter, listing};
 ghost use Rattle.writing.specs.Writing.{recordAfter, writing};
-ghost use Rattle.bwlchareg.specs.Answer.{answered};
+ghost use Rattle.answers.specs.Answer.{answered};
 ghost use Rattle.bwlchareg.specs.Version.{version};
 
 // The table's rows: whether the table is accepted.
@@ -26,8 +21,8 @@ pub extern "C" fn bwlchareg_check(table: &[u16], position: &mut u64) -> u32
     ensures { λ r. ⌜ answered r (now (position .exit)) ≡ tableOutcome (now (table .entry)) ⌝ }
 {
     match checks::check_table(table) {
-        TableCheck::Accepted => accept(0, position),
-        TableCheck::Refused(why) => refuse(why, position),
+        TableCheck::Accepted => answers::accept(0, position),
+        TableCheck::Refused(why) => answers::refuse(why, position),
     }
 }
 
@@ -44,10 +39,10 @@ pub extern "C" fn bwlchareg_check_query(
     ensures { λ r. ⌜ answered r (now (position .exit))
         ≡ requestOutcome (now (table .entry)) (asQuery principal owner name depth) ⌝ }
 {
-    let query = query_of(principal, owner, name, depth);
+    let query = answers::query_of(principal, owner, name, depth);
     match checks::check_request(table, query) {
-        QueryCheck::Valid => accept(0, position),
-        QueryCheck::Refused(why) => refuse(why, position),
+        QueryCheck::Valid => answers::accept(0, position),
+        QueryCheck::Refused(why) => answers::refuse(why, position),
     }
 }
 
@@ -66,10 +61,10 @@ pub extern "C" fn bwlchareg_list(
         ≡ listing (now (table .entry)) (asQuery principal owner name depth) (length (now (sets .entry))))
         × (now (sets .exit) ≡ bufferAfter (now (table .entry)) (asQuery principal owner name depth) (now (sets .entry))) ⌝ }
 {
-    let query = query_of(principal, owner, name, depth);
+    let query = answers::query_of(principal, owner, name, depth);
     match listing::list(table, query, sets) {
-        Listing::Listed(count) => accept(count as u64, value),
-        Listing::Refused(why) => refuse(why, value),
+        Listing::Listed(count) => answers::accept(count as u64, value),
+        Listing::Refused(why) => answers::refuse(why, value),
     }
 }
 
@@ -87,10 +82,10 @@ pub extern "C" fn bwlchareg_verify(
     ensures { λ r. ⌜ answered r (now (value .exit))
         ≡ verdict (now (table .entry)) (asQuery principal owner name depth) (now (rec .entry)) ⌝ }
 {
-    let query = query_of(principal, owner, name, depth);
+    let query = answers::query_of(principal, owner, name, depth);
     match verifier::verify(table, query, rec) {
-        Verdict::Accepted(used) => accept(used as u64, value),
-        Verdict::Refused(why) => refuse(why, value),
+        Verdict::Accepted(used) => answers::accept(used as u64, value),
+        Verdict::Refused(why) => answers::refuse(why, value),
     }
 }
 
@@ -110,10 +105,10 @@ pub extern "C" fn bwlchareg_write(
         ≡ writing (now (table .entry)) (asQuery principal owner name depth) set (length (now (rec .entry))))
         × (now (rec .exit) ≡ recordAfter (now (table .entry)) (asQuery principal owner name depth) set (now (rec .entry))) ⌝ }
 {
-    let query = query_of(principal, owner, name, depth);
+    let query = answers::query_of(principal, owner, name, depth);
     match writing::write(table, query, set, rec) {
-        Written::Length(len) => accept(len as u64, value),
-        Written::Refused(why) => refuse(why, value),
+        Written::Length(len) => answers::accept(len as u64, value),
+        Written::Refused(why) => answers::refuse(why, value),
     }
 }
 
@@ -123,31 +118,4 @@ pub extern "C" fn bwlchareg_version() -> u32
     ensures { λ r. ⌜ r ≡ version ⌝ }
 {
     700
-}
-
-// A query's four numbers, in the definition's order.
-fn query_of(principal: u16, owner: u16, name: u16, depth: u16) -> Query
-    ensures { λ r. ⌜ r ≡ asQuery principal owner name depth ⌝ }
-{
-    Query {
-        principal: Principal(principal),
-        owner: Principal(owner),
-        name: Name(name),
-        depth: depth,
-    }
-}
-
-fn accept(value: u64, told: &mut u64) -> u32
-    ensures { λ r. ⌜ answered r (now (told .exit)) ≡ Outcome.accepted value ⌝ }
-{
-    *told = value;
-    0
-}
-
-fn refuse(why: Refusal, position: &mut u64) -> u32
-    ensures { λ r. ⌜ answered r (now (position .exit)) ≡ told why ⌝ }
-{
-    *position = why.position as u64;
-    let reason = why.reason;
-    reason.number()
 }

@@ -1,6 +1,6 @@
 -- `bwlchareg::bwlchareg_check` meets its contract: it tells what `check_table` answers. Assumes nothing.
 use borrow.Author.Needs.{needs}
-use Rattle.bwlchareg.proofs.Answers.{told-as}
+use Rattle.answers.proofs.Answers.{told-as}
 use Rattle.checks.specs.Told.{tableTold}
 use Rattle.bwlchareg.proofs.bwlchareg_check.Statement.{statement}
 use Rattle.bwlchareg.proofs.bwlchareg_check.Tie as tie

@@ -2,7 +2,7 @@
 use mathlib.Core.Path.{_≡_}
 use borrow.Author.Needs.{needs}
 use denote.Ref.{now}
-use Rattle.bwlchareg.proofs.Answers.{told-as}
+use Rattle.answers.proofs.Answers.{told-as}
 use Rattle.table.specs.Checks.{asQuery, requestOutcome}
 use Rattle.checks.specs.Told.{queryTold}
 use Rattle.bwlchareg.proofs.bwlchareg_check_query.Statement.{statement}

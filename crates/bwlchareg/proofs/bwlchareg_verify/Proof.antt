@@ -2,7 +2,7 @@
 use mathlib.Core.Path.{_≡_}
 use borrow.Author.Needs.{needs}
 use denote.Ref.{now}
-use Rattle.bwlchareg.proofs.Answers.{told-as}
+use Rattle.answers.proofs.Answers.{told-as}
 use Rattle.table.specs.Checks.{asQuery}
 use Rattle.verifier.specs.Verdict.{verdict, verdictTold}
 use Rattle.bwlchareg.proofs.bwlchareg_verify.Statement.{statement}

@@ -4,7 +4,7 @@ use mathlib.Core.Path.{_≡_}
 use lib.ListN.{length}
 use borrow.Author.Needs.{needs}
 use denote.Ref.{now}
-use Rattle.bwlchareg.proofs.Answers.{told-as}
+use Rattle.answers.proofs.Answers.{told-as}
 use Rattle.table.specs.Checks.{asQuery}
 use Rattle.writing.specs.Writing.{recordAfter, writing, writtenTold}
 use Rattle.bwlchareg.proofs.bwlchareg_write.Statement.{statement}

@@ -6,7 +6,7 @@ use Rattle.table.specs.Outcome.Outcome.{refused}
 use Rattle.table.specs.Checks.{numberOf}
 use Rattle.table.specs.declared.Reason.{Reason}
 use Rattle.table.specs.declared.Reason.the-variants as reason
-use Rattle.bwlchareg.specs.Answer.{answered}
+use Rattle.answers.specs.Answer.{answered}
 
 pub answered-refusal : (r : Reason) (position : ℕ) → answered (numberOf r) position ≡ refused (numberOf r) position
 unfolding answered numberOf

@@ -1,9 +1,9 @@
--- `bwlchareg::refuse` meets its contract: no reason has the number 0. Assumes nothing.
+-- `answers::refuse` meets its contract: no reason has the number 0. Assumes nothing.
 use borrow.Author.Needs.{needs}
-use Rattle.bwlchareg.proofs.Answers.{answered-refusal}
+use Rattle.answers.proofs.Answers.{answered-refusal}
 use Rattle.table.specs.Checks.{told}
-use Rattle.bwlchareg.proofs.refuse.Statement.{statement}
-use Rattle.bwlchareg.proofs.refuse.Tie as tie
+use Rattle.answers.proofs.refuse.Statement.{statement}
+use Rattle.answers.proofs.refuse.Tie as tie
 
 number-requires : tie.Need-number-requires
 number-requires c κs = search needs
