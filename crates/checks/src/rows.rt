@@ -1,4 +1,4 @@
-// Rows 1 to 3, which ask the head and the length, and how a refusal of a table is told.
+// Rows 1 to 3, which check the head and the table's length, and the refusal of a table.
 use crate::TableCheck;
 use table::Number;
 use table::Reason;

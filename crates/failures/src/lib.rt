@@ -1,6 +1,6 @@
-// What a search remembers of the goals that it asked: how many levels were left, from which state sets they were asked, which
-// pairs of the branch stood in the way (the blocking pairs), and a family of sets of automata. Below every branch that has the
-// blocking pairs the goal can meet no set that the family does not cover; where the family has no set, it fails.
+// What a search remembers of a goal: the levels left, the state sets, the blocking pairs, which are pairs of the branch, and a family
+// of sets of automata. Below every branch that has the blocking pairs the goal can meet no set that the family does not cover. A goal
+// whose family has no set fails there.
 // specs/Failures.antt says what the cells hold.
 use automata::StateSets;
 use families::Family;

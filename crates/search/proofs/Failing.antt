@@ -205,7 +205,8 @@ module _ (t : List ℕ) (S A O : ℕ) where
 
     -- another slot
     other-slot : (k′ person′ place′ levels′ : ℕ) (s′ : StateSets) (blocking′ : Above) (found′ : Family) → (k′ ≡ k → ⊥)
-        → SlotHolds after k′ person′ place′ levels′ s′ blocking′ found′ → SlotHolds before k′ person′ place′ levels′ s′ blocking′ found′
+        → SlotHolds after k′ person′ place′ levels′ s′ blocking′ found′
+        → SlotHolds before k′ person′ place′ levels′ s′ blocking′ found′
     other-slot k′ person′ place′ levels′ s′ blocking′ found′ other holds =
         record {
           levels-is = sym (cell 0 (omega arith)) ∙ holds .levels-is;

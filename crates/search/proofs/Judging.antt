@@ -164,8 +164,8 @@ module _ {O : ℕ} {first second third : ℕ → Above → Bool} {above : Above}
             (sym (all X few) ∙ is);
       }
 
-  pub judged-or : {blocking blocking′ both : Above} → Joined blocking blocking′ both → Judged O first above f blocking → Judged O second above g blocking′
-      → Judged O third above r both
+  pub judged-or : {blocking blocking′ both : Above} → Joined blocking blocking′ both → Judged O first above f blocking
+      → Judged O second above g blocking′ → Judged O third above r both
   judged-or {blocking} {blocking′} {both} joined one other =
       record {
         finds = finds-or (one .finds) (other .finds);
@@ -214,9 +214,11 @@ module _ {G : Type 0} (O : ℕ) (at : Above → G → ℕ → Bool) {above : Abo
             let Y = bitAnd X (by .first) in
             let Z = bitAnd X (by .others) in
             let in-O : (W : ℕ) → part (bitAnd X W) O ≡ true = λ W. part-trans (bitAnd X W) X O (and-left X W) owed in
-            let in-f = caught (λ b. at b g Y) f Y blocking (one .bounds Y (in-O (by .first))) (fails-first blocking blocking′ both joined) b wide covers
+            let in-f = caught (λ b. at b g Y) f Y blocking (one .bounds Y (in-O (by .first)))
+            (fails-first blocking blocking′ both joined) b wide covers
             (less b (by .first) Y (and-right X (by .first)) (by .proves-first)) in
-            let in-rest = caught (λ b. shares (at b) O goals Z) rest Z blocking′ (others .bounds Z (in-O (by .others))) (fails-second blocking blocking′ both joined) b wide covers
+            let in-rest = caught (λ b. shares (at b) O goals Z) rest Z blocking′ (others .bounds Z (in-O (by .others)))
+            (fails-second blocking blocking′ both joined) b wide covers
             (shares-less (at b) O goals (by .others) Z (and-right X (by .others)) (by .proves-others)) in
             false-true (sym missed
             ∙ covers-joined f rest r all X Y Z (both-cover X (by .first) (by .others) (by .together)) in-f in-rest));

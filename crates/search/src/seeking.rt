@@ -51,9 +51,9 @@ struct Known {
     blocking: Above,
 }
 
-// What can be met where the principal at `person` is proved to be in the role at `place`, with so many levels left. A goal fails
-// that the table of members does not have, that is on the branch already, or that is known to fail here. The search ends once it has
-// found all that the goal can still meet; if it finds less, that is remembered.
+// What can be met by proving, within `levels` levels, that the principal at `person` is in the role at `place`. The goal fails if the
+// table of members does not have it, if it is already on the branch, or if it is known to fail here. The search ends once it has
+// found all that the goal can still meet; if it finds less, it remembers that.
 pub fn goal_search(
     table: &[Number],
     index: &[u8],
@@ -70,7 +70,8 @@ pub fn goal_search(
     requires { ⌜ Searchable (now table) (now index) (now arcs) (now rows) (terms .allowed) levels (terms .last) ⌝ }
     requires { ⌜ Stands (now table) person place ⌝ }
     requires { ⌜ Remembered (now table) (terms .allowed) (terms .constraints) (terms .owed) (now memory) ⌝ }
-    ensures { λ r. ⌜ Judged (terms .owed) (goalTest (now (table .entry)) (terms .allowed) (terms .constraints) (terms .owed) levels states person place) above (r .found) (r .blocking)
+    ensures { λ r. ⌜ Judged (terms .owed) (goalTest (now (table .entry)) (terms .allowed) (terms .constraints) (terms .owed)
+        levels states person place) above (r .found) (r .blocking)
         × Remembered (now (table .entry)) (terms .allowed) (terms .constraints) (terms .owed) (now (memory .exit)) ⌝ }
 {
     if !goals::may_be_proved(table, rows, terms.last, person, place, levels) {
@@ -117,7 +118,7 @@ pub fn goal_search(
     answered(found, less)
 }
 
-// What can be met by the allowed credentials that define the goal's role. The goal is on the branch now, and so many levels are left
+// What can be met by the allowed credentials that define the goal's role. The goal is on the branch now, and `levels` levels are left
 // for what a credential asks. Where an imposed automaton is dead no word is accepted, so the branch is left; an owed one that is dead
 // can be met no more, so the search does not wait for it. No more credentials are tried once all that is wanted is found.
 fn definers_search(
@@ -177,7 +178,7 @@ fn definers_search(
     answered(found, blocking)
 }
 
-// What can be met where credential i + 1 proves the goal, with some middle; so many levels are left for what it asks.
+// What can be met where credential i + 1 proves the goal, with some middle; `levels` levels are left for what it asks.
 pub fn credential_search(
     table: &[Number],
     index: &[u8],
@@ -194,7 +195,8 @@ pub fn credential_search(
     requires { ⌜ Searchable (now table) (now index) (now arcs) (now rows) (terms .allowed) levels (terms .last) ⌝ }
     requires { ⌜ Tried (now table) person i ⌝ }
     requires { ⌜ Remembered (now table) (terms .allowed) (terms .constraints) (terms .owed) (now memory) ⌝ }
-    ensures { λ r. ⌜ Judged (terms .owed) (ownTest (now (table .entry)) (terms .allowed) (terms .constraints) (terms .owed) levels states person i) above (r .found) (r .blocking)
+    ensures { λ r. ⌜ Judged (terms .owed) (ownTest (now (table .entry)) (terms .allowed) (terms .constraints) (terms .owed)
+        levels states person i) above (r .found) (r .blocking)
         × Remembered (now (table .entry)) (terms .allowed) (terms .constraints) (terms .owed) (now (memory .exit)) ⌝ }
 {
     let credential = layout::credential(table, i + 1);
@@ -265,7 +267,8 @@ fn parts_search(
     requires { ⌜ Tried (now table) person i ⌝ }
     requires { ⌜ (credential (now table) (suc i) .kind ≡ 2) ⊎ (credential (now table) (suc i) .kind ≡ 4) ⌝ }
     requires { ⌜ Remembered (now table) (terms .allowed) (terms .constraints) (terms .owed) (now memory) ⌝ }
-    ensures { λ r. ⌜ Judged (terms .owed) (ownTest (now (table .entry)) (terms .allowed) (terms .constraints) (terms .owed) levels states person i) above (r .found) (r .blocking)
+    ensures { λ r. ⌜ Judged (terms .owed) (ownTest (now (table .entry)) (terms .allowed) (terms .constraints) (terms .owed)
+        levels states person i) above (r .found) (r .blocking)
         × Remembered (now (table .entry)) (terms .allowed) (terms .constraints) (terms .owed) (now (memory .exit)) ⌝ }
 {
     if !goals::are_listed(index, rows, terms.last, person, i, levels) {
@@ -329,7 +332,8 @@ fn linked_search(
     requires { ⌜ Tried (now table) person i ⌝ }
     requires { ⌜ credential (now table) (suc i) .kind ≡ 3 ⌝ }
     requires { ⌜ Remembered (now table) (terms .allowed) (terms .constraints) (terms .owed) (now memory) ⌝ }
-    ensures { λ r. ⌜ Judged (terms .owed) (ownTest (now (table .entry)) (terms .allowed) (terms .constraints) (terms .owed) levels states person i) above (r .found) (r .blocking)
+    ensures { λ r. ⌜ Judged (terms .owed) (ownTest (now (table .entry)) (terms .allowed) (terms .constraints) (terms .owed)
+        levels states person i) above (r .found) (r .blocking)
         × Remembered (now (table .entry)) (terms .allowed) (terms .constraints) (terms .owed) (now (memory .exit)) ⌝ }
 {
     let n = layout::credentials(table);
