@@ -25,7 +25,7 @@ use Rattle.sets.proofs.Members.{inSet-or, inSet-pow, inSet-zero, members-below,
 use Rattle.sets.proofs.Members.{part-or-left, part-or-right, part-refl, part-shown, setOf-members}
 use Rattle.derivation.specs.Forest.{Derives, Forest, names, usedSet, written}
 use Rattle.derivation.specs.Rules.{goalOf}
-use Rattle.derivation.specs.Words.{Complies, acceptsAll, acceptsSome, isMet, usesAutomaton, words}
+use Rattle.derivation.specs.Words.{Complies, acceptsAll, acceptsSome, demandedBy, isMet, usesAutomaton, words}
 use Rattle.attached.specs.Attached.{automataOf}
 use Rattle.derivation.specs.Accepted.{Accepted}
 use Rattle.search.specs.Search.{AllAccept, SomeAccept, UsesOnly, provable}
@@ -53,11 +53,11 @@ module _ (t : List ℕ) {l : ℕ} {b gs : List Goal} {f : Forest} (d : Derives t
   -- a forest within a set complies, where each automaton of the set is imposed or owed as its mark asks, and all are met
   pub accepts-complies : (S A O : ℕ) → UsesOnly f S → ((j : ℕ) → inSet (automataOf t S) j ≡ true → inSet (demanding t A O j) j ≡ true)
       → AllAccept t A (words t [] f) → SomeAccept t O (words t [] f) → Complies t f
-  unfolding isMet demanding pick
+  unfolding demandedBy demanding pick
   accepts-complies S A O only settled all some c named constrained =
       let k = credential t c .automaton in
       let next : suc (k - 1) ≡ k = omega arith in
-      let here = settled (k - 1) (automaton-imposed t S c (named-numbered d c named) (only c named) (sym next)) in
+      let here = settled (k - 1) (automaton-imposed t S c (named-numbered t d c named) (only c named) (sym next)) in
       rw next at (go (k - 1) (eqb (automaton t (suc (k - 1)) .mark) 1) here)
     where
       go : (j : ℕ) (b : Bool) → inSet (pick b O A) j ≡ true
@@ -119,7 +119,7 @@ module _ (t : List ℕ) (A O k : ℕ) where
   -- whose words meet what it demands then, meet what it demands
   demanded-met : (ws : List (List Role)) → AllAccept t (withEvery t A k) ws → SomeAccept t (withOwed t O k) ws
       → isMet t (suc k) ws ≡ true
-  unfolding isMet withEvery withOwed pick
+  unfolding demandedBy withEvery withOwed pick
   demanded-met ws all some = go (eqb (automaton t (suc k) .mark) 1) all some
     where
       has : (X : ℕ) → inSet (bitOr X (2 ^ k)) k ≡ true
@@ -132,7 +132,7 @@ module _ (t : List ℕ) (A O k : ℕ) where
 
   met-demanded : (ws : List (List Role)) → AllAccept t A ws → SomeAccept t O ws → isMet t (suc k) ws ≡ true
       → AllAccept t (withEvery t A k) ws × SomeAccept t (withOwed t O k) ws
-  unfolding isMet withEvery withOwed pick
+  unfolding demandedBy withEvery withOwed pick
   met-demanded ws all some met = go (eqb (automaton t (suc k) .mark) 1) met
     where
       go : (b : Bool) → pick b (acceptsSome t (suc k) ws) (acceptsAll t (suc k) ws) ≡ true
@@ -177,7 +177,7 @@ module _ (t : List ℕ) {l : ℕ} {b gs : List Goal} {f : Forest} (d : Derives t
   -- which uses no automaton of L does without their credentials
   only-without : (L : ℕ) → ((j : ℕ) → inSet L j ≡ true → usesAutomaton t f (suc j) ≡ false) → UsesOnly f (withoutAll t S L)
   only-without L unused c named =
-      let at = placed (named-numbered d c named) in
+      let at = placed (named-numbered t d c named) in
       let x = credential t c .automaton in
       let other : among L x ≡ false =
       refuted _ (λ own.
@@ -189,14 +189,14 @@ module _ (t : List ℕ) {l : ℕ} {b gs : List Goal} {f : Forest} (d : Derives t
   used-borne : (k : ℕ) → usesAutomaton t f (suc k) ≡ true → inSet (automataOf t S) k ≡ true
   used-borne k used =
       let by = uses-shows t (suc k) f used in
-      automaton-imposed t S (by .0) (named-numbered d (by .0) (by .1)) (only (by .0) (by .1)) (by .2)
+      automaton-imposed t S (by .0) (named-numbered t d (by .0) (by .1)) (only (by .0) (by .1)) (by .2)
 
 -- a derivation without the credentials that bear an automaton does not use it
 without-unused : (t : List ℕ) {l : ℕ} {b gs : List Goal} {f : Forest} → Derives t l b gs f → (S k : ℕ)
     → UsesOnly f (withoutAll t S (2 ^ k)) → usesAutomaton t f (suc k) ≡ true → ⊥
 without-unused t {f = f} d S k only used =
     let by = uses-shows t (suc k) f used in
-    let at = placed (named-numbered d (by .0) (by .1)) in
+    let at = placed (named-numbered t d (by .0) (by .1)) in
     let left = without-shows t S (2 ^ k) (by .0 - 1) (only (by .0) (by .1)) .1 in
     false-true (sym (rw (at .1, by .2) at left) ∙ among-reached (2 ^ k) k (own-bit k))
 
@@ -305,7 +305,7 @@ module _ (t : List ℕ) (wf : WellFormed t) (q : Query) where
       → ((j : ℕ) → inSet L j ≡ true
       → (j < k) × (automaton t (suc j) .mark ≡ 1) × (provable t q S A (bitOr O (2 ^ j)) ≡ false))
       → admitsTo t q (withoutAll t S L) A O k ≡ admitsTo t q S A O k
-  unfolding isMet pick
+  unfolding demandedBy pick
   admits-without S A O k L lost = same-test _ _ on back
     where
       on : admitsTo t q (withoutAll t S L) A O k ≡ true → admitsTo t q S A O k ≡ true
@@ -362,7 +362,7 @@ module _ (t : List ℕ) (wf : WellFormed t) (q : Query) where
           complies = λ c named constrained.
               let k = credential t c .automaton in
               let next : suc (k - 1) ≡ k = omega (arith, constrained) in
-              let there = wf-credential t wf c (named-numbered (a .derives) c named) .automaton in
+              let there = wf-credential t wf c (named-numbered t (a .derives) c named) .automaton in
               rw next at (a .meets (k - 1) (omega (arith, there, constrained))
               (uses-reached t (suc (k - 1)) (a .forest) c named (sym next)));
         }),
@@ -405,4 +405,4 @@ accepted-fits t q rec S a =
     members-below S (credentials t)
     (λ i h.
     let d = a .derives in
-    named-numbered d (suc i) (used-shows t d i (rw (a .uses) h)) .last)
+    named-numbered t d (suc i) (used-shows t d i (rw (a .uses) h)) .last)

@@ -58,7 +58,7 @@ leads-reach k r x s e on = rw (on, and-true (inSet x (e .from))) (and-assoc _ _ 
 -- edge n + 1, which the code has read as e
 module _ {t : List ℕ} {r : Role} {arcs : List ℕ} {p n : ℕ} (f : Filling t r arcs p n) (e : Edge) (read : e ≡ edge t (n + 1)) where
   -- it does not match, and moves nothing
-  moves-past : matches e r ≡ false → (k x : ℕ) → movedBy t k r x n ≡ movedBy t k r x (n + 1)
+  moves-past : matches e r ≡ false → (k x : ℕ) → movedBy (edge t) k r x n ≡ movedBy (edge t) k r x (n + 1)
   unfolding movedBy leads pick
   moves-past off k x =
       let none : matches (edge t (suc n)) r ≡ false = rw (read, add-one n) at off in

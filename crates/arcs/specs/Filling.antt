@@ -50,7 +50,7 @@ MaskOf n x = (s : ℕ) × ((s < n) × (x ≡ 2 ^ s))
 -- the arcs move every set as the first n edges do; an arc that leads nowhere leads from nowhere, and none follows it; the others
 -- lead to one state each, and no two to the same
 pub record Filling (t : List ℕ) (r : Role) (arcs : List ℕ) (p n : ℕ) : Type 0 where
-  pub moves : (k x : ℕ) → k < mostAutomata → led arcs p k x mostArcs ≡ movedBy t (suc k) r x n
+  pub moves : (k x : ℕ) → k < mostAutomata → led arcs p k x mostArcs ≡ movedBy (edge t) (suc k) r x n
   pub ended : Ended arcs p
   pub bare : (l k : ℕ) → l < mostArcs → k < mostAutomata → getD arcs (toCell p l) 0 ≡ 0 → getD arcs (fromCell p l k) 0 ≡ 0
   pub named : (l : ℕ) → l < mostArcs → (getD arcs (toCell p l) 0 ≡ 0 → ⊥) → MaskOf mostArcs (getD arcs (toCell p l) 0)

@@ -18,7 +18,7 @@ use Rattle.sets.proofs.Tests.{and-both, and-false, and-or-and, and-parts, false
 use Rattle.sets.proofs.Tests.{or-and, or-either, or-exchange, or-first, or-second}
 use Rattle.sets.specs.Sets.{inSet}
 use Rattle.edges.specs.Edges.{leads, matches}
-use Rattle.automata.specs.Automata.{moved, movedBy, run}
+use Rattle.automata.specs.Automata.{moved, movedBy, run, runBy}
 use Rattle.sets.proofs.Members.{inSet-zero, inSet-or, inSet-pick, same-members}
 
 module _ (t : List ℕ) (k : ℕ) (r : Role) where
@@ -27,12 +27,12 @@ module _ (t : List ℕ) (k : ℕ) (r : Role) where
   leadsTo x s i = leads k r x (edge t i) and eqb (edge t i .to) s
 
   -- edge n + 1 adds its `to` state where it leads on
-  pub moved-next : (x n s : ℕ) → inSet (movedBy t k r x (suc n)) s ≡ (inSet (movedBy t k r x n) s or leadsTo x s (suc n))
+  pub moved-next : (x n s : ℕ) → inSet (movedBy (edge t) k r x (suc n)) s ≡ (inSet (movedBy (edge t) k r x n) s or leadsTo x s (suc n))
   unfolding movedBy
-  moved-next x n s = inSet-pick (leads k r x (edge t (suc n))) (movedBy t k r x n) (edge t (suc n) .to) s
+  moved-next x n s = inSet-pick (leads k r x (edge t (suc n))) (movedBy (edge t) k r x n) (edge t (suc n) .to) s
 
   -- a state in the moved set has an edge that leads to it
-  pub moved-shows : (x n s : ℕ) → inSet (movedBy t k r x n) s ≡ true
+  pub moved-shows : (x n s : ℕ) → inSet (movedBy (edge t) k r x n) s ≡ true
       → (i : ℕ) × Numbered n i × (leads k r x (edge t i) ≡ true) × (edge t i .to ≡ s)
   unfolding movedBy
   moved-shows x zero s h = absurd (false-true (sym (inSet-zero s) ∙ h))
@@ -44,7 +44,7 @@ module _ (t : List ℕ) (k : ℕ) (r : Role) where
 
   -- and the state that such an edge leads to is in it
   pub moved-reached : (x n s i : ℕ) → Numbered n i → leads k r x (edge t i) ≡ true → edge t i .to ≡ s
-      → inSet (movedBy t k r x n) s ≡ true
+      → inSet (movedBy (edge t) k r x n) s ≡ true
   moved-reached x zero s i h l e = absurd (omega arith)
   moved-reached x (suc n) s i h l e =
       moved-next x n s
@@ -58,7 +58,7 @@ module _ (t : List ℕ) (k : ℕ) (r : Role) where
   unfolding leads _and_
   leads-from-none e = rw (inSet-zero (e .from), and-false)
 
-  moved-from-none : (n : ℕ) → movedBy t k r 0 n ≡ 0
+  moved-from-none : (n : ℕ) → movedBy (edge t) k r 0 n ≡ 0
   unfolding movedBy pick
   moved-from-none zero = refl
   moved-from-none (suc n) = rw (leads-from-none (edge t (suc n))) (moved-from-none n)
@@ -68,7 +68,7 @@ module _ (t : List ℕ) (k : ℕ) (r : Role) where
   moved-empty = moved-from-none (edges t)
 
 pub run-empty : (t : List ℕ) (k : ℕ) (word : List Role) → run t k 0 word ≡ 0
-unfolding run
+unfolding runBy
 run-empty t k [] = refl
 run-empty t k (r ∷ word) = rw (moved-empty t k r) (run-empty t k word)
 
@@ -81,13 +81,13 @@ module _ (t : List ℕ) (k : ℕ) (r : Role) (x y : ℕ) where
       (and-or-and (eqb (e .automaton) k) (inSet x (e .from)) (inSet y (e .from)) (matches e r))
 
   moved-from-union : (n s : ℕ)
-      → inSet (movedBy t k r (bitOr x y) n) s ≡ (inSet (movedBy t k r x n) s or inSet (movedBy t k r y n) s)
+      → inSet (movedBy (edge t) k r (bitOr x y) n) s ≡ (inSet (movedBy (edge t) k r x n) s or inSet (movedBy (edge t) k r y n) s)
   unfolding movedBy _or_
   moved-from-union zero s = rw (inSet-zero s)
   moved-from-union (suc n) s =
       rw (moved-next t k r (bitOr x y) n s, moved-next t k r x n s, moved-next t k r y n s)
       (rw (moved-from-union n s, leads-from-union (edge t (suc n)), or-and)
-      (or-exchange (inSet (movedBy t k r x n) s) (inSet (movedBy t k r y n) s) _ _))
+      (or-exchange (inSet (movedBy (edge t) k r x n) s) (inSet (movedBy (edge t) k r y n) s) _ _))
 
   pub moved-union : moved t k r (bitOr x y) ≡ bitOr (moved t k r x) (moved t k r y)
   unfolding moved

@@ -13,13 +13,13 @@ use Rattle.sets.proofs.Tests.{and-both, and-parts, false-true, refuted}
 use Rattle.sets.proofs.Members.{inSet-zero, same-members, setOf-members}
 use Rattle.table.specs.Limits.{mostPrincipals}
 use Rattle.table.specs.Layout.{Numbered, automata, edge, edges}
-use Rattle.table.specs.Checks.{isPrincipal, within}
+use Rattle.table.specs.Checks.{isPrincipal, isPrincipalTo, within}
 use Rattle.table.specs.declared.Principal.{Principal}
 use Rattle.table.specs.declared.Role.{Role}
 use Rattle.table.proofs.Meanings as meanings
 use Rattle.edges.specs.Edges.{leads}
 use Rattle.edges.proofs.Labels.{label-4}
-use Rattle.automata.specs.Automata.{accepts, acceptsFrom, moved, movedBy, run, starting}
+use Rattle.automata.specs.Automata.{accepts, acceptsFrom, moved, movedBy, run, runBy, starting}
 use Rattle.automata.specs.Promised.{EmptyStays, EmptyWhere, MatchesOwner, NamesOwner, TellsEmpty}
 use Rattle.automata.specs.Together.{deadSet, movedOn, movedSets, setFor}
 use Rattle.automata.specs.declared.StateSets.{StateSets}
@@ -31,13 +31,13 @@ matches-owner e r four =
 
 -- a principal is one of so many
 principal-shows : (p : Principal) → isPrincipal p ≡ true → Numbered mostPrincipals (p .0)
-unfolding isPrincipal within
+unfolding isPrincipalTo within
 principal-shows p is =
     let (low, high) = and-parts (leb-true 1 (p .0)) (leb-true (p .0) mostPrincipals) is in
     record { first = low; last = high }
 
 principal-is : (p : Principal) → Numbered mostPrincipals (p .0) → isPrincipal p ≡ true
-unfolding isPrincipal within
+unfolding isPrincipalTo within
 principal-is p h = and-both (le-leb _ _ (h .first)) (le-leb _ _ (h .last))
 
 pub names-owner : NamesOwner
@@ -77,7 +77,7 @@ module _ (t : List ℕ) (k : ℕ) (r : Role) (x : ℕ) where
   unfolding moved
   unled-empty none = same-members _ 0 (λ s. refuted _ (outside s) ∙ sym (inSet-zero s))
     where
-      outside : (s : ℕ) → inSet (movedBy t k r x (edges t)) s ≡ true → ⊥
+      outside : (s : ℕ) → inSet (movedBy (edge t) k r x (edges t)) s ≡ true → ⊥
       outside s inside =
           let (i, there, on, to) = moved-shows t k r x (edges t) s inside in
           false-true (sym (none i there) ∙ on)
@@ -86,7 +86,7 @@ pub empty-where : EmptyWhere
 empty-where t k r x = (empty-unled t k r x, unled-empty t k r x)
 
 run-append : (t : List ℕ) (k x : ℕ) (word more : List Role) → run t k x (word ++ more) ≡ run t k (run t k x word) more
-unfolding run
+unfolding runBy
 run-append t k x [] more = refl
 run-append t k x (r ∷ word) more = run-append t k (moved t k r x) word more
 

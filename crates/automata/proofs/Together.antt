@@ -51,7 +51,7 @@ started-all t k l all s = together-is (starting t) l (s .size) at
 
 -- the sets moved along the first n edges: at place j stands the set of automaton j + 1
 abbrev movedAt : List ℕ → Role → StateSets → ℕ → ℕ → ℕ
-movedAt t r from j n = movedBy t (suc j) r (getD (from .sets) j 0) n
+movedAt t r from j n = movedBy (edge t) (suc j) r (getD (from .sets) j 0) n
 
 pub record Moving (t : List ℕ) (r : Role) (from : StateSets) (n : ℕ) (next : StateSets) : Type 0 where
   pub size : length (next .sets) ≡ mostAutomata
@@ -114,7 +114,7 @@ pub moving-all : (t : List ℕ) (r : Role) (from : StateSets) (n : ℕ) (next : 
 unfolding movedSets moved
 moving-all t r from n next all m = together-is _ (next .sets) (m .size) at
   where
-    at : (j : ℕ) → j < mostAutomata → getD (next .sets) j 0 ≡ movedBy t (suc j) r (getD (from .sets) (suc j - 1) 0) (edges t)
+    at : (j : ℕ) → j < mostAutomata → getD (next .sets) j 0 ≡ movedBy (edge t) (suc j) r (getD (from .sets) (suc j - 1) 0) (edges t)
     at j h = rw (sub-one, ← all) (m .here j h)
 
 -- along the role of credential p + 1, which the code has read as c

@@ -8,22 +8,26 @@ use Rattle.sets.specs.Logic.{pick}
 use Rattle.sets.specs.Sets.{meets}
 use Rattle.table.specs.Layout.{automata, automaton, edge, edges}
 use Rattle.table.specs.Checks.{within}
+use Rattle.table.specs.declared.Edge.{Edge}
 use Rattle.table.specs.declared.Role.{Role}
 use Rattle.edges.specs.Edges.{leads}
 
 -- the `to` states of those of the first n edges that lead automaton k on
-unfoldable pub movedBy : List ℕ → ℕ → Role → ℕ → ℕ → ℕ
-movedBy t k r x zero = 0
-movedBy t k r x (suc n) =
-    pick (leads k r x (edge t (suc n))) (bitOr (movedBy t k r x n) (2 ^ (edge t (suc n) .to))) (movedBy t k r x n)
+unfoldable pub movedBy : (ℕ → Edge) → ℕ → Role → ℕ → ℕ → ℕ
+movedBy edge k r x zero = 0
+movedBy edge k r x (suc n) =
+    pick (leads k r x (edge (suc n))) (bitOr (movedBy edge k r x n) (2 ^ (edge (suc n) .to))) (movedBy edge k r x n)
 
 unfoldable pub moved : List ℕ → ℕ → Role → ℕ → ℕ
-moved t k r x = movedBy t k r x (edges t)
+moved t k r x = movedBy (edge t) k r x (edges t)
 
--- along a word, role by role
-unfoldable pub run : List ℕ → ℕ → ℕ → List Role → ℕ
-run t k x [] = x
-run t k x (r ∷ word) = run t k (moved t k r x) word
+-- along a word, role by role, by how a set moves along one role
+unfoldable pub runBy : (Role → ℕ → ℕ) → ℕ → List Role → ℕ
+runBy move x [] = x
+runBy move x (r ∷ word) = runBy move (move r x) word
+
+abbrev pub run : List ℕ → ℕ → ℕ → List Role → ℕ
+run t k x word = runBy (moved t k) x word
 
 -- automaton k's starting set, or no state where there is no such automaton
 unfoldable pub starting : List ℕ → ℕ → ℕ

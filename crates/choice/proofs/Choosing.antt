@@ -22,6 +22,7 @@ use Rattle.table.proofs.Fields.{principal-range}
 use Rattle.automata.specs.declared.StateSets.{StateSets}
 use Rattle.derivation.specs.Rules.{goal, premises}
 use Rattle.derivation.specs.Held.{noGoal}
+use Rattle.derivation.proofs.Usable.{numbered-usable}
 use Rattle.derivation.proofs.Asking.{asks-3, own-role, when-on}
 use Rattle.derivation.proofs.Applying.{same-role}
 use Rattle.derivation.proofs.Ruling.{Rule, by-kind, rule-applied}
@@ -274,7 +275,7 @@ module _ {t index arcs rows : List ℕ} {S levels last : ℕ} (searched : Search
     linked-asks =
         let in-range = names-principal t (searched .wellFormed) (suc j) (numbered (least .there)) (is-person t j named .0) in
         sym (ap asked (when-on (middleGoals t g (suc i) j) in-range ∙ asks-3 t g (credential t (suc i)) m kind
-        ∙ own-role t g (suc i) m (numbered (tried .there)) (credential t (suc i)) refl (own searched tried)))
+        ∙ own-role t g (suc i) m (numbered-usable t (suc i) (numbered (tried .there))) (credential t (suc i)) refl (own searched tried)))
 
     -- another middle that passes is a principal with a place, so it leads on
     passes-named : (x : ℕ) → provedPremises all word (premises t g (suc i) x) ≡ true → personAt t x < credentials t

@@ -9,15 +9,16 @@ use native.Mathlib.Omega.{arith}
 use lib.ListN.{length, take}
 use borrow.Author.Tests.{eqb-true}
 use Rattle.sets.specs.Logic.{_and_, pick}
-use Rattle.table.specs.Layout.{Numbered, cell, chain, credential, credentials, parts, role, sameRole}
+use Rattle.table.specs.Layout.{Numbered, cell, chain, credential, credentials, parts, partsBy, role, sameRole}
 use Rattle.table.specs.Checks.{within}
 use Rattle.table.specs.declared.Role.{Role}
 use Rattle.table.specs.declared.Goal.{Goal}
 use Rattle.sets.proofs.Tests.{and-first, and-second}
-use Rattle.table.proofs.Fields.{within-range}
-use Rattle.derivation.specs.Rules.{asks, premises, when}
+
+use Rattle.derivation.specs.Rules.{asks, premises, premisesBy, usable, when}
 use Rattle.derivation.specs.Held.{given}
 use Rattle.derivation.specs.declared.Premises.{Premises}
+use Rattle.derivation.proofs.Usable.{usable-numbered}
 use Rattle.derivation.proofs.Asking.{asks-1}
 
 pub same-role : (r s : Role) → sameRole r s ≡ true → r ≡ s
@@ -39,16 +40,22 @@ when-some true asked goals h = cc
 when-some false asked goals h = absurd (none-some h)
 
 module _ (t : List ℕ) (g : Goal) (c m : ℕ) (goals : List Goal) (applies : premises t g c m ≡ some goals) where
-  both : ((within 1 (credentials t) c and sameRole (credential t c .role) (g .role)) ≡ true)
-      × (asks t g (credential t c) m ≡ some goals)
-  unfolding premises
+  both : ((usable t c and sameRole (credential t c .role) (g .role)) ≡ true) × (asks t g (credential t c) m ≡ some goals)
+  unfolding premises premisesBy
   both = picked _ _ goals applies
 
+  pub applies-usable : usable t c ≡ true
+  applies-usable = and-first _ _ (both .0)
+
   pub applies-numbered : Numbered (credentials t) c
-  applies-numbered = within-range (credentials t) c (and-first _ _ (both .0))
+  applies-numbered = usable-numbered t c applies-usable
+
+  -- it defines the goal's role
+  pub applies-defines : sameRole (credential t c .role) (g .role) ≡ true
+  applies-defines = and-second _ _ (both .0)
 
   pub applies-role : credential t c .role ≡ g .role
-  applies-role = same-role (credential t c .role) (g .role) (and-second _ _ (both .0))
+  applies-role = same-role (credential t c .role) (g .role) applies-defines
 
   pub applies-asks : asks t g (credential t c) m ≡ some goals
   applies-asks = both .1
@@ -58,7 +65,7 @@ cons-nil e = let z : _≡_ {A = ℕ} 0 1 = cc in omega arith
 
 -- a chain has parts
 pub some-parts : (t : List ℕ) (f : Role → Goal) (first : ℕ) → 2 ≤ length (chain t first) → map f (parts t first) ≡ [] → ⊥
-unfolding parts
+unfolding partsBy
 some-parts t f first long e = go (chain t first) long e
   where
     go : (cells : List ℕ) → 2 ≤ length cells → map f (map (λ (k : ℕ). cell t k .role) cells) ≡ [] → ⊥

@@ -13,14 +13,14 @@ use Rattle.sets.specs.Logic.{_and_, pick}
 use Rattle.table.specs.Limits.{mostParts, mostPrincipals}
 use Rattle.table.specs.Layout.{Numbered, cells, credential, credentials, parts, principal, sameRole}
 use Rattle.table.specs.Holding.{WellFormed}
-use Rattle.table.specs.Checks.{chainOk, isPrincipal, within}
+use Rattle.table.specs.Checks.{chainOk, isPrincipal, isPrincipalTo, within}
 use Rattle.table.proofs.WellFormed.{wf-chain-ok, wf-credential}
 use Rattle.table.specs.declared.Role.{Role}
 use Rattle.table.specs.declared.Goal.{Goal}
 use Rattle.table.specs.declared.Credential.{Credential}
 use Rattle.sets.proofs.Tests.{and-is, and-is-off}
-use Rattle.derivation.specs.Rules.{asks, containmentAsks, goal, intersectionAsks}
-use Rattle.derivation.specs.Rules.{linkingAsks, membershipAsks, premises, when}
+use Rattle.derivation.specs.Rules.{asks, asksBy, containmentAsks, goal, intersectionAsks}
+use Rattle.derivation.specs.Rules.{linkingAsks, membershipAsks, premises, premisesBy, usable, when}
 
 -- a callee's answer, which is what the caller promises
 pub answer-is : {A B : Type 0} {x y z : B} → A × (x ≡ y) → y ≡ z → A × (x ≡ z)
@@ -35,64 +35,54 @@ unfolding pick
 when-on goals h = rw h
 
 pub principal-none : (m : ℕ) → m ≡ 0 → isPrincipal (principal m) ≡ false
-unfolding isPrincipal within _and_
+unfolding isPrincipalTo within _and_
 principal-none m h = rw h
 
 pub principal-over : (m : ℕ) → mostPrincipals < m → isPrincipal (principal m) ≡ false
-unfolding isPrincipal within
+unfolding isPrincipalTo within
 principal-over m h = and-is (le-leb 1 m (omega arith)) (lt-leb m mostPrincipals h)
 
 pub principal-there : (m : ℕ) → (m ≡ 0 → ⊥) → m ≤ mostPrincipals → isPrincipal (principal m) ≡ true
-unfolding isPrincipal within
+unfolding isPrincipalTo within
 principal-there m nz h = and-is (le-leb 1 m (omega arith)) (le-leb m mostPrincipals h)
 
 -- by kind, for a credential that defines the goal's role
 module _ (t : List ℕ) (g : Goal) (c : Credential) (m : ℕ) where
   pub asks-1 : c .kind ≡ 1 → membershipAsks g c m ≡ asks t g c m
-  unfolding asks pick
+  unfolding asksBy pick
   asks-1 h = rw h
 
   pub asks-2 : c .kind ≡ 2 → containmentAsks g c m ≡ asks t g c m
-  unfolding asks pick
+  unfolding asksBy pick
   asks-2 h = rw h
 
   pub asks-3 : c .kind ≡ 3 → linkingAsks g c m ≡ asks t g c m
-  unfolding asks pick
+  unfolding asksBy pick
   asks-3 h = rw h
 
   pub asks-4 : c .kind ≡ 4 → intersectionAsks g (parts t (c .first)) m ≡ asks t g c m
-  unfolding asks pick
+  unfolding asksBy pick
   asks-4 h = rw h
 
   pub asks-none : (c .kind ≡ 1 → ⊥) → (c .kind ≡ 2 → ⊥) → (c .kind ≡ 3 → ⊥) → (c .kind ≡ 4 → ⊥) → none ≡ asks t g c m
-  unfolding asks pick
+  unfolding asksBy pick
   asks-none h1 h2 h3 h4 = rw (ne-eqb (c .kind) 1 h1, ne-eqb (c .kind) 2 h2, ne-eqb (c .kind) 3 h3, ne-eqb (c .kind) 4 h4)
 
 -- credential number c
 module _ (t : List ℕ) (g : Goal) (c m : ℕ) where
-  pub no-credential : c ≡ 0 → none ≡ premises t g c m
-  unfolding premises within _and_ pick
-  no-credential h = rw h
-
-  pub credential-over : credentials t < c → none ≡ premises t g c m
-  unfolding premises within pick
-  credential-over h =
-      let outside = and-is (le-leb 1 c (omega arith)) (lt-leb c (credentials t) h) in
-      rw (and-is-off (sameRole (credential t c .role) (g .role)) outside)
-
-  within-all : Numbered (credentials t) c → within 1 (credentials t) c ≡ true
-  unfolding within
-  within-all h = and-is (le-leb 1 c (h .first)) (le-leb c (credentials t) (h .last))
+  pub not-usable : usable t c ≡ false → none ≡ premises t g c m
+  unfolding premises premisesBy pick
+  not-usable off = rw (and-is-off (sameRole (credential t c .role) (g .role)) off)
 
   -- which the code has read as x
-  module _ (there : Numbered (credentials t) c) (x : Credential) (read : x ≡ credential t c) where
+  module _ (may : usable t c ≡ true) (x : Credential) (read : x ≡ credential t c) where
     pub other-role : sameRole (x .role) (g .role) ≡ false → none ≡ premises t g c m
-    unfolding premises pick
-    other-role h = rw (and-is (within-all there) (rw read at h))
+    unfolding premises premisesBy pick
+    other-role h = rw (and-is may (rw read at h))
 
     pub own-role : sameRole (x .role) (g .role) ≡ true → asks t g x m ≡ premises t g c m
-    unfolding premises pick
-    own-role h = rw (and-is (within-all there) (rw read at h), read)
+    unfolding premises premisesBy pick
+    own-role h = rw (and-is may (rw read at h), read)
 
 -- the goals of an intersection, gathered part by part
 pub record Asked (g : Goal) (roles : List Role) (goals : List Goal) (i : ℕ) : Type 0 where

@@ -8,7 +8,7 @@ use native.Mathlib.Omega.{arith}
 use native.Mathlib.Nat.{mul-le-mul-right, pow-le-pow-right, pow-succ', suc-mul}
 use lib.ListN.{getD, length, length-append, length-map}
 use Rattle.table.specs.Limits.{mostCredentials, mostDepth, mostParts, mostPrincipals}
-use Rattle.table.specs.Layout.{Numbered, credential, credentials, parts}
+use Rattle.table.specs.Layout.{Numbered, credential, credentials, parts, partsBy}
 use Rattle.table.specs.Holding.{WellFormed}
 use Rattle.table.specs.declared.Role.{Role}
 use Rattle.table.specs.declared.Goal.{Goal}
@@ -16,7 +16,7 @@ use Rattle.table.proofs.WellFormed.{well-formed, wf-chain}
 use Rattle.derivation.specs.Rules.{premises}
 use Rattle.derivation.specs.Forest.{Derives, Forest, countFrom, written}
 use Rattle.derivation.specs.Forest.Forest.{end, node}
-use Rattle.derivation.specs.Forest.Derives.{done, step}
+use Rattle.derivation.specs.Forest.DerivesBy.{done, step}
 use Rattle.derivation.specs.Bounds.{FewNodes, MostNodes, NoneExcluded, ShortEnough, nodesWithin, numberBits}
 use Rattle.derivation.proofs.Applying.{applies-numbered}
 use Rattle.derivation.proofs.Ruling.{Rule, rule-applied}
@@ -63,7 +63,7 @@ module _ (t : List ℕ) (wf : WellFormed t) (g : Goal) (c m : ℕ) (goals : List
       }
 
   few-parts : (f : Role → Goal) → credential t c .kind ≡ 4 → length (map f (parts t (credential t c .first))) ≤ mostParts
-  unfolding parts
+  unfolding partsBy
   few-parts f four = simp length-map (wf-chain t wf c there four .most)
 
   by-rule : Rule t g (credential t c) m goals → Small c m goals

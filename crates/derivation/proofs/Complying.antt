@@ -16,7 +16,7 @@ use Rattle.table.specs.declared.Role.{Role}
 use Rattle.table.proofs.WellFormed.{wf-credential, well-formed}
 use Rattle.automata.specs.Automata.{accepts}
 use Rattle.derivation.specs.Forest.{Derives, Forest}
-use Rattle.derivation.specs.Words.{Complies, acceptsAll, acceptsSome, isMet, met, usesAutomaton, words}
+use Rattle.derivation.specs.Words.{Complies, acceptsAll, acceptsSome, demandedBy, everyWord, isMet, met, someWord, usesAutomaton, words}
 use Rattle.derivation.specs.Promised.{CompliesWhere, MetByEvery, MetBySome, MetUnused, UsedAutomaton}
 use Rattle.derivation.proofs.Using.{named-numbered, uses-reached, uses-shows}
 
@@ -24,7 +24,7 @@ module _ {t : List ℕ} {l : ℕ} {b gs : List Goal} {f : Forest} (wf : WellForm
   pub met-complies : ((k : ℕ) → Numbered (automata t) k → met t f k ≡ true) → Complies t f
   unfolding met _or_
   met-complies all c named constrained =
-      let own = wf-credential t wf c (named-numbered d c named) .automaton in
+      let own = wf-credential t wf c (named-numbered t d c named) .automaton in
       let used = uses-reached t (credential t c .automaton) f c named refl in
       rw used at (all (credential t c .automaton) (record { first = omega arith; last = own }))
 
@@ -41,26 +41,26 @@ module _ {t : List ℕ} {l : ℕ} {b gs : List Goal} {f : Forest} (wf : WellForm
 -- some word of a list is accepted, and every one is
 module _ (t : List ℕ) (k : ℕ) where
   some-shows : (ws : List (List Role)) → acceptsSome t k ws ≡ true → (i : ℕ) × (i < length ws) × (accepts t k (getD ws i []) ≡ true)
-  unfolding acceptsSome
+  unfolding someWord
   some-shows [] on = absurd (false-true on)
   some-shows (word ∷ more) on =
       or-either (λ here. (0, omega arith, here))
       (λ later. let (i, l, there) = some-shows more later in (suc i, omega arith, there)) on
 
   some-reached : (ws : List (List Role)) (i : ℕ) → i < length ws → accepts t k (getD ws i []) ≡ true → acceptsSome t k ws ≡ true
-  unfolding acceptsSome
+  unfolding someWord
   some-reached [] i l on = absurd (omega arith)
   some-reached (word ∷ more) zero l on = or-first _ on
   some-reached (word ∷ more) (suc i) l on = or-second _ (some-reached more i (omega arith) on)
 
   every-shows : (ws : List (List Role)) → acceptsAll t k ws ≡ true → (i : ℕ) → i < length ws → accepts t k (getD ws i []) ≡ true
-  unfolding acceptsAll
+  unfolding everyWord
   every-shows [] all i l = absurd (omega arith)
   every-shows (word ∷ more) all zero l = and-first _ _ all
   every-shows (word ∷ more) all (suc i) l = every-shows more (and-second _ _ all) i (omega arith)
 
   every-reached : (ws : List (List Role)) → ((i : ℕ) → i < length ws → accepts t k (getD ws i []) ≡ true) → acceptsAll t k ws ≡ true
-  unfolding acceptsAll
+  unfolding everyWord
   every-reached [] all = refl
   every-reached (word ∷ more) all = and-both (all 0 (omega arith)) (every-reached more (λ i l. all (suc i) (omega arith)))
 
@@ -70,12 +70,12 @@ unfolding met _or_
 used-met t f k (c, named, own) = rw (uses-reached t k f c named own)
 
 pub met-by-some : MetBySome
-unfolding isMet pick
+unfolding demandedBy pick
 met-by-some t f k used one =
     rw (used-met t f k used, one) (some-shows t k (words t [] f), λ (i, l, on). some-reached t k (words t [] f) i l on)
 
 pub met-by-every : MetByEvery
-unfolding isMet pick
+unfolding demandedBy pick
 met-by-every t f k used none = rw (used-met t f k used, none) (every-shows t k (words t [] f), every-reached t k (words t [] f))
 
 pub met-unused : MetUnused

@@ -1,5 +1,6 @@
 -- Laws that belong to no one function; crates above cite those marked `pub mod`.
 pub mod Depths
+pub mod Usable
 pub mod Asking
 pub mod Applying
 pub mod Ruling

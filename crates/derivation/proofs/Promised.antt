@@ -14,7 +14,7 @@ use Rattle.table.specs.declared.Goal.{Goal}
 use Rattle.table.specs.declared.Query.{Query}
 use Rattle.derivation.specs.Rules.{fresh, goal, goalOf, sameGoal}
 use Rattle.derivation.specs.Forest.{Derives, Forest, written}
-use Rattle.derivation.specs.Forest.Derives.{step}
+use Rattle.derivation.specs.Forest.DerivesBy.{step}
 use Rattle.derivation.specs.Held.{noGoal}
 use Rattle.derivation.specs.Promised.{BranchOf, DerivesNoneTwice, NoPairTwice, NoneTwice, RecordNoneTwice}
 use Rattle.derivation.specs.Promised.BranchOf.{below, beside, here}

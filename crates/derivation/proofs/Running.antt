@@ -13,11 +13,11 @@ use Rattle.sets.proofs.Members.{setOf-members}
 use Rattle.table.specs.Limits.{mostAutomata}
 use Rattle.table.specs.Layout.{Numbered, automata}
 use Rattle.table.specs.declared.Role.{Role}
-use Rattle.automata.specs.Automata.{accepts, moved, run, starting}
+use Rattle.automata.specs.Automata.{accepts, moved, run, runBy, starting}
 use Rattle.automata.specs.Together.{acceptingSet, each, movedSets, startingSets, together}
 use Rattle.automata.specs.declared.StateSets.{StateSets}
 use Rattle.automata.proofs.Each.{each-length, each-at, each-ext}
-use Rattle.derivation.specs.Words.{acceptsAll, acceptsSome}
+use Rattle.derivation.specs.Words.{acceptsAll, acceptsSome, everyWord, someWord}
 
 -- eight sets that are alike one by one
 together-ext : (f g : ℕ → ℕ) → ((k : ℕ) → Numbered mostAutomata k → f k ≡ g k) → together f ≡ together g
@@ -34,7 +34,7 @@ together-at f k own =
     each-at f mostAutomata (k - 1) (omega arith) ∙ ap f next
 
 run-next : (t : List ℕ) (k x : ℕ) (word : List Role) (r : Role) → run t k x (word ++ (r ∷ [])) ≡ moved t k r (run t k x word)
-unfolding run
+unfolding runBy
 run-next t k x [] r = refl
 run-next t k x (s ∷ word) r = run-next t k (moved t k s x) word r
 
@@ -43,7 +43,7 @@ unfoldable pub setsAfter : List ℕ → List Role → StateSets
 setsAfter t word = together (λ k. run t k (starting t k) word)
 
 pub sets-after-none : (t : List ℕ) → setsAfter t [] ≡ startingSets t
-unfolding setsAfter startingSets run
+unfolding setsAfter startingSets runBy
 sets-after-none t = refl
 
 pub sets-after-next : (t : List ℕ) (word : List Role) (r : Role)
@@ -54,13 +54,13 @@ sets-after-next t word r =
 
 pub accepts-all-append : (t : List ℕ) (k : ℕ) (a b : List (List Role))
     → acceptsAll t k (a ++ b) ≡ (acceptsAll t k a and acceptsAll t k b)
-unfolding acceptsAll _and_
+unfolding everyWord _and_
 accepts-all-append t k [] b = refl
 accepts-all-append t k (word ∷ a) b = rw (accepts-all-append t k a b) (sym (and-assoc (accepts t k word) _ _))
 
 pub accepts-some-append : (t : List ℕ) (k : ℕ) (a b : List (List Role))
     → acceptsSome t k (a ++ b) ≡ (acceptsSome t k a or acceptsSome t k b)
-unfolding acceptsSome _or_
+unfolding someWord _or_
 accepts-some-append t k [] b = refl
 accepts-some-append t k (word ∷ a) b = rw (accepts-some-append t k a b) (sym (or-assoc (accepts t k word) _ _))
 

@@ -18,8 +18,8 @@ use Rattle.sets.specs.Sets.{inSet}
 use Rattle.sets.proofs.Members.{inSet-zero, inSet-or, inSet-pow, inSet-pick}
 use Rattle.derivation.specs.Forest.{Derives, Forest, names, usedFrom, usedSet}
 use Rattle.derivation.specs.Forest.Forest.{end, node}
-use Rattle.derivation.specs.Forest.Derives.{done, step}
-use Rattle.derivation.specs.Words.{usesAutomaton}
+use Rattle.derivation.specs.Forest.DerivesBy.{done, step}
+use Rattle.derivation.specs.Words.{usesAutomaton, usesBy}
 use Rattle.attached.specs.Attached.{automataOf, automataUpTo}
 use Rattle.derivation.proofs.Applying.{applies-numbered}
 
@@ -43,14 +43,14 @@ used-member (node c m children siblings) h used i =
     (rw (place c i (eqb-false c 0 (here .0)), or-assoc) (or-assoc (inSet used i) _ _))
 
 -- in a derivation each named credential is one of the table's, and the used set is the set of those named
-pub named-numbered : {t : List ℕ} {l : ℕ} {b gs : List Goal} {f : Forest} → Derives t l b gs f
+pub named-numbered : (t : List ℕ) {l : ℕ} {b gs : List Goal} {f : Forest} → Derives t l b gs f
     → (c : ℕ) → names f c ≡ true → Numbered (credentials t) c
 unfolding names
-named-numbered done c h = absurd (false-true h)
-named-numbered {t} (step {c = c′} {m} {goals} {g} p new children siblings) c h =
+named-numbered t done c h = absurd (false-true h)
+named-numbered t (step {c = c′} {m} {goals} {g} p new children siblings) c h =
     or-either
     (λ e. rw (eqb-true c′ c e) at (applies-numbered t g c′ m goals p))
-    (or-either (named-numbered children c) (named-numbered siblings c))
+    (or-either (named-numbered t children c) (named-numbered t siblings c))
     h
 
 module _ (t : List ℕ) (l : ℕ) (b gs : List Goal) (f : Forest) (d : Derives t l b gs f) where
@@ -58,7 +58,7 @@ module _ (t : List ℕ) (l : ℕ) (b gs : List Goal) (f : Forest) (d : Derives t
   none-named-0 = go (names f 0) refl
     where
       go : (x : Bool) → names f 0 ≡ x → names f 0 ≡ false
-      go true e = absurd (let h = named-numbered d 0 e in omega arith)
+      go true e = absurd (let h = named-numbered t d 0 e in omega arith)
       go false e = e
 
   pub used-at : (i : ℕ) → inSet (usedSet f) i ≡ names f (suc i)
@@ -66,7 +66,7 @@ module _ (t : List ℕ) (l : ℕ) (b gs : List Goal) (f : Forest) (d : Derives t
   used-at i = used-member f none-named-0 0 i ∙ rw (inSet-zero i)
 
   pub used-named : (c : ℕ) → names f c ≡ true → inSet (usedSet f) (c - 1) ≡ true
-  used-named c named = used-at (c - 1) ∙ rw (placed (named-numbered d c named) .1) named
+  used-named c named = used-at (c - 1) ∙ rw (placed (named-numbered t d c named) .1) named
 
 -- the automata of a set of credentials: automaton k + 1
 module _ (t : List ℕ) (S k : ℕ) where
@@ -117,7 +117,7 @@ automaton-imposed t S c {k} there member own =
 -- a forest uses the automata of the credentials that it names
 module _ (t : List ℕ) (k : ℕ) where
   pub uses-reached : (f : Forest) (c : ℕ) → names f c ≡ true → credential t c .automaton ≡ k → usesAutomaton t f k ≡ true
-  unfolding names usesAutomaton
+  unfolding names usesBy
   uses-reached end c h e = h
   uses-reached (node c′ m children siblings) c h e =
       or-either
@@ -128,7 +128,7 @@ module _ (t : List ℕ) (k : ℕ) where
       h
 
   pub uses-shows : (f : Forest) → usesAutomaton t f k ≡ true → (c : ℕ) × (names f c ≡ true) × (credential t c .automaton ≡ k)
-  unfolding names usesAutomaton
+  unfolding names usesBy
   uses-shows end h = absurd (false-true h)
   uses-shows (node c m children siblings) h =
       or-either
@@ -151,7 +151,7 @@ module _ (t : List ℕ) (l : ℕ) (b gs : List Goal) (f : Forest) (d : Derives t
   used-imposed : usesAutomaton t f k ≡ true → inSet (automataOf t (usedSet f)) (k - 1) ≡ true
   used-imposed h =
       let found = uses-shows t k f h in
-      let there = named-numbered d (found .0) (found .1) in
+      let there = named-numbered t d (found .0) (found .1) in
       automaton-imposed t (usedSet f) (found .0) there (used-named t l b gs f d (found .0) (found .1)) (found .2 ∙ sym next)
 
   pub automata-used : inSet (automataOf t (usedSet f)) (k - 1) ≡ usesAutomaton t f k

@@ -4,7 +4,7 @@ use Prim.Native.Nat.{ℕ, suc, _-_, _^_}
 use mathlib.Core.Path.{_≡_}
 use mathlib.Core.List.{List, [], _∷_, _++_}
 use mathlib.Core.Bool.{Bool, true, false}
-use mathlib.Core.Option.{some}
+use mathlib.Core.Option.{Option, some}
 use lib.Bits.{bitOr}
 use lib.Dec.{eqb}
 use Rattle.sets.specs.Logic.{_or_}
@@ -15,13 +15,16 @@ pub data Forest : Type 0 where
   end : Forest
   node : (credential middle : ℕ) (children siblings : Forest) → Forest
 
--- with so many levels left, below a branch: one tree for each goal, by the rules, level and roles included
-pub data Derives (t : List ℕ) : ℕ → List Goal → List Goal → Forest → Type 0 where
-  done : {levels : ℕ} {branch : List Goal} → Derives t levels branch [] end
+-- with so many levels left, below a branch: one tree for each goal, by the rules that `asks` says, level and pairs included
+pub data DerivesBy (asks : Goal → ℕ → ℕ → Option (List Goal)) : ℕ → List Goal → List Goal → Forest → Type 0 where
+  done : {levels : ℕ} {branch : List Goal} → DerivesBy asks levels branch [] end
   step : {levels c m : ℕ} {branch goals rest : List Goal} {g : Goal} {children siblings : Forest}
-      → premises t g c m ≡ some goals → fresh branch g ≡ true → Derives t levels (g ∷ branch) goals children
-      → Derives t (suc levels) branch rest siblings
-      → Derives t (suc levels) branch (g ∷ rest) (node c m children siblings)
+      → asks g c m ≡ some goals → fresh branch g ≡ true → DerivesBy asks levels (g ∷ branch) goals children
+      → DerivesBy asks (suc levels) branch rest siblings
+      → DerivesBy asks (suc levels) branch (g ∷ rest) (node c m children siblings)
+
+abbrev pub Derives : List ℕ → ℕ → List Goal → List Goal → Forest → Type 0
+Derives t = DerivesBy (premises t)
 
 -- the record: two numbers for each node, in preorder
 unfoldable pub written : Forest → List ℕ

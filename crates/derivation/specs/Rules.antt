@@ -6,8 +6,9 @@ use mathlib.Core.Bool.{Bool, true, not}
 use mathlib.Core.Option.{Option, none, some}
 use lib.Dec.{eqb}
 use Rattle.sets.specs.Logic.{_and_, pick}
+use Rattle.table.specs.Limits.{mostPrincipals}
 use Rattle.table.specs.Layout.{credential, credentials, name, parts, principal, role, sameRole}
-use Rattle.table.specs.Checks.{isPrincipal, within}
+use Rattle.table.specs.Checks.{isPrincipalTo, within}
 use Rattle.table.specs.declared.Principal.{Principal}
 use Rattle.table.specs.declared.Role.{Role}
 use Rattle.table.specs.declared.Goal.{Goal}
@@ -32,26 +33,39 @@ membershipAsks g c m = when (eqb (c .first) (g .principal .0) and eqb m 0) []
 abbrev pub containmentAsks : Goal → Credential → ℕ → Option (List Goal)
 containmentAsks g c m = when (eqb m 0) (goal (g .principal) (role (c .first) (c .second)) ∷ [])
 
-abbrev pub linkingAsks : Goal → Credential → ℕ → Option (List Goal)
-linkingAsks g c m =
-    when (isPrincipal (principal m))
+abbrev pub linkingAsksTo : (most : ℕ) → Goal → Credential → ℕ → Option (List Goal)
+linkingAsksTo most g c m =
+    when (isPrincipalTo most (principal m))
     (goal (principal m) (record { owner = c .role .owner; name = name (c .first) })
     ∷ goal (g .principal) (role m (c .second)) ∷ [])
+
+abbrev pub linkingAsks : Goal → Credential → ℕ → Option (List Goal)
+linkingAsks g c m = linkingAsksTo mostPrincipals g c m
 
 abbrev pub intersectionAsks : Goal → List Role → ℕ → Option (List Goal)
 intersectionAsks g roles m = when (eqb m 0) (map (λ (r : Role). goal (g .principal) r) roles)
 
-unfoldable pub asks : List ℕ → Goal → Credential → ℕ → Option (List Goal)
-asks t g c m =
+-- all four, where principals go up to `most` and a chain that begins at a cell has these parts
+unfoldable pub asksBy : (most : ℕ) → (ℕ → List Role) → Goal → Credential → ℕ → Option (List Goal)
+asksBy most parts g c m =
     pick (eqb (c .kind) 1) (membershipAsks g c m)
     (pick (eqb (c .kind) 2) (containmentAsks g c m)
-    (pick (eqb (c .kind) 3) (linkingAsks g c m)
-    (pick (eqb (c .kind) 4) (intersectionAsks g (parts t (c .first)) m) none)))
+    (pick (eqb (c .kind) 3) (linkingAsksTo most g c m)
+    (pick (eqb (c .kind) 4) (intersectionAsks g (parts (c .first)) m) none)))
 
--- the premises of goal g through credential number c, which must define the goal's role; none where it does not apply
+-- the premises of goal g through a credential, which must be usable and define the goal's role; none where it does not apply
+unfoldable pub premisesBy : (usable : Bool) → (Goal → Credential → ℕ → Option (List Goal)) → Goal → Credential → ℕ → Option (List Goal)
+premisesBy usable asks g c m = pick (usable and sameRole (c .role) (g .role)) (asks g c m) none
+
+-- by a table: a derivation may use each of its credentials
+unfoldable pub usable : List ℕ → ℕ → Bool
+usable t c = within 1 (credentials t) c
+
+abbrev pub asks : List ℕ → Goal → Credential → ℕ → Option (List Goal)
+asks t = asksBy mostPrincipals (parts t)
+
 unfoldable pub premises : List ℕ → Goal → ℕ → ℕ → Option (List Goal)
-premises t g c m =
-    pick (within 1 (credentials t) c and sameRole (credential t c .role) (g .role)) (asks t g (credential t c) m) none
+premises t g c m = premisesBy (usable t c) (asks t) g (credential t c) m
 
 -- the same pair of principal and role
 unfoldable pub sameGoal : Goal → Goal → Bool

@@ -11,30 +11,46 @@ use Rattle.automata.specs.Automata.{accepts}
 use Rattle.derivation.specs.Forest.{Forest, names}
 use Rattle.derivation.specs.Forest.Forest.{end, node}
 
--- a word is the list of roles from the goal down to a kind 1 node; `above` are the roles on the way to the forest
-unfoldable pub words : List ℕ → List Role → Forest → List (List Role)
-words t above end = []
-words t above (node c m children siblings) =
-    let word = above ++ (credential t c .role ∷ []) in
-    pick (eqb (credential t c .kind) 1) (word ∷ []) (words t word children) ++ words t above siblings
+-- a word is the list of roles from the goal down to a node at which it ends; `above` are the roles on the way to the forest
+unfoldable pub wordsBy : (ℕ → Role) → (ℕ → Bool) → List Role → Forest → List (List Role)
+wordsBy role ends above end = []
+wordsBy role ends above (node c m children siblings) =
+    let word = above ++ (role c ∷ []) in
+    pick (ends c) (word ∷ []) (wordsBy role ends word children) ++ wordsBy role ends above siblings
+
+-- it ends at a kind 1 node
+abbrev pub words : List ℕ → List Role → Forest → List (List Role)
+words t = wordsBy (λ c. credential t c .role) (λ c. eqb (credential t c .kind) 1)
 
 -- a used automaton is one attached to a used credential, whichever branch uses it
-unfoldable pub usesAutomaton : List ℕ → Forest → ℕ → Bool
-usesAutomaton t end k = false
-usesAutomaton t (node c m children siblings) k =
-    eqb (credential t c .automaton) k or usesAutomaton t children k or usesAutomaton t siblings k
+unfoldable pub usesBy : (ℕ → ℕ) → Forest → ℕ → Bool
+usesBy attached end k = false
+usesBy attached (node c m children siblings) k = eqb (attached c) k or usesBy attached children k or usesBy attached siblings k
 
-unfoldable pub acceptsAll : List ℕ → ℕ → List (List Role) → Bool
-acceptsAll t k [] = true
-acceptsAll t k (word ∷ more) = accepts t k word and acceptsAll t k more
+abbrev pub usesAutomaton : List ℕ → Forest → ℕ → Bool
+usesAutomaton t f k = usesBy (λ c. credential t c .automaton) f k
 
-unfoldable pub acceptsSome : List ℕ → ℕ → List (List Role) → Bool
-acceptsSome t k [] = false
-acceptsSome t k (word ∷ more) = accepts t k word or acceptsSome t k more
+-- every word passes the test, and some word does
+unfoldable pub everyWord : (List Role → Bool) → List (List Role) → Bool
+everyWord test [] = true
+everyWord test (word ∷ more) = test word and everyWord test more
 
--- by its mark the automaton demands that it accepts some word, which is 1, or that it accepts every word
-unfoldable pub isMet : List ℕ → ℕ → List (List Role) → Bool
-isMet t k words = pick (eqb (automaton t k .mark) 1) (acceptsSome t k words) (acceptsAll t k words)
+unfoldable pub someWord : (List Role → Bool) → List (List Role) → Bool
+someWord test [] = false
+someWord test (word ∷ more) = test word or someWord test more
+
+abbrev pub acceptsAll : List ℕ → ℕ → List (List Role) → Bool
+acceptsAll t k words = everyWord (accepts t k) words
+
+abbrev pub acceptsSome : List ℕ → ℕ → List (List Role) → Bool
+acceptsSome t k words = someWord (accepts t k) words
+
+-- by its mark an automaton demands that it accepts some word, which is 1, or that it accepts every word
+unfoldable pub demandedBy : (mark : ℕ) → (List Role → Bool) → List (List Role) → Bool
+demandedBy mark accepts words = pick (eqb mark 1) (someWord accepts words) (everyWord accepts words)
+
+abbrev pub isMet : List ℕ → ℕ → List (List Role) → Bool
+isMet t k words = demandedBy (automaton t k .mark) (accepts t k) words
 
 -- the automaton is not used, or the words are what it demands
 unfoldable pub met : List ℕ → Forest → ℕ → Bool

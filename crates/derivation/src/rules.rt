@@ -26,14 +26,10 @@ pub fn premises(table: &[Number], goal: Goal, c: Number, middle: Number) -> Prem
     requires { ⌜ WellFormed (now table) ⌝ }
     ensures { λ r. ⌜ GoalsFit mostParts (r .len) (r .goals) × (given r ≡ Rules.premises (now (table .entry)) goal c middle) ⌝ }
 {
-    if c == 0 {
+    if !usable(table, c) {
         return not_applying(goal);
     }
-    let number = layout::wide(c);
-    if layout::credentials(table) < number {
-        return not_applying(goal);
-    }
-    let credential = layout::credential(table, number);
+    let credential = layout::credential(table, layout::wide(c));
     if !credential.role.same(goal.role) {
         return not_applying(goal);
     }
@@ -49,6 +45,14 @@ pub fn premises(table: &[Number], goal: Goal, c: Number, middle: Number) -> Prem
         ),
         _ => not_applying(goal),
     }
+}
+
+// Whether a derivation may use credential number c: any that the table has.
+pub fn usable(table: &[Number], c: Number) -> bool
+    requires { ⌜ WellFormed (now table) ⌝ }
+    ensures { λ r. ⌜ r ≡ Rules.usable (now (table .entry)) c ⌝ }
+{
+    c != 0 && layout::wide(c) <= layout::credentials(table)
 }
 
 fn not_applying(goal: Goal) -> Premises

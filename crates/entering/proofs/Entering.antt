@@ -11,7 +11,7 @@ use Rattle.sets.specs.Logic.{pick}
 use Rattle.table.specs.Limits.{mostParts}
 use Rattle.table.specs.declared.Goal.{Goal}
 use Rattle.derivation.specs.Rules.{fresh, premises}
-use Rattle.entering.specs.Entry.{Entry, admitted, entry}
+use Rattle.entering.specs.Entry.{Entry, admitted, entry, entryBy}
 use Rattle.entering.specs.Entry.Entry.{ask, halt}
 use Rattle.derivation.specs.Held.{GoalsFit}
 use Rattle.entering.specs.Steps.{Halted, may, stepped}
@@ -44,7 +44,7 @@ halts-with {s} {number} rec some-number halted h =
 
 module _ (t : List ℕ) (open′ : Bool) (g : Goal) where
   pub entry-short : (rec : List ℕ) → length rec < 2 → halt 11 ≡ entry t open′ g rec
-  unfolding entry
+  unfolding entryBy
   entry-short [] h = refl
   entry-short (c ∷ []) h = refl
   entry-short (c ∷ m ∷ rest) h = absurd (omega arith)
@@ -52,7 +52,7 @@ module _ (t : List ℕ) (open′ : Bool) (g : Goal) where
   entry-two : (rec : List ℕ) → 2 ≤ length rec
       → entry t open′ g rec
       ≡ admitted open′ (getD rec 0 0) (getD rec 1 0) (drop 2 rec) (premises t g (getD rec 0 0) (getD rec 1 0))
-  unfolding entry
+  unfolding entryBy
   entry-two [] h = absurd (omega arith)
   entry-two (c ∷ []) h = absurd (omega arith)
   entry-two (c ∷ m ∷ rest) h = refl

@@ -18,7 +18,11 @@ unfoldable pub admitted : Bool → ℕ → ℕ → List ℕ → Option (List Goa
 admitted may c m rest none = halt 12
 admitted may c m rest (some goals) = pick may (ask c m goals rest) (halt 13)
 
-unfoldable pub entry : List ℕ → Bool → Goal → List ℕ → Entry
-entry t may g [] = halt 11
-entry t may g (c ∷ []) = halt 11
-entry t may g (c ∷ m ∷ rest) = admitted may c m rest (premises t g c m)
+-- by which goals a credential with a middle asks for a goal
+unfoldable pub entryBy : (Goal → ℕ → ℕ → Option (List Goal)) → Bool → Goal → List ℕ → Entry
+entryBy asks may g [] = halt 11
+entryBy asks may g (c ∷ []) = halt 11
+entryBy asks may g (c ∷ m ∷ rest) = admitted may c m rest (asks g c m)
+
+abbrev pub entry : List ℕ → Bool → Goal → List ℕ → Entry
+entry t may g rec = entryBy (premises t) may g rec

@@ -13,7 +13,7 @@ use borrow.Author.Tests.{ne-eqb}
 use Rattle.sets.specs.Logic.{_and_, anyBelow}
 use Rattle.sets.proofs.Tests.{any-all}
 use Rattle.table.specs.Limits.{mostCredentials, mostParts}
-use Rattle.table.specs.Layout.{cell, chain, credential, credentials, name, parts, role, sameRole}
+use Rattle.table.specs.Layout.{cell, chain, credential, credentials, name, parts, partsBy, role, sameRole}
 use Rattle.table.specs.Checks.{chainOk}
 use Rattle.table.specs.Holding.{HoldsChain}
 use Rattle.table.specs.declared.Role.{Role}
@@ -116,7 +116,7 @@ padded-behind (r ∷ s ∷ roles) (suc k) (suc last) d e l = padded-behind (s �
 -- a chain as the code holds it
 module _ (t : List ℕ) (first : ℕ) (held : Chain) (holds : HoldsChain t first held) where
   pub held-some : chainOk t first ≡ true → 1 ≤ held .len
-  unfolding parts
+  unfolding partsBy
   held-some ok =
       omega (arith, held-length t first held holds, length-map (chain t first) (λ (k : ℕ). cell t k .role), chain-range t first ok .least)
 

@@ -12,9 +12,9 @@ use Rattle.sets.specs.Logic.{_and_, _or_, anyBelow, pick}
 use Rattle.sets.proofs.Tests.{and-first, and-is-off, and-second, and-true, any-not, any-shows, false-true}
 pub use Rattle.sets.proofs.Tests.{any-same}
 use Rattle.table.specs.Limits.{mostParts}
-use Rattle.table.specs.Layout.{Numbered, cell, chain, credential, credentials, name, parts, principal, role, sameRole}
+use Rattle.table.specs.Layout.{Numbered, cell, chain, credential, credentials, name, parts, partsBy, principal, role, sameRole}
 use Rattle.table.specs.Holding.{WellFormed}
-use Rattle.table.specs.Checks.{credentialOk, goodCredential, headOutcome, isPrincipal, tableOutcome}
+use Rattle.table.specs.Checks.{credentialTo, goodCredential, goodCredentialTo, headOutcome, isPrincipal, tableOutcomeTo}
 use Rattle.table.specs.declared.Role.{Role}
 use Rattle.table.specs.declared.Credential.{Credential}
 use Rattle.table.specs.declared.Goal.{Goal}
@@ -22,6 +22,7 @@ use Rattle.table.proofs.Meanings.{kind-1}
 use Rattle.table.proofs.Stages.{each-ok, then-first, then-second}
 use Rattle.table.proofs.WellFormed.{wf-chain}
 use Rattle.derivation.specs.Rules.{asks, goal, premises, when}
+use Rattle.derivation.proofs.Usable.{numbered-usable}
 use Rattle.derivation.proofs.Asking.{asks-1, asks-2, asks-3, asks-4, asks-none, own-role}
 use Rattle.derivation.proofs.Ruling.{by-kind}
 use Rattle.members.specs.Places.{isPerson}
@@ -32,7 +33,7 @@ use Rattle.members.proofs.Reading.{numbered}
 -- a simple membership names a principal
 pub names-principal : (t : List ℕ) → WellFormed t → (c : ℕ) → Numbered (credentials t) c → credential t c .kind ≡ 1
     → isPrincipal (principal (credential t c .first)) ≡ true
-unfolding tableOutcome goodCredential credentialOk
+unfolding tableOutcomeTo goodCredentialTo credentialTo
 names-principal t wf c there one =
     let credentials-on = then-second (headOutcome t) _ 0 (wf .accepted) in
     let good = each-ok (goodCredential t) 4 (credentials t) _ (then-first _ _ 0 credentials-on .1) c there in
@@ -91,7 +92,7 @@ proved-when all word false goals = refl
 -- a chain of two to four cells has as many parts
 pub parts-few : (t : List ℕ) → WellFormed t → (c : ℕ) → Numbered (credentials t) c → credential t c .kind ≡ 4
     → (1 ≤ length (parts t (credential t c .first))) × (length (parts t (credential t c .first)) ≤ mostParts)
-unfolding parts
+unfolding partsBy
 parts-few t wf c there four =
     let range = wf-chain t wf c there four in
     let same = length-map (chain t (credential t c .first)) (λ (k : ℕ). cell t k .role) in
@@ -133,7 +134,7 @@ roleGoals t g c = map (λ (r : Role). goal (g .principal) r) (rolesAsked t (cred
 module _ (t : List ℕ) (wf : WellFormed t) (all : List Goal → Bool) (word : Bool) (g : Goal) (c : ℕ)
     (there : Numbered (credentials t) c) (own : sameRole (credential t c .role) (g .role) ≡ true) where
   asked-is : (m : ℕ) → asks t g (credential t c) m ≡ premises t g c m
-  asked-is m = own-role t g c m there (credential t c) refl own
+  asked-is m = own-role t g c m (numbered-usable t c there) (credential t c) refl own
 
   -- every kind but 3 is tried without a middle
   no-middle : (credential t c .kind ≡ 3 → ⊥) → provesBy t all word g c ≡ provedPremises all word (asks t g (credential t c) 0)

@@ -11,7 +11,7 @@ use Rattle.table.proofs.Stages.{refused-accepted}
 use Rattle.derivation.specs.Words.{met}
 use Rattle.reader.specs.Reading.{Reading}
 use Rattle.reader.specs.Reading.Reading.{read, stop}
-use Rattle.verifier.specs.Verdict.{judged, verdict}
+use Rattle.verifier.specs.Verdict.{judged, judgedBy, verdict}
 use Rattle.listing.specs.Minimal.{minimalSets}
 use Rattle.listing.proofs.Minimals.{is-minimal-set}
 use Rattle.listing.proofs.Shop as lists
@@ -21,7 +21,7 @@ use Rattle.misreadings.specs.Misreadings.{firstAccepted, metFirstWord, n
 
 -- with our own notion of when an automaton is met the verdict is ours
 judged-by-met : (t : List ℕ) (r : Reading) → judgedBy met t r ≡ judged t r
-unfolding judgedBy judged
+unfolding judgedBy judgedBy
 judged-by-met t (stop number at) = refl
 judged-by-met t (read [] f) = refl
 judged-by-met t (read (x ∷ more) f) = refl

@@ -15,7 +15,7 @@ use Rattle.sets.proofs.Tests.{and-both}
 use Rattle.table.specs.Outcome.{Outcome, _andThen_}
 use Rattle.table.specs.Outcome.Outcome.{accepted, refused}
 use Rattle.table.specs.Limits.{mostParts}
-use Rattle.table.specs.Layout.{Numbered, automata, cell, cells, cellsFrom, credential, credentials, parts, sameRole}
+use Rattle.table.specs.Layout.{Numbered, automata, cell, cells, cellsFrom, credential, credentials, parts, partsBy, sameRole}
 use Rattle.table.specs.Checks.{requestOutcome, within}
 use Rattle.table.specs.Upgraded.{SameRecords, baseAutomaton, baseHeadOutcome, baseLength, baseOutcome, upgraded}
 use Rattle.table.specs.declared.Credential.{Credential}
@@ -26,16 +26,16 @@ use Rattle.table.proofs.Chains.{step-from, stop-at}
 use Rattle.table.proofs.Fields.{CellRange, CredentialRange, cell-range, credential-range, within-range}
 use Rattle.table.proofs.Stages.{demand-true, each-alike, each-ok, then-alike, then-first, then-second}
 use Rattle.table.proofs.Upgrading.{upgrading}
-use Rattle.automata.specs.Automata.{accepts, acceptsFrom, moved, movedBy, run, starting}
-use Rattle.derivation.specs.Rules.{asks, fresh, premises}
+use Rattle.automata.specs.Automata.{accepts, acceptsFrom, moved, movedBy, run, runBy, starting}
+use Rattle.derivation.specs.Rules.{asks, asksBy, fresh, premises, premisesBy, usable}
 use Rattle.derivation.specs.Forest.{Derives, Forest}
-use Rattle.derivation.specs.Forest.Derives.{done, step}
-use Rattle.derivation.specs.Words.{acceptsAll, isMet, met, usesAutomaton, words}
+use Rattle.derivation.specs.Forest.DerivesBy.{done, step}
+use Rattle.derivation.specs.Words.{acceptsAll, demandedBy, everyWord, met, usesAutomaton, usesBy, words}
 use Rattle.derivation.proofs.Applying.{applies-numbered}
-use Rattle.entering.specs.Entry.{entry}
-use Rattle.reader.specs.Reading.{Reading, entered, readAll, reader}
+use Rattle.entering.specs.Entry.{entry, entryBy}
+use Rattle.reader.specs.Reading.{Reading, entered, readAll, reader, readerBy}
 use Rattle.reader.specs.Reading.Reading.{stop}
-use Rattle.verifier.specs.Verdict.{judged, verdict}
+use Rattle.verifier.specs.Verdict.{judged, judgedBy, verdict}
 use Rattle.verifier.proofs.Readings.{Ends, queried, reader-ends}
 use Rattle.verifier.proofs.Readings.Ends.{reads, stops}
 use Rattle.misreadings.specs.Misreadings.{judgedBy}
@@ -69,7 +69,7 @@ module _ (t : List ℕ) (passed : Passed t) where
 
   -- a record is read by credentials and cells: the parts of a credential, its premises, a node's entry, the reading
   abbrev partsFrom : List ℕ → ℕ → ℕ → List Role
-  partsFrom table most j = map (λ (k : ℕ). cell table k .role) (cellsFrom table most j)
+  partsFrom table most j = map (λ (k : ℕ). cell table k .role) (cellsFrom (cell table) most j)
 
   parts-same : (most j : ℕ) → j ≤ cells t → partsFrom u most j ≡ partsFrom t most j
   unfolding cellsFrom
@@ -86,7 +86,7 @@ module _ (t : List ℕ) (passed : Passed t) where
 
   asks-same : (g : Goal) (c : Credential) (m : ℕ) → (c .kind ≡ 4 → Numbered (cells t) (c .first)) → Dec (c .kind ≡ 4)
       → asks u g c m ≡ asks t g c m
-  unfolding asks pick parts
+  unfolding asksBy pick partsBy
   asks-same g c m inside (yes four) = rw (parts-same (suc mostParts) (c .first) (inside four .last))
   asks-same g c m inside (no other) = rw (ne-eqb (c .kind) 4 other)
 
@@ -101,11 +101,11 @@ module _ (t : List ℕ) (passed : Passed t) where
       rw (same .credential c there, asks-same g (credential t c) m inside (ℕ-discrete (credential t c .kind) 4))
 
   premises-same : (g : Goal) (c m : ℕ) → premises u g c m ≡ premises t g c m
-  unfolding premises
+  unfolding premises premisesBy usable
   premises-same g c m = rw (same .credentials) (asked-same g c m (within 1 (credentials t) c) refl)
 
   entry-same : (may : Bool) (g : Goal) (rec : List ℕ) → entry u may g rec ≡ entry t may g rec
-  unfolding entry
+  unfolding entryBy
   entry-same may g [] = refl
   entry-same may g (c ∷ []) = refl
   entry-same may g (c ∷ m ∷ rest) = rw (premises-same g c m)
@@ -114,7 +114,7 @@ module _ (t : List ℕ) (passed : Passed t) where
   entries-same = fun-ext λ may. fun-ext λ g. fun-ext λ rec. entry-same may g rec
 
   reader-same : (levels : ℕ) → reader u levels ≡ reader t levels
-  unfolding reader
+  unfolding readerBy
   reader-same zero =
       ap (λ ask branch. readAll (λ g later rest n. entered n (λ ps more k. stop 13 k) later (ask false g rest))) entries-same
   reader-same (suc levels) =
@@ -124,14 +124,14 @@ module _ (t : List ℕ) (passed : Passed t) where
   -- the words of a derivation and the automata that it uses go by its credentials
   words-same : {levels : ℕ} {branch goals : List Goal} {f : Forest} → Derives t levels branch goals f
       → (above : List Role) → words u above f ≡ words t above f
-  unfolding words
+  unfolding wordsBy
   words-same done above = refl
   words-same (step {c = c} {m} {goals = goals} {g = g} fits new children siblings) above =
       rw (same .credential c (applies-numbered t g c m goals fits), words-same children _, words-same siblings above)
 
   uses-same : {levels : ℕ} {branch goals : List Goal} {f : Forest} → Derives t levels branch goals f
       → (k : ℕ) → usesAutomaton u f k ≡ usesAutomaton t f k
-  unfolding usesAutomaton
+  unfolding usesBy
   uses-same done k = refl
   uses-same (step {c = c} {m} {goals = goals} {g = g} fits new children siblings) k =
       rw (same .credential c (applies-numbered t g c m goals fits), uses-same children k, uses-same siblings k)
@@ -143,7 +143,7 @@ module _ (t : List ℕ) (passed : Passed t) where
   moved-same k r x (suc n) = rw (same .edge (suc n), moved-same k r x n)
 
   run-same : (k x : ℕ) (word : List Role) → run u k x word ≡ runBefore t k x word
-  unfolding run runBefore moved
+  unfolding runBy runBefore moved
   run-same k x [] = refl
   run-same k x (r ∷ word) = rw (same .edges, moved-same k r x) (run-same k _ word)
 
@@ -155,19 +155,19 @@ module _ (t : List ℕ) (passed : Passed t) where
         rw (same .automata, inside, same .automaton k there, run-same k)
 
     all-same : (ws : List (List Role)) → acceptsAll u k ws ≡ acceptsAllBefore t k ws
-    unfolding acceptsAll acceptsAllBefore
+    unfolding everyWord acceptsAllBefore
     all-same [] = refl
     all-same (word ∷ more) = rw (accepts-same word, all-same more)
 
     -- mark 0 demands every word
     met-same : {levels : ℕ} {branch goals : List Goal} {f : Forest} → Derives t levels branch goals f
         → met u f k ≡ metBefore t f k
-    unfolding met metBefore isMet baseAutomaton pick
+    unfolding met metBefore demandedBy baseAutomaton pick
     met-same derived = rw (uses-same derived k, words-same derived [], same .automaton k there, all-same)
 
   judged-same : {levels : ℕ} {branch goals : List Goal} {at : ℕ} {rec : List ℕ} {r : Reading}
       → Ends t levels branch goals at rec r → judged u r ≡ judgedBy metBefore t r
-  unfolding judged judgedBy
+  unfolding judgedBy judgedBy
   judged-same (reads {rest = []} derived) =
       rw (same .automata, each-alike _ _ (automata t) 14 (λ k there. met-same k there derived))
   judged-same (reads {rest = x ∷ more} derived) = refl

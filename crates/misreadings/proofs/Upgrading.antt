@@ -14,7 +14,7 @@ use Rattle.table.proofs.WellFormed.{well-formed}
 use Rattle.derivation.specs.Rules.{fresh, sameGoal}
 use Rattle.derivation.specs.Accepted.{Accepted}
 use Rattle.derivation.specs.Forest.{Derives, Forest, written}
-use Rattle.derivation.specs.Forest.Derives.{done, step}
+use Rattle.derivation.specs.Forest.DerivesBy.{done, step}
 use Rattle.verifier.proofs.DemandTwo.{demand-two}
 use Rattle.listing.proofs.Minimals.{admitted-includes}
 use Rattle.misreadings.specs.Upgrading.{DerivedBefore, Upgrading, newRole}

@@ -17,10 +17,10 @@ use Rattle.automata.specs.declared.StateSets.{StateSets}
 use Rattle.derivation.specs.Rules.{fresh, premises}
 use Rattle.derivation.specs.Forest.{Forest, countFrom, usedFrom}
 use Rattle.derivation.specs.Forest.Forest.{end, node}
-use Rattle.entering.specs.Entry.{Entry, admitted, entry}
+use Rattle.entering.specs.Entry.{Entry, admitted, entry, entryBy}
 use Rattle.entering.specs.Entry.Entry.{ask, halt}
 use Rattle.entering.specs.Steps.{afterNode, may}
-use Rattle.reader.specs.Reading.{Reading, entered, followed, joined, readAll, reader}
+use Rattle.reader.specs.Reading.{Reading, entered, followed, joined, readAll, reader, readerBy}
 use Rattle.reader.specs.Reading.Reading.{read, stop}
 use Rattle.reader.specs.Tally.{ReadOn, Tallied, keptFrom, numbersTold, tally, tallyOn}
 use Rattle.reader.specs.Tally.Tallied.{passed, stopped}
@@ -67,7 +67,7 @@ reads-on : (t : List ℕ) (levels : ℕ) (branch : List Goal) (g : Goal) (goals 
     (used nodes every some : ℕ)
     → tallyOn t levels branch (g ∷ goals) s rec used nodes every some
     ≡ onward t s (reader t levels branch goals) (tallyOn t levels branch (g ∷ []) s rec used nodes every some)
-unfolding tallyOn reader readAll
+unfolding tallyOn readerBy readAll
 reads-on t zero branch g goals s rec used nodes every some = entered-onward t s used nodes every some _ _ (entry t false g rec)
 reads-on t (suc levels) branch g goals s rec used nodes every some =
     entered-onward t s used nodes every some _ _ (entry t (fresh branch g) g rec)
@@ -75,7 +75,7 @@ reads-on t (suc levels) branch g goals s rec used nodes every some =
 -- no goal is left
 pub reads-none : (t : List ℕ) (levels : ℕ) (branch : List Goal) (s : StateSets) (rec : List ℕ) (used nodes every some : ℕ)
     → tallyOn t levels branch [] s rec used nodes every some ≡ passed rec used nodes every some
-unfolding tallyOn tally reader readAll usedFrom countFrom keptFrom
+unfolding tallyOn tally readerBy readAll usedFrom countFrom keptFrom
 reads-none t zero branch s rec used nodes every some = refl
 reads-none t (suc levels) branch s rec used nodes every some = refl
 
@@ -135,7 +135,7 @@ module _ (t : List ℕ) (levels : ℕ) (branch : List Goal) (g : Goal) (c m : �
       record { level = some-level levels branch g f; long = omega arith; own = rw (← a, ← b, ← d) e }
 
   pub entry-asked : (rec : List ℕ) → entry t (may levels branch g) g rec ≡ ask c m goals rest → Asks t levels g rec c m goals
-  unfolding entry
+  unfolding entryBy
   entry-asked [] h = absurd (halt-ask h)
   entry-asked (x ∷ []) h = absurd (halt-ask h)
   entry-asked (x ∷ y ∷ more) h = admitted-asks x y more (premises t g x y) refl (may levels branch g) refl h
@@ -144,13 +144,13 @@ module _ (t : List ℕ) (levels : ℕ) (branch : List Goal) (g : Goal) (c m : �
 one-goal : (t : List ℕ) (levels : ℕ) (branch : List Goal) (g : Goal) (rec : List ℕ) (at : ℕ)
     → reader t (suc levels) branch (g ∷ []) rec at
     ≡ entered at (reader t levels (g ∷ branch)) (λ rest later. read rest end) (entry t (may (suc levels) branch g) g rec)
-unfolding reader readAll may
+unfolding readerBy readAll may
 one-goal t levels branch g rec at = refl
 
 pub node-stops : (t : List ℕ) (levels : ℕ) (branch : List Goal) (g : Goal) (s : StateSets) (rec : List ℕ)
     (used nodes every some number : ℕ) → entry t (may levels branch g) g rec ≡ halt number
     → stopped number (suc nodes) ≡ tallyOn t levels branch (g ∷ []) s rec used nodes every some
-unfolding tallyOn tally reader readAll entered may
+unfolding tallyOn tally readerBy readAll entered may
 node-stops t zero branch g s rec used nodes every some number h = rw h
 node-stops t (suc levels) branch g s rec used nodes every some number h = rw h
 

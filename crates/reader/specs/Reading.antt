@@ -3,11 +3,12 @@
 use Prim.Native.Nat.{ℕ, zero, suc}
 use mathlib.Core.List.{List, [], _∷_}
 use mathlib.Core.Bool.{false}
+use mathlib.Core.Option.{Option}
 use Rattle.table.specs.declared.Goal.{Goal}
-use Rattle.derivation.specs.Rules.{fresh}
+use Rattle.derivation.specs.Rules.{fresh, premises}
 use Rattle.derivation.specs.Forest.{Forest, countFrom}
 use Rattle.derivation.specs.Forest.Forest.{end, node}
-use Rattle.entering.specs.Entry.{Entry, entry}
+use Rattle.entering.specs.Entry.{Entry, entryBy}
 use Rattle.entering.specs.Entry.Entry.{ask, halt}
 
 -- reading ends with the rest of the record and the forest that was read, or stops at a node
@@ -37,8 +38,11 @@ readAll one (g ∷ goals) rec at = one g (λ rest later. readAll one goals rest 
 
 -- with so many levels left, below a branch; the next node has number `at`. Where no level is left every node stops at its entry,
 -- so the reader of its children is never asked
-unfoldable pub reader : List ℕ → ℕ → List Goal → List Goal → List ℕ → ℕ → Reading
-reader t zero branch goals rec at =
-    readAll (λ g later rest n. entered n (λ ps more k. stop 13 k) later (entry t false g rest)) goals rec at
-reader t (suc levels) branch goals rec at =
-    readAll (λ g later rest n. entered n (reader t levels (g ∷ branch)) later (entry t (fresh branch g) g rest)) goals rec at
+unfoldable pub readerBy : (Goal → ℕ → ℕ → Option (List Goal)) → ℕ → List Goal → List Goal → List ℕ → ℕ → Reading
+readerBy asks zero branch goals rec at =
+    readAll (λ g later rest n. entered n (λ ps more k. stop 13 k) later (entryBy asks false g rest)) goals rec at
+readerBy asks (suc levels) branch goals rec at =
+    readAll (λ g later rest n. entered n (readerBy asks levels (g ∷ branch)) later (entryBy asks (fresh branch g) g rest)) goals rec at
+
+abbrev pub reader : List ℕ → ℕ → List Goal → List Goal → List ℕ → ℕ → Reading
+reader t levels branch goals rec at = readerBy (premises t) levels branch goals rec at

@@ -19,7 +19,7 @@ use Rattle.table.specs.declared.Goal.{Goal}
 use Rattle.table.specs.declared.Query.{Query}
 use Rattle.derivation.specs.Rules.{goal}
 use Rattle.derivation.specs.Forest.{Derives, Forest}
-use Rattle.derivation.specs.Forest.Derives.{done, step}
+use Rattle.derivation.specs.Forest.DerivesBy.{done, step}
 use Rattle.derivation.proofs.Applying.{applies-numbered, applies-role}
 use Rattle.derivation.proofs.Using.{placed}
 use Rattle.derivation.proofs.Ruling.{Rule, rule-applied}

@@ -9,14 +9,14 @@ use lib.ListN.{length}
 use lib.Dec.{eqb}
 use Rattle.sets.specs.Logic.{pick}
 use Rattle.sets.specs.Sets.{inSet}
-use Rattle.sets.proofs.Tests.{and-both, and-first, and-second, any-reached, pick-same}
+use Rattle.sets.proofs.Tests.{and-both, and-first, any-reached, pick-same}
 use Rattle.table.specs.Layout.{credentials}
 use Rattle.table.specs.Holding.{WellFormed}
 use Rattle.table.specs.declared.Goal.{Goal}
 use Rattle.derivation.specs.Rules.{premises}
 use Rattle.derivation.specs.Forest.{Derives, Forest}
-use Rattle.derivation.specs.Forest.Derives.{done, step}
-use Rattle.derivation.proofs.Applying.{applies-numbered, picked}
+use Rattle.derivation.specs.Forest.DerivesBy.{done, step}
+use Rattle.derivation.proofs.Applying.{applies-defines, applies-numbered}
 use Rattle.derivation.proofs.Using.{placed}
 use Rattle.members.specs.Trying.{everyGoal, mayUse, provedPremises}
 use Rattle.members.specs.Members.{Members, lesser, listed, within}
@@ -27,10 +27,10 @@ use Rattle.search.proofs.Within.{only-below, only-here, only-later}
 -- a goal is there one level up, through a credential of the set that applies to it, where its premises are there
 within-through : (t : List ℕ) (S levels : ℕ) (g : Goal) (c m : ℕ) (goals : List Goal) → premises t g c m ≡ some goals
     → inSet S (c - 1) ≡ true → IsMiddle t c m → everyGoal (within t S levels) goals ≡ true → within t S (suc levels) g ≡ true
-unfolding within mayUse provedPremises premises
+unfolding within mayUse provedPremises
 within-through t S levels g c m goals applies own tried each =
     let at = placed (applies-numbered t g c m goals applies) in
-    let defines = and-second _ _ (picked _ _ goals applies .0) in
+    let defines = applies-defines t g c m goals applies in
     let asked = within-asked (eqb (length goals) 0) each in
     any-reached _ (credentials t) (c - 1) (at .0)
     (rw (at .1) (and-both (and-both own defines) (tried-proves t (everyGoal (within t S levels)) true g c m tried (rw applies asked))))

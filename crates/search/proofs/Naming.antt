@@ -19,7 +19,7 @@ use Rattle.sets.proofs.Tests.{and-both, any-reached, false-true, or-either, or-
 use Rattle.table.proofs.WellFormed.{wf-chain}
 use Rattle.derivation.specs.Rules.{goal, premises}
 use Rattle.derivation.specs.Forest.{Derives, Forest}
-use Rattle.derivation.specs.Forest.Derives.{done, step}
+use Rattle.derivation.specs.Forest.DerivesBy.{done, step}
 use Rattle.derivation.proofs.Applying.{applies-numbered, some-parts}
 use Rattle.members.specs.Places.{personAt}
 use Rattle.members.specs.Trying.{provedPremises, provesBy}

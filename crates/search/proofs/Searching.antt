@@ -34,8 +34,8 @@ use Rattle.automata.proofs.Moves.{run-empty}
 use Rattle.derivation.specs.Rules.{fresh, goalOf, premises}
 use Rattle.derivation.specs.Forest.{Derives, Forest, names}
 use Rattle.derivation.specs.Forest.Forest.{end, node}
-use Rattle.derivation.specs.Forest.Derives.{done, step}
-use Rattle.derivation.specs.Words.{acceptsAll, acceptsSome, words}
+use Rattle.derivation.specs.Forest.DerivesBy.{done, step}
+use Rattle.derivation.specs.Words.{acceptsSome, everyWord, someWord, words, wordsBy}
 use Rattle.members.specs.Places.{isPerson}
 use Rattle.members.specs.Above.{isAbove, nothingAbove, withGoal}
 use Rattle.members.specs.declared.above.Above.{Above}
@@ -44,7 +44,7 @@ use Rattle.members.proofs.Places.{role-defined}
 use Rattle.members.proofs.Branching.{HasPlace, OnBranch, on-next, on-none}
 use Rattle.goals.specs.Goals.{stepped}
 use Rattle.search.specs.Search.{AllAccept, Provable, SomeAccept, UsesOnly, ends, provable, proves, shares}
-use Rattle.derivation.proofs.Applying.{applies-numbered, applies-role, asks-more, picked}
+use Rattle.derivation.proofs.Applying.{applies-defines, applies-numbered, applies-role, asks-more}
 use Rattle.derivation.proofs.Ruling.{asks-nothing}
 use Rattle.derivation.proofs.Using.{placed}
 use Rattle.derivation.proofs.Running.{accepting-member, accepts-all-append, accepts-some-append, sets-after-next}
@@ -104,7 +104,7 @@ module _ (t : List ℕ) (wf : WellFormed t) (A O X : ℕ) (few : X ≤ O) (s : S
   led-accepts k h = rw (led (demanded-asked A O X k few h)) (accepting-exact t wf word k)
 
   pub one-word : ends t A s X ≡ true → AllAccept t A (word ∷ []) × SomeAccept t X (word ∷ [])
-  unfolding ends acceptsAll acceptsSome
+  unfolding ends everyWord someWord
   one-word all =
       let each : (k : ℕ) → inSet (bitOr A X) k ≡ true → accepts t (suc k) word ≡ true =
       λ k h. sym (led-accepts k h) ∙ part-member (bitOr A X) _ k all h in (
@@ -113,7 +113,7 @@ module _ (t : List ℕ) (wf : WellFormed t) (A O X : ℕ) (few : X ≤ O) (s : S
       )
 
   one-word-demanded : AllAccept t A (word ∷ []) → SomeAccept t X (word ∷ []) → ends t A s X ≡ true
-  unfolding ends acceptsAll acceptsSome
+  unfolding ends everyWord someWord
   one-word-demanded all met =
       part-shown (bitOr A X) _ (λ k h. led-accepts k h ∙
       or-either (λ imposed. sym (and-true _) ∙ all k imposed) (λ owed. sym (or-false _) ∙ met k owed)
@@ -176,7 +176,7 @@ nodeWords t goals word children = pick (eqb (length goals) 0) (word ∷ []) (wor
 pub node-words : (t : List ℕ) → WellFormed t → (g : Goal) (c m : ℕ) (goals : List Goal) → premises t g c m ≡ some goals
     → (w : List Role) (children siblings : Forest)
     → words t w (node c m children siblings) ≡ (nodeWords t goals (w ++ (g .role ∷ [])) children ++ words t w siblings)
-unfolding words nodeWords pick
+unfolding wordsBy nodeWords pick
 node-words t wf g c m [] applies w children siblings =
     rw (asks-nothing t wf g c m applies, applies-role t g c m [] applies)
 node-words t wf g c m (h ∷ goals) applies w children siblings =
@@ -199,7 +199,7 @@ pub words-alone : (t : List ℕ) → WellFormed t → (Y : ℕ) (g : Goal) (c m 
     → (w : List Role) (children siblings : Forest) {levels : ℕ} {branch : List Goal} → Derives t levels branch [] siblings
     → SomeAccept t Y (words t w (node c m children siblings))
     → SomeAccept t Y (nodeWords t goals (w ++ (g .role ∷ [])) children)
-unfolding words acceptsSome
+unfolding wordsBy someWord
 words-alone t wf Y g c m goals applies w children siblings done met k h =
     sym (or-false _)
     ∙ sym (accepts-some-append t (suc k) (nodeWords t goals (w ++ (g .role ∷ [])) children) [])
@@ -209,11 +209,10 @@ words-alone t wf Y g c m goals applies w children siblings done met k h =
 -- principal
 pub has-place : {t : List ℕ} → WellFormed t → {levels : ℕ} {branch : List Goal} {f : Forest} (g : Goal) (c m : ℕ) (goals : List Goal)
     → premises t g c m ≡ some goals → Derives t levels branch goals f → HasPlace t g
-unfolding premises
 has-place {t} wf g c m goals applies d =
     let at = placed (applies-numbered t g c m goals applies) in
     record {
-      defined = role-defined t (g .role) (c - 1) (at .0) (rw (at .1) (and-second _ _ (picked _ _ goals applies .0)));
+      defined = role-defined t (g .role) (c - 1) (at .0) (rw (at .1) (applies-defines t g c m goals applies));
       named = goal-named wf g c m goals applies d;
     }
 
@@ -228,7 +227,7 @@ pub record Shown (t : List ℕ) (S A X levels : ℕ) (branch : List Goal) (w : L
 
 module _ (t : List ℕ) (wf : WellFormed t) (S A O : ℕ) where
   shown-none : (levels : ℕ) (branch : List Goal) (w : List Role) → Shown t S A 0 levels branch w []
-  unfolding names words acceptsAll
+  unfolding names wordsBy everyWord
   shown-none levels branch w =
       record {
         forest = end;
@@ -342,11 +341,11 @@ module _ (t : List ℕ) (wf : WellFormed t) (S A O : ℕ) where
       let each = shares (proves t S A O levels (withGoal t above g) below) O goals X in
       pick (eqb (length goals) 0) (ends t A below X) each ≡ true
       → proves t S A O (suc levels) above s g X ≡ true
-  unfolding proves mayUse provedPremises premises
+  unfolding proves mayUse provedPremises
   proves-through levels above s g X c m goals applies new own tried below =
       let there = applies-numbered t g c m goals applies in
       let at = placed there in
-      let defines = and-second _ _ (picked _ _ goals applies .0) in
+      let defines = applies-defines t g c m goals applies in
       and-both new
       (any-reached _ (credentials t) (c - 1) (at .0)
       (rw (at .1) (and-both (and-both own defines) (tried-proves t _ _ g c m tried (rw applies below)))))
@@ -392,7 +391,7 @@ module _ (t : List ℕ) (wf : WellFormed t) (S A O : ℕ) where
   -- what is derived is found
   pub derived-proves : {levels : ℕ} {branch goals : List Goal} {f : Forest} → Derives t levels branch goals f → UsesOnly f S
       → Found levels branch goals f
-  unfolding shares words acceptsSome
+  unfolding shares wordsBy someWord
   derived-proves done only above on w s led all X few met = eq-eqb X 0 (nothing-met X met)
     where
       nothing-met : (X : ℕ) → ((k : ℕ) → inSet X k ≡ true → false ≡ true) → X ≡ 0

@@ -27,17 +27,17 @@ chain-range t first ok =
 pub record Walked (t : List ℕ) (first met j : ℕ) : Type 0 where
   pub few : met ≤ mostParts
   pub inside : j ≤ cells t
-  pub whole : met + length (cellsFrom t (suc mostParts - met) j) ≡ length (chain t first)
+  pub whole : met + length (cellsFrom (cell t) (suc mostParts - met) j) ≡ length (chain t first)
 
 pub walk-starts : (t : List ℕ) (first : ℕ) → first ≤ cells t → Walked t first 0 first
 walk-starts t first h = record { few = omega arith; inside = h; whole = omega arith }
 
 -- cell j leads its chain where it is not 0, and 0 is the end
-pub step-from : (t : List ℕ) (most j : ℕ) → (j ≡ 0 → ⊥) → cellsFrom t (suc most) j ≡ j ∷ cellsFrom t most (cell t j .next)
+pub step-from : (t : List ℕ) (most j : ℕ) → (j ≡ 0 → ⊥) → cellsFrom (cell t) (suc most) j ≡ j ∷ cellsFrom (cell t) most (cell t j .next)
 unfolding cellsFrom pick
 step-from t most j h = rw (ne-eqb j 0 h)
 
-pub stop-at : (t : List ℕ) (most j : ℕ) → j ≡ 0 → cellsFrom t most j ≡ []
+pub stop-at : (t : List ℕ) (most j : ℕ) → j ≡ 0 → cellsFrom (cell t) most j ≡ []
 unfolding cellsFrom pick
 stop-at t zero j h = refl
 stop-at t (suc most) j h = rw h
@@ -45,7 +45,7 @@ stop-at t (suc most) j h = rw h
 module _ (t : List ℕ) (first met j : ℕ) (walked : Walked t first met j) where
   -- cell j and those after it
   cells-left : (most : ℕ) → suc mostParts - met ≡ suc most → (j ≡ 0 → ⊥)
-      → met + suc (length (cellsFrom t most (cell t j .next))) ≡ length (chain t first)
+      → met + suc (length (cellsFrom (cell t) most (cell t j .next))) ≡ length (chain t first)
   cells-left most e h = rw (e, step-from t most j h) at (walked .whole)
 
   -- there is one cell more
@@ -63,7 +63,7 @@ module _ (t : List ℕ) (first met j : ℕ) (walked : Walked t first met j) wher
 
 -- where the chain from cell j ends before the limit `most`, a greater limit gives the same chain
 abbrev Settled : List ℕ → ℕ → ℕ → ℕ → Type 0
-Settled t most big j = length (cellsFrom t most j) < most → cellsFrom t big j ≡ cellsFrom t most j
+Settled t most big j = length (cellsFrom (cell t) most j) < most → cellsFrom (cell t) big j ≡ cellsFrom (cell t) most j
 
 settled-step : (t : List ℕ) (most big j : ℕ) → Dec (j ≡ 0) → Settled t most big (cell t j .next)
     → Settled t (suc most) (suc big) j

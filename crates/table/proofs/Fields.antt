@@ -8,7 +8,7 @@ use borrow.Author.Tests.{leb-true, eqb-true}
 use Rattle.sets.specs.Logic.{_and_}
 use Rattle.table.specs.Limits.{mostPrincipals, lastState}
 use Rattle.table.specs.Layout.{Numbered, automata, cell, cells, credential, edge, principal}
-use Rattle.table.specs.Checks.{within, isPrincipal, credentialOk, cellOk, edgeOk, goodCredential, goodCell, goodEdge}
+use Rattle.table.specs.Checks.{cellTo, credentialTo, edgeTo, goodCell, goodCellTo, goodCredential, goodCredentialTo, goodEdge, goodEdgeTo, isPrincipal, isPrincipalTo, within}
 use Rattle.table.specs.Checks.{meaningOk}
 use Rattle.table.specs.declared.Credential.{Credential}
 use Rattle.table.specs.declared.Cell.{Cell}
@@ -37,7 +37,7 @@ pub within-range : (n x : ℕ) → within 1 n x ≡ true → Numbered n x
 within-range n x e = let (first, last) = within-bounds 1 n x e in record { first = first; last = last }
 
 pub principal-range : (x : ℕ) → isPrincipal (principal x) ≡ true → Numbered mostPrincipals x
-unfolding isPrincipal
+unfolding isPrincipalTo
 principal-range x e = within-range mostPrincipals x e
 
 -- every kind but 1 to 4 is refused
@@ -54,7 +54,7 @@ kind-known kind first second q ok = go (within 1 4 kind) refl
 
 module _ (t : List ℕ) (i : ℕ) where
   pub credential-range : goodCredential t i ≡ true → CredentialRange (cells t) (automata t) (credential t i)
-  unfolding goodCredential credentialOk
+  unfolding goodCredentialTo credentialTo
   credential-range good =
       let rest = and-second _ _ good in
       let means = and-first _ _ rest in
@@ -65,14 +65,14 @@ module _ (t : List ℕ) (i : ℕ) where
       }
 
   pub cell-range : goodCell t i ≡ true → CellRange (cells t) (cell t i)
-  unfolding goodCell cellOk
+  unfolding goodCellTo cellTo
   cell-range good =
       let next = cell t i .next in
       let either = and-second _ _ good in
       record { next = or-either (λ h. omega (arith, eqb-true next 0 h)) (λ h. leb-true _ _ (and-second _ _ h)) either }
 
   pub edge-range : goodEdge t i ≡ true → EdgeRange (automata t) (edge t i)
-  unfolding goodEdge edgeOk
+  unfolding goodEdgeTo edgeTo
   edge-range good =
       let states = and-parts (leb-true _ lastState) (and-parts (leb-true _ lastState) (λ label. label)) in
       let (automaton, (from, (to, label))) = and-parts (within-range (automata t) _) states good in

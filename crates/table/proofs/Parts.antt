@@ -8,13 +8,13 @@ use native.Mathlib.Numerals.{add-one}
 use lib.ListN.{length, take, set, length-set}
 use lib.Seq.{take-suc-set}
 use Rattle.table.specs.Limits.{mostParts}
-use Rattle.table.specs.Layout.{cell, cells, cellsFrom, parts}
+use Rattle.table.specs.Layout.{cell, cells, cellsFrom, parts, partsBy}
 use Rattle.table.specs.Checks.{chainOk}
 use Rattle.table.specs.declared.Role.{Role}
 use Rattle.table.proofs.Chains.{Walked, chain-range, walk-starts, walk-more, walk-goes-on, step-from, stop-at}
 
 abbrev partsFrom : List ℕ → ℕ → ℕ → List Role
-partsFrom t most j = map (λ (k : ℕ). cell t k .role) (cellsFrom t most j)
+partsFrom t most j = map (λ (k : ℕ). cell t k .role) (cellsFrom (cell t) most j)
 
 pub record Gathered (t : List ℕ) (first : ℕ) (roles : List Role) (len j : ℕ) : Type 0 where
   pub walked : Walked t first len j
@@ -23,7 +23,7 @@ pub record Gathered (t : List ℕ) (first : ℕ) (roles : List Role) (len j : �
 
 pub gather-starts : (t : List ℕ) (first : ℕ) (roles : List Role) → length roles ≡ mostParts → first ≤ cells t
     → Gathered t first roles 0 first
-unfolding parts
+unfolding partsBy
 gather-starts t first roles room h = record { walked = walk-starts t first h; room = room; whole = refl }
 
 module _ (t : List ℕ) (first : ℕ) (roles : List Role) (len j : ℕ) (so-far : Gathered t first roles len j) where

@@ -13,8 +13,8 @@ use Rattle.table.specs.Outcome.{Outcome, _andThen_, demandEach}
 use Rattle.table.specs.Outcome.Outcome.{accepted, refused}
 use Rattle.table.specs.Limits.{lastState, mostNames, mostPrincipals}
 use Rattle.table.specs.Layout.{Numbered, automata, cells, credentials, edge, edges}
-use Rattle.table.specs.Checks.{edgeOk, goodCell, goodChain, goodCredential, goodEdge, goodMark, headOutcome, isName}
-use Rattle.table.specs.Checks.{isPrincipal, isRole, labelOk, tableOutcome, within}
+use Rattle.table.specs.Checks.{edgeOk, edgeTo, goodCell, goodChain, goodCredential, goodEdge, goodEdgeTo, goodMark, headOutcome, isNameTo}
+use Rattle.table.specs.Checks.{isPrincipal, isPrincipalTo, isRole, isRoleTo, labelOk, tableOutcomeTo, within}
 use Rattle.table.specs.Promised.{AllowedEdge, Allows, FirstNotAllowed, RefusesEdge}
 use Rattle.table.specs.Promised.Allows.{everyOfOwner, everyOther, everyRole, thatRole}
 use Rattle.table.specs.declared.Edge.{Edge}
@@ -30,19 +30,19 @@ range-within h = and-both (le-leb _ _ (h .first)) (le-leb _ _ (h .last))
 
 -- a role is an owner and a name, each of which is numbered
 role-shows : (r : Role) → isRole r ≡ true → Numbered mostPrincipals (r .owner .0) × Numbered mostNames (r .name .0)
-unfolding isRole isPrincipal isName
+unfolding isRoleTo isPrincipalTo isNameTo
 role-shows r ok = and-parts (within-range mostPrincipals _) (within-range mostNames _) ok
 
 role-is : (r : Role) → Numbered mostPrincipals (r .owner .0) → Numbered mostNames (r .name .0) → isRole r ≡ true
-unfolding isRole isPrincipal isName
+unfolding isRoleTo isPrincipalTo isNameTo
 role-is r owner name = and-both (range-within owner) (range-within name)
 
 owner-shows : (r : Role) → isPrincipal (r .owner) ≡ true → Numbered mostPrincipals (r .owner .0)
-unfolding isPrincipal
+unfolding isPrincipalTo
 owner-shows r ok = within-range mostPrincipals _ ok
 
 owner-is : (r : Role) → Numbered mostPrincipals (r .owner .0) → isPrincipal (r .owner) ≡ true
-unfolding isPrincipal
+unfolding isPrincipalTo
 owner-is r owner = range-within owner
 
 -- the test of owner and name by label, both ways
@@ -72,14 +72,14 @@ label-is r (everyOfOwner owner name) = label-4 4 r refl ∙ and-both (owner-is r
 
 -- the test of an edge, both ways
 edge-shows : (a : ℕ) (e : Edge) → edgeOk a e ≡ true → AllowedEdge a e
-unfolding edgeOk
+unfolding edgeTo
 edge-shows a e ok =
     let states = and-parts (leb-true _ lastState) (and-parts (leb-true _ lastState) (label-shows (e .label) (e .role))) in
     let (automaton, (from, (to, label))) = and-parts (within-range a _) states ok in
     record { automaton = automaton; from = from; to = to; label = label }
 
 edge-is : (a : ℕ) (e : Edge) → AllowedEdge a e → edgeOk a e ≡ true
-unfolding edgeOk
+unfolding edgeTo
 edge-is a e allowed =
     and-both (range-within (allowed .automaton))
     (and-both (le-leb _ _ (allowed .from)) (and-both (le-leb _ _ (allowed .to)) (label-is (e .role) (allowed .label))))
@@ -87,7 +87,7 @@ edge-is a e allowed =
 -- the first edge that fails its test is the first that is not allowed
 module _ (t : List ℕ) (i : ℕ) where
   failure-shows : FirstFailure (goodEdge t) (edges t) i → FirstNotAllowed t i
-  unfolding goodEdge
+  unfolding goodEdgeTo
   failure-shows f =
       record {
         numbered = f .within;
@@ -96,7 +96,7 @@ module _ (t : List ℕ) (i : ℕ) where
       }
 
   failure-is : FirstNotAllowed t i → FirstFailure (goodEdge t) (edges t) i
-  unfolding goodEdge
+  unfolding goodEdgeTo
   failure-is f =
       record {
         within = f .numbered;
@@ -133,7 +133,7 @@ module _ (t : List ℕ) (i : ℕ) where
   )
 
 pub refuses-edge : RefusesEdge
-unfolding tableOutcome headOutcome
+unfolding tableOutcomeTo headOutcome
 refuses-edge t i =
     after-stage
     (stage-then (stage-demand _ 1 0 (omega arith)) (stage-then (stage-demand _ 2 0 (omega arith)) (stage-demand _ 3 0 (omega arith))))

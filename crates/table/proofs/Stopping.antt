@@ -7,7 +7,7 @@ use Prim.Native.Nat.{ℕ}
 use native.Mathlib.Omega.{arith}
 use Rattle.table.specs.Outcome.{Outcome, _andThen_, demand, demandEach}
 use Rattle.table.specs.Outcome.Outcome.{accepted, refused}
-use Rattle.table.specs.Checks.{RequestRow, TableRow, headOutcome, queryOutcome, requestOutcome, tableOutcome}
+use Rattle.table.specs.Checks.{RequestRow, TableRow, headOutcome, queryOutcome, queryOutcomeTo, requestOutcome, tableOutcome, tableOutcomeTo}
 use Rattle.table.specs.Checks.{goodCell, goodChain, goodCredential, goodEdge, goodMark}
 use Rattle.table.specs.Layout.{automata, cells, credentials, edges}
 use Rattle.table.specs.declared.Query.{Query}
@@ -45,7 +45,7 @@ module _ {Rows : ℕ → Type 0} where
   stage-more more s = record { value = s .value; row = λ n at e. more n (s .row n at e) }
 
 pub table-stage : (t : List ℕ) → Stage TableRow (tableOutcome t)
-unfolding tableOutcome headOutcome
+unfolding tableOutcomeTo headOutcome
 table-stage t =
     stage-then
     (stage-then (stage-demand _ 1 0 (inl (omega arith, omega arith)))
@@ -57,7 +57,7 @@ table-stage t =
     (stage-each (goodMark t) (automata t) 17 (inr refl))))))
 
 query-stage : (q : Query) → Stage RequestRow (queryOutcome q)
-unfolding queryOutcome
+unfolding queryOutcomeTo
 query-stage q = stage-then (field _ 1) (stage-then (field _ 2) (stage-then (field _ 3) (field _ 4)))
   where
     field : (p : Bool) (at : ℕ) → Stage RequestRow (demand p 8 at)

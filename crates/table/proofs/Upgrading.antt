@@ -18,8 +18,8 @@ use Rattle.table.specs.Layout.{Numbered, automata, automataBase, cell, c
 use Rattle.table.specs.Layout.{automaton, cellAt, credentialAt, edge, edgeAt, edges, number, tableLength}
 use Rattle.table.specs.Layout.{cellSize, credentialSize, edgeSize, headSize}
 use Rattle.table.specs.Encoded.{credentialOf, edgeOf}
-use Rattle.table.specs.Checks.{chainOk, countsOk, goodCell, goodChain, goodCredential, goodEdge, goodMark}
-use Rattle.table.specs.Checks.{headOutcome, markOk, tableOutcome}
+use Rattle.table.specs.Checks.{chainOk, countsOk, goodCell, goodCellTo, goodChain, goodCredential, goodCredentialTo, goodEdge, goodEdgeTo, goodMark}
+use Rattle.table.specs.Checks.{headOutcome, markOk, tableOutcomeTo}
 use Rattle.table.specs.Upgraded.{SameRecords, Upgrading, baseAutomaton, baseEdge, baseHeadOutcome, baseLength}
 use Rattle.table.specs.Upgraded.{baseOutcome, goodBaseEdge, upgraded, withMarks}
 use Rattle.table.proofs.Chains.{step-from, stop-at}
@@ -237,15 +237,15 @@ module _ (t : List ℕ) (exact : length t ≡ baseLength t) where
   same = same-records t exact
 
   credential-checked : (i : ℕ) → Numbered (credentials t) i → goodCredential (upgraded t) i ≡ goodCredential t i
-  unfolding goodCredential
+  unfolding goodCredentialTo
   credential-checked i h = rw (same .cells, same .automata, same .credential i h)
 
   cell-checked : (j : ℕ) → Numbered (cells t) j → goodCell (upgraded t) j ≡ goodCell t j
-  unfolding goodCell
+  unfolding goodCellTo
   cell-checked j h = rw (same .cells, same .cell j h)
 
   edge-checked : (x : ℕ) → goodEdge (upgraded t) x ≡ goodBaseEdge t x
-  unfolding goodEdge goodBaseEdge
+  unfolding goodEdgeTo goodBaseEdge
   edge-checked x = rw (same .automata, same .edge x)
 
   mark-checked : (k : ℕ) → Numbered (automata t) k → goodMark (upgraded t) k ≡ true
@@ -254,13 +254,13 @@ module _ (t : List ℕ) (exact : length t ≡ baseLength t) where
 
   -- a chain stays inside the cells, so it is the same
   module _ (good : (j : ℕ) → Numbered (cells t) j → goodCell t j ≡ true) where
-    cells-same : (most j : ℕ) → j ≤ cells t → cellsFrom (upgraded t) most j ≡ cellsFrom t most j
+    cells-same : (most j : ℕ) → j ≤ cells t → cellsFrom (cell (upgraded t)) most j ≡ cellsFrom (cell t) most j
     unfolding cellsFrom
     cells-same zero j inside = refl
     cells-same (suc most) j inside = go (ℕ-discrete j 0) (cells-same most)
       where
-        go : Dec (j ≡ 0) → ((i : ℕ) → i ≤ cells t → cellsFrom (upgraded t) most i ≡ cellsFrom t most i)
-            → cellsFrom (upgraded t) (suc most) j ≡ cellsFrom t (suc most) j
+        go : Dec (j ≡ 0) → ((i : ℕ) → i ≤ cells t → cellsFrom (cell (upgraded t)) most i ≡ cellsFrom (cell t) most i)
+            → cellsFrom (cell (upgraded t)) (suc most) j ≡ cellsFrom (cell t) (suc most) j
         go (yes none) later = rw (stop-at (upgraded t) (suc most) j none, stop-at t (suc most) j none)
         go (no some) later =
             let there : Numbered (cells t) j = omega arith in
@@ -306,6 +306,6 @@ exact-length t v passed =
     eqb-true (length t) (baseLength t) (demand-true _ 3 0 v (then-second _ _ v (then-second _ _ v passed)))
 
 pub upgrading : Upgrading
-unfolding tableOutcome baseOutcome
+unfolding tableOutcomeTo baseOutcome
 upgrading t =
     (then-alike (head-same t (decLt _ _)) (λ v passed. rows-told t (exact-length t v passed)), same-records t)

@@ -13,7 +13,7 @@ use Rattle.table.specs.Layout.{Numbered, automata, automaton, cell, cell
 use Rattle.table.specs.Layout.{credential, credentials, edge, edges}
 use Rattle.table.specs.Holding.{Sized, WellFormed}
 use Rattle.table.specs.Checks.{AcceptedTable, Valid, chainOk, goodCredential, goodCell, goodChain, goodEdge, goodMark}
-use Rattle.table.specs.Checks.{headOutcome, markOk, queryOutcome, requestOutcome, tableOutcome}
+use Rattle.table.specs.Checks.{headOutcome, markOk, queryOutcome, requestOutcome, tableOutcome, tableOutcomeTo}
 use Rattle.table.specs.declared.Query.{Query}
 use Rattle.table.proofs.Stages.{then-first, then-second, each-ok, each-value}
 use Rattle.table.proofs.Sizes.{sized}
@@ -31,7 +31,7 @@ record Passed (t : List ℕ) (v : ℕ) : Type 0 where
   value : v ≡ 0
 
 every-passed : (t : List ℕ) (v : ℕ) → tableOutcome t ≡ accepted v → Passed t v
-unfolding tableOutcome
+unfolding tableOutcomeTo
 every-passed t v e =
     let credentials-on = then-second (headOutcome t) _ v e in
     let cells-on = then-second (demandEach (goodCredential t) (credentials t) 4) _ v credentials-on in
@@ -77,7 +77,7 @@ module _ (t : List ℕ) (wf : WellFormed t) where
 
   -- the chain is whole: reading on gives no further cell. `chain` reads five cells at most, and this says that nothing is lost
   pub wf-chain-whole : (i : ℕ) → Numbered (credentials t) i → credential t i .kind ≡ 4 → (big : ℕ) → suc mostParts ≤ big
-      → cellsFrom t big (credential t i .first) ≡ chain t (credential t i .first)
+      → cellsFrom (cell t) big (credential t i .first) ≡ chain t (credential t i .first)
   wf-chain-whole i h four big le =
       let few = wf-chain i h four .most in
       cells-settled t (suc mostParts) big (credential t i .first) le (omega arith)

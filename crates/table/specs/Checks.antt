@@ -29,47 +29,73 @@ use Rattle.table.specs.declared.Refusal.{Refusal}
 unfoldable pub within : ℕ → ℕ → ℕ → Bool
 within low high x = leb low x and leb x high
 
--- principals and role names are each numbered 1 to 64
-unfoldable pub isPrincipal : Principal → Bool
-isPrincipal p = within 1 mostPrincipals (p .0)
+-- principals and role names are numbered from 1 up to a greatest number
+unfoldable pub isPrincipalTo : ℕ → Principal → Bool
+isPrincipalTo most p = within 1 most (p .0)
 
-unfoldable pub isName : Name → Bool
-isName n = within 1 mostNames (n .0)
+unfoldable pub isNameTo : ℕ → Name → Bool
+isNameTo most n = within 1 most (n .0)
 
-unfoldable pub isRole : Role → Bool
-isRole r = isPrincipal (r .owner) and isName (r .name)
+unfoldable pub isRoleTo : ℕ → Role → Bool
+isRoleTo most r = isPrincipalTo most (r .owner) and isNameTo most (r .name)
+
+-- which is 64 for both
+abbrev pub isPrincipal : Principal → Bool
+isPrincipal p = isPrincipalTo mostPrincipals p
+
+abbrev pub isName : Name → Bool
+isName n = isNameTo mostNames n
+
+abbrev pub isRole : Role → Bool
+isRole r = isRoleTo mostPrincipals r
 
 -- what each kind allows as first and second, where there are q part cells
-unfoldable pub meaningOk : ℕ → ℕ → ℕ → ℕ → Bool
-meaningOk kind first second q =
-    pick (eqb kind 1) (isPrincipal (principal first) and eqb second 0)
-    (pick (eqb kind 2) (isPrincipal (principal first) and isName (name second))
-    (pick (eqb kind 3) (isName (name first) and isName (name second))
+unfoldable pub meaningTo : (most kind first second q : ℕ) → Bool
+meaningTo most kind first second q =
+    pick (eqb kind 1) (isPrincipalTo most (principal first) and eqb second 0)
+    (pick (eqb kind 2) (isPrincipalTo most (principal first) and isNameTo most (name second))
+    (pick (eqb kind 3) (isNameTo most (name first) and isNameTo most (name second))
     (pick (eqb kind 4) (within 1 q first and eqb second 0) false)))
 
+abbrev pub meaningOk : ℕ → ℕ → ℕ → ℕ → Bool
+meaningOk kind first second q = meaningTo mostPrincipals kind first second q
+
 -- a credential's automaton is 0, none, or 1 to a
-unfoldable pub credentialOk : ℕ → ℕ → Credential → Bool
-credentialOk q a c = isRole (c .role) and meaningOk (c .kind) (c .first) (c .second) q and leb (c .automaton) a
+unfoldable pub credentialTo : (most q a : ℕ) → Credential → Bool
+credentialTo most q a c =
+    isRoleTo most (c .role) and meaningTo most (c .kind) (c .first) (c .second) q and leb (c .automaton) a
+
+abbrev pub credentialOk : ℕ → ℕ → Credential → Bool
+credentialOk q a c = credentialTo mostPrincipals q a c
 
 -- next is 0, or a greater cell number up to q
-unfoldable pub cellOk : ℕ → ℕ → Cell → Bool
-cellOk q j c = isRole (c .role) and (eqb (c .next) 0 or ltb j (c .next) and leb (c .next) q)
+unfoldable pub cellTo : (most q j : ℕ) → Cell → Bool
+cellTo most q j c = isRoleTo most (c .role) and (eqb (c .next) 0 or ltb j (c .next) and leb (c .next) q)
+
+abbrev pub cellOk : ℕ → ℕ → Cell → Bool
+cellOk q j c = cellTo mostPrincipals q j c
 
 -- a chain of 2 to 4 cells
 unfoldable pub chainOk : List ℕ → ℕ → Bool
 chainOk t first = within leastParts mostParts (length (chain t first))
 
 -- labels 1 and 3 name a role; label 2 has owner and name both 0; label 4 names an owner, and its name is 0
-unfoldable pub labelOk : ℕ → Role → Bool
-labelOk label r =
-    pick (eqb label 1) (isRole r)
+unfoldable pub labelTo : (most label : ℕ) → Role → Bool
+labelTo most label r =
+    pick (eqb label 1) (isRoleTo most r)
     (pick (eqb label 2) (eqb (r .owner .0) 0 and eqb (r .name .0) 0)
-    (pick (eqb label 3) (isRole r)
-    (pick (eqb label 4) (isPrincipal (r .owner) and eqb (r .name .0) 0) false)))
+    (pick (eqb label 3) (isRoleTo most r)
+    (pick (eqb label 4) (isPrincipalTo most (r .owner) and eqb (r .name .0) 0) false)))
 
-unfoldable pub edgeOk : ℕ → Edge → Bool
-edgeOk a e =
-    within 1 a (e .automaton) and leb (e .from) lastState and leb (e .to) lastState and labelOk (e .label) (e .role)
+abbrev pub labelOk : ℕ → Role → Bool
+labelOk label r = labelTo mostPrincipals label r
+
+unfoldable pub edgeTo : (most a : ℕ) → Edge → Bool
+edgeTo most a e =
+    within 1 a (e .automaton) and leb (e .from) lastState and leb (e .to) lastState and labelTo most (e .label) (e .role)
+
+abbrev pub edgeOk : ℕ → Edge → Bool
+edgeOk a e = edgeTo mostPrincipals a e
 
 -- a mark is 0, every word, or 1, at least one
 unfoldable pub markOk : ℕ → Bool
@@ -88,20 +114,29 @@ headOutcome t =
     demand (eqb (length t) (tableLength t)) 3 0
 
 -- row 4
-unfoldable pub goodCredential : List ℕ → ℕ → Bool
-goodCredential t i = credentialOk (cells t) (automata t) (credential t i)
+unfoldable pub goodCredentialTo : ℕ → List ℕ → ℕ → Bool
+goodCredentialTo most t i = credentialTo most (cells t) (automata t) (credential t i)
+
+abbrev pub goodCredential : List ℕ → ℕ → Bool
+goodCredential t i = goodCredentialTo mostPrincipals t i
 
 -- row 5
-unfoldable pub goodCell : List ℕ → ℕ → Bool
-goodCell t j = cellOk (cells t) j (cell t j)
+unfoldable pub goodCellTo : ℕ → List ℕ → ℕ → Bool
+goodCellTo most t j = cellTo most (cells t) j (cell t j)
+
+abbrev pub goodCell : List ℕ → ℕ → Bool
+goodCell t j = goodCellTo mostPrincipals t j
 
 -- row 6: a credential of kind 4 has a chain, and no other
 unfoldable pub goodChain : List ℕ → ℕ → Bool
 goodChain t i = pick (eqb (credential t i .kind) 4) (chainOk t (credential t i .first)) true
 
 -- row 7
-unfoldable pub goodEdge : List ℕ → ℕ → Bool
-goodEdge t k = edgeOk (automata t) (edge t k)
+unfoldable pub goodEdgeTo : ℕ → List ℕ → ℕ → Bool
+goodEdgeTo most t k = edgeTo most (automata t) (edge t k)
+
+abbrev pub goodEdge : List ℕ → ℕ → Bool
+goodEdge t k = goodEdgeTo mostPrincipals t k
 
 -- row 17
 unfoldable pub goodMark : List ℕ → ℕ → Bool
@@ -116,26 +151,32 @@ abbrev pub RequestRow : ℕ → Type 0
 RequestRow number = TableRow number ⊎ (number ≡ 8)
 
 -- the checks of the table's rows
-unfoldable pub tableOutcome : List ℕ → Outcome
-tableOutcome t =
+unfoldable pub tableOutcomeTo : ℕ → List ℕ → Outcome
+tableOutcomeTo most t =
     headOutcome t andThen
-    demandEach (goodCredential t) (credentials t) 4 andThen
-    demandEach (goodCell t) (cells t) 5 andThen
+    demandEach (goodCredentialTo most t) (credentials t) 4 andThen
+    demandEach (goodCellTo most t) (cells t) 5 andThen
     demandEach (goodChain t) (credentials t) 6 andThen
-    demandEach (goodEdge t) (edges t) 7 andThen
+    demandEach (goodEdgeTo most t) (edges t) 7 andThen
     demandEach (goodMark t) (automata t) 17
+
+abbrev pub tableOutcome : List ℕ → Outcome
+tableOutcome t = tableOutcomeTo mostPrincipals t
 
 -- a query is four numbers, in this order: a principal, a role's owner and name, and a depth limit
 abbrev pub asQuery : ℕ → ℕ → ℕ → ℕ → Query
 asQuery p o n depth = record { principal = principal p; owner = principal o; name = name n; depth = depth }
 
 -- row 8: a depth limit is 1 to 16
-unfoldable pub queryOutcome : Query → Outcome
-queryOutcome q =
-    demand (isPrincipal (q .principal)) 8 1 andThen
-    demand (isPrincipal (q .owner)) 8 2 andThen
-    demand (isName (q .name)) 8 3 andThen
+unfoldable pub queryOutcomeTo : ℕ → Query → Outcome
+queryOutcomeTo most q =
+    demand (isPrincipalTo most (q .principal)) 8 1 andThen
+    demand (isPrincipalTo most (q .owner)) 8 2 andThen
+    demand (isNameTo most (q .name)) 8 3 andThen
     demand (within 1 mostDepth (q .depth)) 8 4
+
+abbrev pub queryOutcome : Query → Outcome
+queryOutcome q = queryOutcomeTo mostPrincipals q
 
 -- the checks of the request's rows
 unfoldable pub requestOutcome : List ℕ → Query → Outcome

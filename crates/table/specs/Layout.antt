@@ -118,18 +118,21 @@ unfoldable pub edge : List ℕ → ℕ → Edge
 edge t k = edgeAt t (edgesBase t + edgeSize * (k - 1))
 
 -- the numbers of the cells from cell j on, `most` of them at most: next leads on, and 0 ends the chain
-unfoldable pub cellsFrom : List ℕ → ℕ → ℕ → List ℕ
+unfoldable pub cellsFrom : (ℕ → Cell) → ℕ → ℕ → List ℕ
 unfolding pick
-cellsFrom t zero j = []
-cellsFrom t (suc most) j = pick (eqb j 0) [] (j ∷ cellsFrom t most (cell t j .next))
+cellsFrom cell zero j = []
+cellsFrom cell (suc most) j = pick (eqb j 0) [] (j ∷ cellsFrom cell most (cell j .next))
 
 -- the chain of a kind 4 credential; it is left as soon as a fifth cell is met
 abbrev pub chain : List ℕ → ℕ → List ℕ
-chain t j = cellsFrom t (suc mostParts) j
+chain t j = cellsFrom (cell t) (suc mostParts) j
 
 -- the roles of its parts, in chain order
-unfoldable pub parts : List ℕ → ℕ → List Role
-parts t j = map (λ (k : ℕ). cell t k .role) (chain t j)
+unfoldable pub partsBy : (ℕ → Cell) → ℕ → List Role
+partsBy cell j = map (λ (k : ℕ). cell k .role) (cellsFrom cell (suc mostParts) j)
+
+abbrev pub parts : List ℕ → ℕ → List Role
+parts t j = partsBy (cell t) j
 
 -- i is the number of one of n records
 pub record Numbered (n i : ℕ) : Type 0 where

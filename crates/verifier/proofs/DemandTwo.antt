@@ -19,7 +19,7 @@ use Rattle.derivation.specs.Words.{met}
 use Rattle.derivation.proofs.Complying.{complies-met, met-complies}
 use Rattle.reader.specs.Reading.{Reading}
 use Rattle.derivation.specs.Accepted.{Accepted}
-use Rattle.verifier.specs.Verdict.{judged, verdict}
+use Rattle.verifier.specs.Verdict.{judged, judgedBy, verdict}
 use Rattle.verifier.specs.DemandTwo.{DemandTwo, EveryRefusal, FirstRefusal, OneDerivation, Refuses}
 use Rattle.verifier.specs.DemandTwo.Refuses.{stops as reading, leftover, rejected}
 use Rattle.verifier.proofs.Readings.{Ends, ends-stop, queried, reader-complete, reader-ends, reader-stops}
@@ -43,7 +43,7 @@ ends-for t q rec = reader-ends t (q .depth) [] (goalOf q ∷ []) rec 1
 
 module _ (t : List ℕ) (wf : WellFormed t) (q : Query) (S : ℕ) where
   judged-accepts : {rec : List ℕ} {r : Reading} → EndsFor t q rec r → judged t r ≡ accepted S → Accepted t q rec S
-  unfolding judged
+  unfolding judgedBy
   judged-accepts (reads {rest = []} {f} d) e =
       record {
         forest = f;
@@ -56,10 +56,10 @@ module _ (t : List ℕ) (wf : WellFormed t) (q : Query) (S : ℕ) where
   judged-accepts (stops s) e = absurd (refused-accepted e)
 
   accepts-judged : {rec : List ℕ} → Accepted t q rec S → judged t (queried t q rec) ≡ accepted S
-  unfolding judged _andThen_
+  unfolding judgedBy _andThen_
   accepts-judged a =
       let all-met = each-all (met t (a .forest)) 14 (automata t) (complies-met wf (a .derives) (a .complies)) in
-      rw (← a .whole, ← append-nil (written (a .forest)), reader-complete (a .derives) [] 1, all-met, a .uses)
+      rw (← a .whole, ← append-nil (written (a .forest)), reader-complete t (a .derives) [] 1, all-met, a .uses)
 
 pub demand-two : DemandTwo
 demand-two t q rec S table valid =
@@ -69,8 +69,8 @@ demand-two t q rec S table valid =
 
 pub one-derivation : OneDerivation
 one-derivation t levels branch goals f f′ d d′ same =
-    let one = reader-complete d [] 1 in
-    let two = reader-complete d′ [] 1 in
+    let one = reader-complete t d [] 1 in
+    let two = reader-complete t d′ [] 1 in
     cc
 
 pub first-refusal : FirstRefusal
@@ -95,7 +95,7 @@ module _ (t : List ℕ) (q : Query) where
 
   judged-refuses : {rec : List ℕ} {r : Reading} {number position : ℕ} → EndsFor t q rec r → judged t r ≡ refused number position
       → Refuses t q rec number position
-  unfolding judged
+  unfolding judgedBy
   judged-refuses (reads {rest = []} {f} d) e =
       ⊎-elim (λ row. rejects d (each-refused (met t f) 14 (automata t) _ _ row))
       (λ (w, passed, last). absurd (refused-accepted (sym last)))
@@ -105,12 +105,12 @@ module _ (t : List ℕ) (q : Query) where
 
   refuses-judged : {rec : List ℕ} {number position : ℕ} → Refuses t q rec number position
       → judged t (queried t q rec) ≡ refused number position
-  unfolding judged _andThen_
+  unfolding judgedBy _andThen_
   refuses-judged (reading s) = rw (reader-stops s)
-  refuses-judged (leftover x more d whole) = rw (whole, reader-complete d (x ∷ more) 1)
+  refuses-judged (leftover x more d whole) = rw (whole, reader-complete t d (x ∷ more) 1)
   refuses-judged (rejected {f} {k} d whole within fails before) =
       let row = each-first (met t f) 14 (automata t) k (record { within = within; fails = fails; before = before }) in
-      rw (whole, ← append-nil (written f), reader-complete d [] 1, row)
+      rw (whole, ← append-nil (written f), reader-complete t d [] 1, row)
 
 pub every-refusal : EveryRefusal
 every-refusal t q rec number position table valid =

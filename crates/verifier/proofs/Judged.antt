@@ -27,7 +27,7 @@ use Rattle.attached.specs.Attached.{automataOf}
 use Rattle.reader.specs.Tally.{ReadOn, everyFrom, numbersTold, someFrom, tally, tallyOn}
 use Rattle.reader.specs.Tally.Tallied.{passed, stopped}
 use Rattle.verifier.specs.Kept.{allAutomata, keeps}
-use Rattle.verifier.specs.Verdict.{judged}
+use Rattle.verifier.specs.Verdict.{judged, judgedBy}
 use Rattle.verifier.specs.DemandTwo.{Stops}
 use Rattle.verifier.specs.DemandTwo.Stops.{short, unfit, deep, again, below, behind}
 use Rattle.verifier.proofs.DemandTwo.{first-refusal}
@@ -93,7 +93,7 @@ stop-number (behind h f d more) = stop-number more
 -- numbers are left over: 11 behind the last node
 leftover : (t rest : List ℕ) (f : Forest) (nodes : ℕ) (after : Reading) → after ≡ read rest f → nodes ≡ countFrom 0 f
     → (length rest ≡ 0 → ⊥) → refused 11 (nodes + 1) ≡ judged t after
-unfolding judged
+unfolding judgedBy
 leftover t [] f nodes after reads counts more = absurd (more refl)
 leftover t (x ∷ rest) f nodes after reads counts more = rw (reads, counts, add-one (countFrom 0 f), ← count-next 0 f)
 
@@ -102,7 +102,7 @@ words-verdict : (t : List ℕ) → WellFormed t → (q : Query) (rec : List ℕ)
     → queried t q rec ≡ read [] f
     → used ≡ usedFrom 0 f → (every ≡ everyFrom t (startingSets t) allAutomata f) × (some ≡ someFrom t (startingSets t) 0 f)
     → (demandEach (keeps t used every some) (automata t) 14 andThen accepted used) ≡ judged t (queried t q rec)
-unfolding judged usedSet
+unfolding judgedBy usedSet
 words-verdict t wf q rec f used every some whole uses (all, any) =
     let derives = reader-sound t (q .depth) [] (goalOf q ∷ []) rec 1 whole .0 in
     rw (whole, uses, all, any)
@@ -126,7 +126,7 @@ module _ {t : List ℕ} {q : Query} {levels : ℕ} {branch : List Goal} {g : Goa
   stops-number h = stop-number (first-refusal t (q .depth) [] (goalOf q ∷ []) rec 1 refusal nodes .0 (stops-there h))
 
   pub verdict-stops : (refusal ≡ 0 → ⊥) → refused refusal nodes ≡ judged t (queried t q rec)
-  unfolding judged
+  unfolding judgedBy
   verdict-stops h = rw (stops-there h)
 
   pub verdict-leftover : refusal ≡ 0 → (length rest ≡ 0 → ⊥) → refused 11 (nodes + 1) ≡ judged t (queried t q rec)

@@ -24,7 +24,7 @@ use Rattle.automata.specs.Automata.{accepts}
 use Rattle.automata.specs.Together.{acceptingSet, startingSets}
 use Rattle.derivation.specs.Forest.{Derives, Forest, usedSet}
 use Rattle.derivation.specs.Forest.Forest.{end, node}
-use Rattle.derivation.specs.Words.{acceptsAll, acceptsSome, isMet, met, words}
+use Rattle.derivation.specs.Words.{acceptsAll, acceptsSome, demandedBy, everyWord, isMet, met, someWord, words, wordsBy}
 use Rattle.reader.specs.Tally.{everyFrom, keptFrom, someFrom}
 use Rattle.verifier.specs.Kept.{allAutomata, keeps}
 use Rattle.derivation.proofs.Running.{accepting-member, accepts-all-append, accepts-some-append}
@@ -55,7 +55,7 @@ module _ (t : List ℕ) (k : ℕ) (own : Numbered (automata t) k) (few : automat
 
   kept-member : (above : List Role) (kept : ℕ) (f : Forest)
       → inSet (keptFrom join t (setsAfter t above) kept f) (k - 1) ≡ op (inSet kept (k - 1)) (over (words t above f))
-  unfolding keptFrom words
+  unfolding keptFrom wordsBy
   kept-member above kept end = sym (none _)
   kept-member above kept (node c m children siblings) =
       let word = above ++ (credential t c .role ∷ []) in
@@ -66,14 +66,14 @@ module _ (t : List ℕ) (k : ℕ) (own : Numbered (automata t) k) (few : automat
 
 module _ (t : List ℕ) (k : ℕ) (own : Numbered (automata t) k) (few : automata t ≤ mostAutomata) (f : Forest) where
   every-member : inSet (everyFrom t (startingSets t) allAutomata f) (k - 1) ≡ acceptsAll t k (words t [] f)
-  unfolding acceptsAll _and_
+  unfolding everyWord _and_
   every-member =
       let kept = kept-member t k own few bitAnd _and_ (acceptsAll t k) (λ x y. inSet-and x y (k - 1)) and-true
       (λ word. and-true (accepts t k word)) (accepts-all-append t k) and-assoc [] allAutomata f in
       rw (← sets-after-none t, kept, all-automata k (omega arith))
 
   some-member : inSet (someFrom t (startingSets t) 0 f) (k - 1) ≡ acceptsSome t k (words t [] f)
-  unfolding acceptsSome _or_
+  unfolding someWord _or_
   some-member =
       let kept = kept-member t k own few bitOr _or_ (acceptsSome t k) (λ x y. inSet-or x y (k - 1)) or-false
       (λ word. or-false (accepts t k word)) (accepts-some-append t k) or-assoc [] 0 f in
@@ -83,7 +83,7 @@ module _ (t : List ℕ) (k : ℕ) (own : Numbered (automata t) k) (few : automat
   mark-member : inSet (pick (eqb (automaton t k .mark) 1) (someFrom t (startingSets t) 0 f)
       (everyFrom t (startingSets t) allAutomata f)) (k - 1)
       ≡ isMet t k (words t [] f)
-  unfolding isMet
+  unfolding demandedBy
   mark-member = pick-apart (λ x. inSet x (k - 1)) _ _ _ ∙ rw (some-member, every-member)
 
 pub words-judged : (t : List ℕ) (l : ℕ) (b gs : List Goal) (f : Forest) → WellFormed t → Derives t l b gs f

@@ -12,8 +12,8 @@ use Rattle.table.specs.declared.Query.{Query}
 use Rattle.derivation.specs.Rules.{fresh, goalOf, premises}
 use Rattle.derivation.specs.Forest.{Derives, Forest, countFrom, written}
 use Rattle.derivation.specs.Forest.Forest.{end}
-use Rattle.derivation.specs.Forest.Derives.{done, step}
-use Rattle.entering.specs.Entry.{admitted, entry}
+use Rattle.derivation.specs.Forest.DerivesBy.{done, step}
+use Rattle.entering.specs.Entry.{admitted, entry, entryBy}
 use Rattle.entering.specs.Entry.Entry.{halt}
 use Rattle.reader.specs.Reading.{Reading, entered, followed, joined, reader}
 use Rattle.reader.specs.Reading.Reading.{read, stop}
@@ -46,7 +46,7 @@ module _ (t : List ℕ) (branch later : List Goal) (g : Goal) (at : ℕ) (deeper
   floor-admits c m rec (some goals) e = stops (deep e)
 
   floor-ends : (rec : List ℕ) → Ends t zero branch (g ∷ later) at rec (entered at deeper next (entry t false g rec))
-  unfolding entered entry
+  unfolding entered entryBy
   floor-ends [] = stops (short {rec = []} (omega arith))
   floor-ends (c ∷ []) = stops (short {rec = c ∷ []} (omega arith))
   floor-ends (c ∷ m ∷ rec) = floor-admits c m rec (premises t g c m) refl
@@ -82,7 +82,7 @@ module _ (t : List ℕ) (levels : ℕ) (branch later : List Goal) (g : Goal) (at
 
     node-ends : (rec : List ℕ)
         → Ends t (suc levels) branch (g ∷ later) at rec (entered at deeper next (entry t (fresh branch g) g rec))
-    unfolding entered entry
+    unfolding entered entryBy
     node-ends [] = stops (short {rec = []} (omega arith))
     node-ends (c ∷ []) = stops (short {rec = c ∷ []} (omega arith))
     node-ends (c ∷ m ∷ rec) = node-admits c m rec (premises t g c m) refl (fresh branch g) refl
@@ -133,18 +133,18 @@ passes : (t : List ℕ) (levels c m : ℕ) (branch goals later : List Goal) (g :
     → premises t g c m ≡ some goals → fresh branch g ≡ true
     → reader t (suc levels) branch (g ∷ later) (c ∷ m ∷ rec) at
     ≡ followed c m (suc at) (reader t (suc levels) branch later) (reader t levels (g ∷ branch) goals rec (suc at))
-unfolding entry entered admitted pick
+unfolding entryBy entered admitted pick
 passes t levels c m branch goals later g rec at fits new = rw (reader-node t branch (c ∷ m ∷ rec) at levels g later, fits, new)
 
-pub reader-complete : {t : List ℕ} {levels : ℕ} {branch goals : List Goal} {f : Forest} → Derives t levels branch goals f
+pub reader-complete : (t : List ℕ) {levels : ℕ} {branch goals : List Goal} {f : Forest} → Derives t levels branch goals f
     → (rest : List ℕ) (at : ℕ) → reader t levels branch goals (written f ++ rest) at ≡ read rest f
 unfolding written followed joined
-reader-complete {t} (done {levels} {branch}) rest at = reader-end t branch rest at levels
-reader-complete {t} (step {levels} {c} {m} {branch} {goals} {rest = later} {g} {children} {siblings} fits new d s) rest at =
+reader-complete t (done {levels} {branch}) rest at = reader-end t branch rest at levels
+reader-complete t (step {levels} {c} {m} {branch} {goals} {rest = later} {g} {children} {siblings} fits new d s) rest at =
     let behind = written siblings ++ rest in
     let here = passes t levels c m branch goals later g (written children ++ behind) at fits new in
-    let inside = reader-complete d behind (suc at) in
-    let after = reader-complete s rest (countFrom (suc at) children) in
+    let inside = reader-complete t d behind (suc at) in
+    let after = reader-complete t s rest (countFrom (suc at) children) in
     rw (append-assoc (written children) (written siblings) rest, here, inside, after)
 
 -- a node that halts whatever its level and branch
@@ -157,7 +157,7 @@ halts t (suc levels) branch later g rec at number refuses =
 
 pub reader-stops : {t : List ℕ} {levels : ℕ} {branch goals : List Goal} {rec : List ℕ} {at number position : ℕ}
     → Stops t levels branch goals rec at number position → reader t levels branch goals rec at ≡ stop number position
-unfolding entered entry admitted pick followed joined
+unfolding entered entryBy admitted pick followed joined
 reader-stops {t} (short {levels} {at} {branch} {later} {g} {rec} few) =
     halts t levels branch later g rec at 11 (λ may. sym (entry-short t may g rec few))
 reader-stops {t} (unfit {levels} {at} {c} {m} {branch} {later} {g} {rec} lacks) =
@@ -170,4 +170,4 @@ reader-stops {t} (below {levels} {at} {c} {m} {branch} {goals} {later} {g} {rec}
     rw (passes t levels c m branch goals later g rec at fits new, reader-stops s)
 reader-stops {t} (behind {levels} {at} {c} {m} {branch} {goals} {later} {g} {rec} {children} fits new d s) =
     let passed = passes t levels c m branch goals later g (written children ++ rec) at fits new in
-    rw (passed, reader-complete d rec (suc at), reader-stops s)
+    rw (passed, reader-complete t d rec (suc at), reader-stops s)

@@ -10,19 +10,19 @@ use Rattle.table.specs.declared.Query.{Query}
 use Rattle.table.proofs.Opened as table
 use Rattle.sets.specs.Sets.{inSet, meets}
 use Rattle.edges.specs.Edges.{leads, matches}
-use Rattle.automata.specs.Automata.{accepts, acceptsFrom, moved, movedBy, run, starting}
-use Rattle.derivation.specs.Rules.{asks, fresh, premises, sameGoal}
+use Rattle.automata.specs.Automata.{accepts, acceptsFrom, moved, movedBy, runBy, starting}
+use Rattle.derivation.specs.Rules.{asksBy, fresh, premises, premisesBy, sameGoal, usable}
 use Rattle.derivation.specs.Forest.{countFrom, usedFrom, usedSet}
-use Rattle.derivation.specs.Words.{acceptsAll, acceptsSome, isMet, met, usesAutomaton, words}
-use Rattle.entering.specs.Entry.{admitted, entry}
-use Rattle.reader.specs.Reading.{entered, followed, joined, readAll, reader}
-use Rattle.verifier.specs.Verdict.{judged, verdict}
+use Rattle.derivation.specs.Words.{demandedBy, everyWord, met, someWord, usesBy, wordsBy}
+use Rattle.entering.specs.Entry.{admitted, entryBy}
+use Rattle.reader.specs.Reading.{entered, followed, joined, readAll, readerBy}
+use Rattle.verifier.specs.Verdict.{judgedBy, verdict}
 
 -- what a verdict computes with
 unfoldable pub opened : Unit {0}
-unfolding table.opened inSet meets accepts acceptsFrom leads matches moved movedBy run starting asks fresh premises sameGoal
-    countFrom usedFrom usedSet acceptsAll acceptsSome isMet met usesAutomaton words admitted entered entry followed joined readAll
-    reader judged verdict
+unfolding table.opened inSet meets accepts acceptsFrom leads matches moved movedBy runBy starting asksBy fresh premises premisesBy usable sameGoal
+    countFrom usedFrom usedSet everyWord someWord demandedBy met usesBy wordsBy admitted entered entryBy followed joined readAll
+    readerBy judgedBy verdict
 opened = tt
 
 pub record ShopRow : Type 0 where

@@ -8,7 +8,7 @@ use Rattle.table.specs.Layout.{automata}
 use Rattle.table.specs.Checks.{requestOutcome, told}
 use Rattle.table.specs.declared.Query.{Query}
 use Rattle.derivation.specs.Rules.{goalOf}
-use Rattle.derivation.specs.Forest.{countFrom, usedSet}
+use Rattle.derivation.specs.Forest.{Forest, countFrom, usedSet}
 use Rattle.derivation.specs.Words.{met}
 use Rattle.reader.specs.Reading.{Reading, reader}
 use Rattle.reader.specs.Reading.Reading.{read, stop}
@@ -16,10 +16,14 @@ use Rattle.verifier.specs.declared.Verdict.{Verdict}
 use Rattle.verifier.specs.declared.Verdict.the-variants as verdict′
 
 -- numbers left over come after the last node, and 14, with the lowest used automaton that is not met, last
-unfoldable pub judged : List ℕ → Reading → Outcome
-judged t (stop number at) = refused number at
-judged t (read [] f) = demandEach (met t f) (automata t) 14 andThen accepted (usedSet f)
-judged t (read (x ∷ more) f) = refused 11 (countFrom 1 f)
+-- by when a derivation meets an automaton, of so many
+unfoldable pub judgedBy : (Forest → ℕ → Bool) → ℕ → Reading → Outcome
+judgedBy met automata (stop number at) = refused number at
+judgedBy met automata (read [] f) = demandEach (met f) automata 14 andThen accepted (usedSet f)
+judgedBy met automata (read (x ∷ more) f) = refused 11 (countFrom 1 f)
+
+abbrev pub judged : List ℕ → Reading → Outcome
+judged t r = judgedBy (met t) (automata t) r
 
 -- the goal is at level 1, node 1, with nothing above it
 unfoldable pub verdict : List ℕ → Query → List ℕ → Outcome

@@ -24,7 +24,7 @@ use Rattle.automata.specs.declared.StateSets.{StateSets}
 use Rattle.derivation.specs.Rules.{premises}
 use Rattle.derivation.specs.Forest.{Derives, Forest}
 use Rattle.derivation.specs.Forest.Forest.{end, node}
-use Rattle.derivation.specs.Words.{acceptsSome, words}
+use Rattle.derivation.specs.Words.{acceptsSome, someWord, words, wordsBy}
 use Rattle.derivation.proofs.Applying.{applies-role, asks-more}
 use Rattle.derivation.proofs.Ruling.{asks-nothing}
 use Rattle.derivation.proofs.Running.{accepts-some-append}
@@ -100,7 +100,7 @@ module _ (t : List ℕ) (wf : WellFormed t) (A O : ℕ) where
   -- the automata of O that accept the word
   own-exact : (s : StateSets) (word : List Role) → Led t (bitOr A O) s word → (k : ℕ)
       → inSet (bitAnd O (acceptingSet t s)) k ≡ (inSet O k and acceptsSome t (suc k) (word ∷ []))
-  unfolding acceptsSome
+  unfolding someWord
   own-exact s word led k = inSet-and O (acceptingSet t s) k ∙ go (inSet O k) refl
     where
       go : (b : Bool) → inSet O k ≡ b
@@ -112,7 +112,7 @@ module _ (t : List ℕ) (wf : WellFormed t) (A O : ℕ) where
       go false other = and-is-off _ other ∙ sym (and-is-off _ other)
 
   none-accepted : (k : ℕ) → acceptsSome t k [] ≡ false
-  unfolding acceptsSome
+  unfolding someWord
   none-accepted k = refl
 
   both-exact : (a x y : Bool) → ((a and x) or (a and y)) ≡ (a and (x or y))
@@ -130,7 +130,7 @@ module _ (t : List ℕ) (wf : WellFormed t) (A O : ℕ) where
   -- just those that accept some word of the forest
   pub met-exact : (f : Forest) (s : StateSets) (w : List Role) → Led t (bitOr A O) s w → (k : ℕ)
       → inSet (metFrom t A O s f) k ≡ (inSet O k and acceptsSome t (suc k) (words t w f))
-  unfolding metFrom words
+  unfolding metFrom wordsBy
   met-exact end s w led k = inSet-zero k ∙ sym (and-none (inSet O k) (none-accepted (suc k)))
   met-exact (node c m children siblings) s w led k =
       let below = stepped t (bitOr A O) (credential t c .role) s in

@@ -13,7 +13,7 @@ use lib.Bits.{bitOr}
 use borrow.Author.Tests.{ne-eqb}
 use Rattle.sets.specs.Logic.{pick}
 use Rattle.sets.specs.Sets.{inSet}
-use Rattle.sets.proofs.Tests.{and-both, and-second}
+use Rattle.sets.proofs.Tests.{and-both}
 use Rattle.sets.proofs.Members.{part-le}
 use Rattle.table.specs.Holding.{WellFormed}
 use Rattle.table.specs.declared.Role.{Role}
@@ -22,9 +22,9 @@ use Rattle.automata.specs.declared.StateSets.{StateSets}
 use Rattle.derivation.specs.Rules.{fresh, premises}
 use Rattle.derivation.specs.Forest.{Derives, Forest, written}
 use Rattle.derivation.specs.Forest.Forest.{end, node}
-use Rattle.derivation.specs.Forest.Derives.{done, step}
-use Rattle.derivation.specs.Words.{acceptsAll, words}
-use Rattle.derivation.proofs.Applying.{applies-numbered, picked}
+use Rattle.derivation.specs.Forest.DerivesBy.{done, step}
+use Rattle.derivation.specs.Words.{everyWord, words, wordsBy}
+use Rattle.derivation.proofs.Applying.{applies-defines, applies-numbered}
 use Rattle.verifier.proofs.DemandTwo.{one-derivation}
 use Rattle.members.specs.Trying.{mayUse, provedPremises, provesBy}
 use Rattle.members.specs.declared.above.Above.{Above}
@@ -71,9 +71,9 @@ module _ (t : List ℕ) (wf : WellFormed t) (S A O levels : ℕ) (above : Above)
 
   -- its credential is no less than the first
   credential-no-less : inSet S (c - 1) ≡ true → provesBy t all word g c ≡ true → c₁ ≤ c
-  unfolding mayUse premises
+  unfolding mayUse
   credential-no-less own proves =
-      let defines = and-second _ _ (picked _ _ goals applies .0) in
+      let defines = applies-defines t g c m goals applies in
       least-credential-least t S all word g c (applies-numbered t g c m goals applies) (and-both own defines) proves
 
   -- where it is the first its middle is no less either, and where both are the same the rest decides
@@ -107,7 +107,7 @@ module _ (t : List ℕ) (wf : WellFormed t) (S A O : ℕ) where
   -- the words of what a node asks are among the node's
   below-accepted : {levels : ℕ} {branch goals : List Goal} {f : Forest} (word : List Role) → Derives t levels branch goals f
       → AllAccept t A (nodeWords t goals word f) → AllAccept t A (words t word f)
-  unfolding nodeWords pick words acceptsAll
+  unfolding nodeWords pick wordsBy everyWord
   below-accepted word done all = λ k h. refl
   below-accepted word (step {rest = rest} applies new d later) all = rw (ne-eqb (suc (length rest)) 0 (λ e. omega arith)) at all
 

@@ -20,8 +20,8 @@ use Rattle.automata.specs.declared.StateSets.{StateSets}
 use Rattle.derivation.specs.Rules.{fresh, premises}
 use Rattle.derivation.specs.Forest.{Derives, Forest}
 use Rattle.derivation.specs.Forest.Forest.{end, node}
-use Rattle.derivation.specs.Forest.Derives.{done, step}
-use Rattle.derivation.specs.Words.{acceptsAll, words}
+use Rattle.derivation.specs.Forest.DerivesBy.{done, step}
+use Rattle.derivation.specs.Words.{everyWord, words, wordsBy}
 use Rattle.members.specs.declared.above.Above.{Above}
 use Rattle.members.proofs.Branching.{OnBranch, on-next}
 use Rattle.search.specs.Search.{AllAccept, UsesOnly, proves}
@@ -57,7 +57,7 @@ pub record NodeShows (t : List ℕ) (S A levels : ℕ) (branch : List Goal) (w :
 
 module _ (t : List ℕ) (wf : WellFormed t) (S A O : ℕ) where
   shows-none : (levels : ℕ) (branch : List Goal) (w : List Role) → Shows t S A levels branch w [] end
-  unfolding words acceptsAll
+  unfolding wordsBy everyWord
   shows-none levels branch w = record { derives = done; usesOnly = only-end S; accepted = λ k h. refl }
 
   -- a node beside what follows

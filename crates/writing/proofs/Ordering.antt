@@ -51,7 +51,7 @@ order-next x y l rest =
 
 pub none-begins : NoneBegins
 none-begins t levels branch goals f f′ more d d′ longer =
-    let one = reader-complete d more 1 in
-    let other = reader-complete d′ [] 1 in
+    let one = reader-complete t d more 1 in
+    let other = reader-complete t d′ [] 1 in
     let whole = append-nil (written f′) in
     cc

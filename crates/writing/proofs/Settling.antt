@@ -19,7 +19,7 @@ use Rattle.table.specs.Layout.{automata, automaton}
 use Rattle.table.specs.Holding.{WellFormed}
 use Rattle.table.specs.declared.Query.{Query}
 use Rattle.table.proofs.WellFormed.{wf-credential, wf-mark}
-use Rattle.derivation.specs.Words.{isMet, words}
+use Rattle.derivation.specs.Words.{demandedBy, isMet, words}
 use Rattle.derivation.specs.Accepted.{Accepted}
 use Rattle.attached.specs.Attached.{automataOf, everyOf, markedOf, owedOf}
 use Rattle.attached.proofs.Attaching.{every-member, owed-member}
@@ -107,13 +107,13 @@ module _ (t : List ℕ) (q : Query) (rec : List ℕ) (S : ℕ) (a : Accepted t q
       rw own at (a .complies (suc i) named (λ z. omega (arith, own)))
 
   pub meets-every : AllAccept t (everyOf t S) (words t [] (a .forest))
-  unfolding isMet pick
+  unfolding demandedBy pick
   meets-every k h =
       let (borne, zero) = every-shows t S k h in
       rw zero at (borne-met k borne)
 
   pub meets-owed : SomeAccept t (owedOf t S) (words t [] (a .forest))
-  unfolding isMet pick
+  unfolding demandedBy pick
   meets-owed k h =
       let (borne, one) = owed-shows t S k h in
       rw one at (borne-met k borne)

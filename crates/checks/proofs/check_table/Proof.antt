@@ -10,7 +10,7 @@ use Rattle.table.specs.Outcome.{Outcome, _andThen_, demandEach}
 use Rattle.table.specs.Outcome.Outcome.{accepted}
 use Rattle.table.specs.Layout.{credentials}
 use Rattle.table.specs.Holding.{Sized}
-use Rattle.table.specs.Checks.{goodChain, headOutcome, numberOf, tableOutcome}
+use Rattle.table.specs.Checks.{goodChain, headOutcome, numberOf, tableOutcome, tableOutcomeTo}
 use Rattle.table.proofs.Sizes.{sized}
 use Rattle.table.proofs.Stages.{refused-then, then-on}
 use Rattle.scans.specs.Rows.{good, records, rowOutcome}
@@ -34,7 +34,7 @@ abbrev from-credentials : List ℕ → Outcome
 from-credentials t = rowOutcome t row.Credentials 4 andThen from-cells t
 
 by-rows : (t : List ℕ) → (headOutcome t andThen from-credentials t) ≡ tableOutcome t
-unfolding tableOutcome rowOutcome good records
+unfolding tableOutcomeTo rowOutcome good records
 by-rows t = refl
 
 -- no edges and no automata: nothing is asked

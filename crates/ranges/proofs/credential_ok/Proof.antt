@@ -2,7 +2,7 @@
 use mathlib.Core.Path.{_∙_}
 use borrow.Author.Needs.{needs}
 use Rattle.sets.proofs.Tests.{flag-off, flag-on}
-use Rattle.table.specs.Checks.{credentialOk}
+use Rattle.table.specs.Checks.{credentialTo}
 use Rattle.ranges.proofs.credential_ok.Statement.{statement}
 use Rattle.ranges.proofs.credential_ok.Tie as tie
 
@@ -16,7 +16,7 @@ wide-requires : tie.Need-wide-requires
 wide-requires c κs = search needs
 
 returns : tie.Need-returns
-unfolding credentialOk
+unfolding credentialTo
 returns c =
     let meaning-ok = c .before .before .meaning-ok in
     let is-role = c .before .before .before .before .is-role in
@@ -24,14 +24,14 @@ returns c =
     rw (← c .wide .ensures .0) (flag-on (meaning-ok .ensures) (c .before .if2 .taken) ∙ flag-on (is-role .ensures) (if1 .taken))
 
 returns-2 : tie.Need-returns-2
-unfolding credentialOk
+unfolding credentialTo
 returns-2 c =
     let is-role = c .before .before .before .is-role in
     let if1 = c .before .before .if1 in
     flag-off _ (c .before .meaning-ok .ensures) (c .if2 .left) ∙ flag-on (is-role .ensures) (if1 .taken)
 
 returns-3 : tie.Need-returns-3
-unfolding credentialOk
+unfolding credentialTo
 returns-3 c = flag-off _ (c .before .is-role .ensures) (c .if1 .left)
 
 pub credential-ok-spec : {M : Type 1} → statement M

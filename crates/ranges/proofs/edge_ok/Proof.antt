@@ -3,7 +3,7 @@ use mathlib.Core.Path.{_∙_}
 use borrow.Author.Needs.{needs}
 use borrow.Author.Tests.{le-leb, lt-leb}
 use Rattle.sets.proofs.Tests.{and-off, and-on, flag-off, flag-on}
-use Rattle.table.specs.Checks.{edgeOk}
+use Rattle.table.specs.Checks.{edgeTo}
 use Rattle.ranges.proofs.edge_ok.Statement.{statement}
 use Rattle.ranges.proofs.edge_ok.Tie as tie
 
@@ -14,7 +14,7 @@ label-ok-requires : tie.Need-label-ok-requires
 label-ok-requires c κs = search needs
 
 returns : tie.Need-returns
-unfolding edgeOk
+unfolding edgeTo
 returns c =
     let if2 = c .before .before .before .if2 in
     let within = c .before .before .before .before .before .before .within in
@@ -23,7 +23,7 @@ returns c =
     flag-on (within .ensures) (if1 .taken)
 
 returns-2 : tie.Need-returns-2
-unfolding edgeOk
+unfolding edgeTo
 returns-2 c =
     let if2 = c .before .before .if2 in
     let within = c .before .before .before .before .before .within in
@@ -32,14 +32,14 @@ returns-2 c =
     (if1 .taken)
 
 returns-3 : tie.Need-returns-3
-unfolding edgeOk
+unfolding edgeTo
 returns-3 c =
     let within = c .before .before .before .within in
     let if1 = c .before .before .if1 in
     and-off _ (lt-leb _ _ (c .if2 .left)) ∙ flag-on (within .ensures) (if1 .taken)
 
 returns-4 : tie.Need-returns-4
-unfolding edgeOk
+unfolding edgeTo
 returns-4 c = flag-off _ (c .before .within .ensures) (c .if1 .left)
 
 pub edge-ok-spec : {M : Type 1} → statement M

@@ -1,6 +1,6 @@
 -- `ranges::is_name` meets its contract: by that of `within`. Assumes nothing.
 use borrow.Author.Needs.{needs}
-use Rattle.table.specs.Checks.{isName}
+use Rattle.table.specs.Checks.{isNameTo}
 use Rattle.ranges.proofs.is_name.Statement.{statement}
 use Rattle.ranges.proofs.is_name.Tie as tie
 
@@ -11,7 +11,7 @@ within-requires : tie.Need-within-requires
 within-requires c κs = search needs
 
 returns : tie.Need-returns
-unfolding isName
+unfolding isNameTo
 returns c = c .within .ensures
 
 pub is-name-spec : {M : Type 1} → statement M

@@ -2,7 +2,7 @@
 use mathlib.Core.Path.{_∙_}
 use borrow.Author.Needs.{needs}
 use Rattle.sets.proofs.Tests.{flag-off, flag-on}
-use Rattle.table.specs.Checks.{isName, isRole}
+use Rattle.table.specs.Checks.{isName, isRoleTo}
 use Rattle.ranges.proofs.is_role.Statement.{statement}
 use Rattle.ranges.proofs.is_role.Tie as tie
 
@@ -13,13 +13,13 @@ is-name-requires : tie.Need-is-name-requires
 is-name-requires c κs = search needs
 
 returns : tie.Need-returns
-unfolding isRole
+unfolding isRoleTo
 returns c =
     let is-principal = c .before .before .is-principal in
     c .is-name .ensures ∙ flag-on (is-principal .ensures) (c .before .if1 .taken)
 
 returns-2 : tie.Need-returns-2
-unfolding isRole
+unfolding isRoleTo
 returns-2 c = flag-off (isName _) (c .before .is-principal .ensures) (c .if1 .left)
 
 pub is-role-spec : {M : Type 1} → statement M

@@ -1,6 +1,6 @@
 -- `scans::Row::is_good` meets its contract: row by row, the record is read and tested. Assumes nothing.
 use borrow.Author.Needs.{needs}
-use Rattle.table.specs.Checks.{goodCell, goodCredential, goodEdge, goodMark}
+use Rattle.table.specs.Checks.{goodCellTo, goodCredentialTo, goodEdgeTo, goodMark}
 use Rattle.scans.specs.Rows.{good, records}
 use Rattle.scans.proofs.Row.is_good.Statement.{statement}
 use Rattle.scans.proofs.Row.is_good.Tie as tie
@@ -58,20 +58,20 @@ mark-ok-requires : tie.Need-mark-ok-requires
 mark-ok-requires c κs = search needs
 
 returns : tie.Need-returns
-unfolding good goodCredential
+unfolding good goodCredentialTo
 returns c =
     let read = c .before .before .before .credential .ensures in
     let row = c .before .before .before .before .enum-told .given .1 in
     rw (row, ← read, ← c .before .before .cells .ensures .same, ← c .before .automata .ensures .same) (c .credential-ok .ensures)
 
 returns-2 : tie.Need-returns-2
-unfolding good goodCell
+unfolding good goodCellTo
 returns-2 c =
     let row = c .before .before .before .enum-told2 .given .1 in
     rw (row, ← c .before .before .cell .ensures, ← c .before .cells2 .ensures .same) (c .cell-ok .ensures)
 
 returns-3 : tie.Need-returns-3
-unfolding good goodEdge
+unfolding good goodEdgeTo
 returns-3 c =
     let row = c .before .before .before .enum-told3 .given .1 in
     rw (row, ← c .before .before .edge .ensures, ← c .before .automata2 .ensures .same) (c .edge-ok .ensures)
