@@ -6,6 +6,7 @@ use mathlib.Core.Logic.{_⊎_}
 use lib.ListN.{getD, length, set}
 use lib.Bits.{bitOr}
 use Rattle.table.specs.Limits.{mostAutomata, mostCredentials}
+use Rattle.table.specs.Layout.{edge}
 use Rattle.table.specs.declared.Edge.{Edge}
 use Rattle.table.specs.declared.Role.{Role}
 use Rattle.automata.specs.Automata.{movedBy}

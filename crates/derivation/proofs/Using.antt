@@ -32,7 +32,7 @@ place zero i h = absurd (h refl)
 place (suc c) i h = rw (sub-one (suc c), eqb·suc-suc c i)
 
 -- where no credential is 0, the used set has those that were in it before and those that are named
-used-member : (f : Forest) → names f 0 ≡ false → (used i : ℕ) → inSet (usedFrom used f) i ≡ (inSet used i or names f (suc i))
+pub used-member : (f : Forest) → names f 0 ≡ false → (used i : ℕ) → inSet (usedFrom used f) i ≡ (inSet used i or names f (suc i))
 unfolding usedFrom names
 used-member end h used i = sym (or-false (inSet used i))
 used-member (node c m children siblings) h used i =

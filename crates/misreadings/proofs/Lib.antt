@@ -1,3 +1,1 @@
 pub mod Misreadings
-pub mod Upgrading
-pub mod Unmarked

@@ -9,30 +9,22 @@ use Rattle.table.specs.Shop.{annAsks, tableT}
 use Rattle.table.specs.declared.Query.{Query}
 use Rattle.table.proofs.Stages.{refused-accepted}
 use Rattle.derivation.specs.Words.{met}
-use Rattle.reader.specs.Reading.{Reading}
-use Rattle.reader.specs.Reading.Reading.{read, stop}
-use Rattle.verifier.specs.Verdict.{judged, judgedBy, verdict}
+use Rattle.verifier.specs.Verdict.{verdict}
 use Rattle.listing.specs.Minimal.{minimalSets}
 use Rattle.listing.proofs.Minimals.{is-minimal-set}
 use Rattle.listing.proofs.Shop as lists
 use Rattle.misreadings.specs.Misreadings.{Fewest, Misreadings, atEachUse, discountFirst, fewestSets, howMany, isAttached}
-use Rattle.misreadings.specs.Misreadings.{isFewest, judgedBy, metFromOwnNode, metThroughOwnNode, metUsedOrNot}
+use Rattle.misreadings.specs.Misreadings.{isFewest, metFromOwnNode, metThroughOwnNode, metUsedOrNot}
 use Rattle.misreadings.specs.Misreadings.{firstAccepted, metFirstWord, notAccredited, notStudent, outright, verdictBy}
 
 -- with our own notion of when an automaton is met the verdict is ours
-judged-by-met : (t : List ℕ) (r : Reading) → judgedBy met t r ≡ judged t r
-unfolding judgedBy judgedBy
-judged-by-met t (stop number at) = refl
-judged-by-met t (read [] f) = refl
-judged-by-met t (read (x ∷ more) f) = refl
-
 verdict-by-met : (t : List ℕ) (q : Query) (rec : List ℕ) → verdictBy met t q rec ≡ verdict t q rec
 unfolding verdictBy verdict
-verdict-by-met t q rec = rw (judged-by-met t)
+verdict-by-met t q rec = refl
 
 -- what the misreadings compute with
 unfoldable opened : Unit {0}
-unfolding lists.opened judgedBy verdictBy atEachUse metFromOwnNode metThroughOwnNode isAttached metUsedOrNot firstAccepted
+unfolding lists.opened verdictBy atEachUse metFromOwnNode metThroughOwnNode isAttached metUsedOrNot firstAccepted
     metFirstWord howMany isFewest fewestSets discountFirst notAccredited notStudent
 opened = tt
 

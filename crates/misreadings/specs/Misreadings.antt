@@ -8,7 +8,7 @@ use mathlib.Core.Bool.{Bool, true, not}
 use lib.ListN.{length}
 use lib.Dec.{eqb, ltb}
 use Rattle.sets.specs.Logic.{_and_, _or_, anyBelow}
-use Rattle.table.specs.Outcome.{Outcome, _andThen_, demandEach}
+use Rattle.table.specs.Outcome.{Outcome, _andThen_}
 use Rattle.table.specs.Outcome.Outcome.{accepted, refused}
 use Rattle.table.specs.Layout.{automata, credential, credentials}
 use Rattle.table.specs.Checks.{requestOutcome}
@@ -19,25 +19,19 @@ use Rattle.table.specs.declared.Query.{Query}
 use Rattle.sets.specs.Sets.{inSet}
 use Rattle.automata.specs.Automata.{accepts}
 use Rattle.derivation.specs.Rules.{goalOf}
-use Rattle.derivation.specs.Forest.{Forest, countFrom, usedSet}
+use Rattle.derivation.specs.Forest.{Forest}
 use Rattle.derivation.specs.Forest.Forest.{end, node}
 use Rattle.derivation.specs.Words.{isMet, met, usesAutomaton, words}
-use Rattle.reader.specs.Reading.{Reading, reader}
-use Rattle.reader.specs.Reading.Reading.{read, stop}
-use Rattle.verifier.specs.Verdict.{verdict}
+use Rattle.reader.specs.Reading.{reader}
+use Rattle.verifier.specs.Verdict.{judgedBy, verdict}
 use Rattle.sorted.specs.Sorted.{those}
 use Rattle.admission.specs.Admits.{admits}
 use Rattle.listing.specs.Minimal.{minimalSets}
 use Rattle.listing.specs.Demands.{Minimal, Used}
 
 -- the verifier, with another notion of when a derivation meets an automaton of the table than our `met`
-unfoldable pub judgedBy : (List ℕ → Forest → ℕ → Bool) → List ℕ → Reading → Outcome
-judgedBy isMet t (stop number at) = refused number at
-judgedBy isMet t (read [] f) = demandEach (isMet t f) (automata t) 14 andThen accepted (usedSet f)
-judgedBy isMet t (read (x ∷ more) f) = refused 11 (countFrom 1 f)
-
 unfoldable pub verdictBy : (List ℕ → Forest → ℕ → Bool) → List ℕ → Query → List ℕ → Outcome
-verdictBy isMet t q rec = requestOutcome t q andThen judgedBy isMet t (reader t (q .depth) [] (goalOf q ∷ []) rec 1)
+verdictBy isMet t q rec = requestOutcome t q andThen judgedBy (isMet t) (automata t) (reader t (q .depth) [] (goalOf q ∷ []) rec 1)
 
 -- at each node whose credential has automaton k, the roles above the node and the node with all below it pass the test
 unfoldable pub atEachUse : List ℕ → ℕ → (List Role → Forest → Bool) → List Role → Forest → Bool

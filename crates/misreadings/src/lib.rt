@@ -1,4 +1,3 @@
 // Readings of the source that docs/DEFINITION.md names as wrong, each as a definition with a table on which it differs from
 // ours. The crate has no function: specs/Misreadings.antt says what each reading tells and where it goes astray, and
-// proofs/Misreadings.antt shows it by computation. Beside them stands what held before, for whoever upgrades:
-// specs/Upgrading.antt has the rule that no role comes twice, specs/Unmarked.antt the table without marks.
+// proofs/Misreadings.antt shows it by computation.

@@ -21,8 +21,8 @@ use Rattle.writing.specs.Writes.{NoneBegins, WritesFirst}
 use Rattle.writing.specs.Promised.{WrittenNoneTwice}
 use Rattle.printing.specs.Printed.{DecimalReads}
 use Rattle.misreadings.specs.Misreadings.{Misreadings}
-use Rattle.misreadings.specs.Upgrading.{Upgrading as UpgradingLists}
-use Rattle.misreadings.specs.Unmarked.{SameFirst, SameMinimal, SameVerdicts}
+use Rattle.upgrading.specs.Upgrading.{Upgrading as UpgradingLists}
+use Rattle.upgrading.specs.Unmarked.{SameFirst, SameMinimal, SameVerdicts}
 use Rattle.table.proofs.Promised as table
 use Rattle.table.proofs.Upgrading as table-upgrading
 use Rattle.automata.proofs.Promised as automata
@@ -42,8 +42,8 @@ use Rattle.writing.proofs.Promised as writing-promised
 use Rattle.writing.proofs.WritesFirst as writing
 use Rattle.printing.proofs.Decimals as decimals
 use Rattle.misreadings.proofs.Misreadings as misreadings
-use Rattle.misreadings.proofs.Upgrading as lists-upgrading
-use Rattle.misreadings.proofs.Unmarked as unmarked
+use Rattle.upgrading.proofs.Upgrading as lists-upgrading
+use Rattle.upgrading.proofs.Unmarked as unmarked
 
 -- DEMAND 1: every input gets a result or exactly its refusal; what happens to the buffer
 pub demand-one : (t : List ℕ) (q : Query) (rec buffer : List ℕ) → DemandOne t q rec buffer

@@ -2,6 +2,7 @@
 -- numbers left over, then 14.
 use Prim.Native.Nat.{ℕ}
 use mathlib.Core.List.{List, [], _∷_}
+use mathlib.Core.Bool.{Bool}
 use Rattle.table.specs.Outcome.{Outcome, _andThen_, demandEach}
 use Rattle.table.specs.Outcome.Outcome.{accepted, refused}
 use Rattle.table.specs.Layout.{automata}

@@ -17,8 +17,8 @@ use Rattle.derivation.specs.Forest.{Derives, Forest, written}
 use Rattle.derivation.specs.Forest.DerivesBy.{done, step}
 use Rattle.verifier.proofs.DemandTwo.{demand-two}
 use Rattle.listing.proofs.Minimals.{admitted-includes}
-use Rattle.misreadings.specs.Upgrading.{DerivedBefore, Upgrading, newRole}
-use Rattle.misreadings.specs.Upgrading.DerivedBefore.{done as done-before, step as step-before}
+use Rattle.upgrading.specs.Upgrading.{DerivedBefore, Upgrading, newRole}
+use Rattle.upgrading.specs.Upgrading.DerivedBefore.{done as done-before, step as step-before}
 
 -- another role is another pair
 other-pair : (a b : Bool) → not b ≡ true → not (a and b) ≡ true

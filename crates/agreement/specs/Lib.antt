@@ -1,0 +1,5 @@
+pub mod Meaning
+pub mod Agrees
+pub mod Records
+pub mod Opened
+pub mod Promised
