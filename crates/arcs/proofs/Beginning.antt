@@ -7,7 +7,7 @@ use native.Mathlib.Omega.{arith}
 use lib.ListN.{getD, length, replicate, getD-replicate, length-replicate}
 use Rattle.table.specs.Layout.{automata, automaton, credentials}
 use Rattle.table.specs.Holding.{WellFormed}
-use Rattle.automata.specs.Arcs.{Arcs, accepting, indexCells, made, madeCell}
+use Rattle.moves.specs.Arcs.{Arcs, accepting, indexCells, made, madeCell}
 use Rattle.automata.proofs.Together.{within-first}
 use Rattle.automata.proofs.Written.{Written, unwritten}
 

@@ -3,7 +3,7 @@ use mathlib.Core.Path.{_≡_}
 use mathlib.Core.Logic.{_⊎_, ⊎-elim}
 use Prim.Native.Nat.{ℕ, _+_, _*_, _<_, _≤_}
 use native.Mathlib.Omega.{arith}
-use Rattle.automata.specs.Arcs.{arcCells, fromCell, rowCells}
+use Rattle.moves.specs.Arcs.{arcCells, fromCell, rowCells}
 use Rattle.arcs.specs.Filling.{rowCell}
 
 pub arc-in-row : (p l k : ℕ) → fromCell p l k ≡ rowCell p (arcCells * l + k)

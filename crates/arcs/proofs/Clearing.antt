@@ -6,7 +6,7 @@ use native.Mathlib.Omega.{arith}
 use native.Mathlib.Decide.{ℕ-discrete}
 use lib.ListN.{getD, length, set, length-set}
 use lib.Seq.{getD-set-same, getD-set-other}
-use Rattle.automata.specs.Arcs.{rowCells}
+use Rattle.moves.specs.Arcs.{rowCells}
 use Rattle.arcs.specs.Filling.{Cleared, Elsewhere, rowCell}
 use Rattle.arcs.proofs.Cells.{outside-row}
 

@@ -20,8 +20,8 @@ use Rattle.table.specs.declared.Edge.{Edge}
 use Rattle.table.specs.declared.Role.{Role}
 use Rattle.edges.specs.Edges.{leads, matches}
 use Rattle.automata.specs.Automata.{moved, movedBy}
-use Rattle.automata.specs.Arcs.{Ended, ArcRow, arcCells, fromCell, led, mostArcs, toCell}
-use Rattle.automata.proofs.Arcs.{led-ended}
+use Rattle.moves.specs.Arcs.{Ended, ArcRow, arcCells, fromCell, led, mostArcs, toCell}
+use Rattle.moves.proofs.Arcs.{led-ended}
 use Rattle.automata.proofs.Moves.{leadsTo, moved-next}
 use Rattle.arcs.specs.Filling.{Cleared, Filling, ArcFound, MaskOf, arcWith}
 use Rattle.arcs.proofs.Cells.{arc-in-row}

@@ -6,7 +6,7 @@ use Prim.Native.Nat.{ℕ, _+_, _<_, _≤_}
 use native.Mathlib.Omega.{arith}
 use native.Mathlib.Decide.{ℕ-discrete}
 use lib.ListN.{getD}
-use Rattle.automata.specs.Arcs.{mostArcs, toCell}
+use Rattle.moves.specs.Arcs.{mostArcs, toCell}
 use Rattle.arcs.specs.Filling.{ArcFound}
 
 pub record Looking (arcs : List ℕ) (p to l : ℕ) : Type 0 where

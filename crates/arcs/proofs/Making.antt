@@ -16,8 +16,8 @@ use Rattle.table.specs.declared.Credential.{Credential}
 use Rattle.table.specs.declared.Edge.{Edge}
 use Rattle.table.specs.declared.Role.{Role}
 use Rattle.edges.specs.Edges.{matches}
-use Rattle.automata.specs.Arcs.{Arcs, indexCells, made, madeCell, mostArcs}
-use Rattle.automata.proofs.Arcs.{index-whole}
+use Rattle.moves.specs.Arcs.{Arcs, indexCells, made, madeCell, mostArcs}
+use Rattle.moves.proofs.Arcs.{index-whole}
 use Rattle.arcs.specs.Filling.{Cleared, Elsewhere, Filling, ArcFound, RowMade, arcWith}
 use Rattle.arcs.proofs.Filling.{filling-all, filling-more, filling-none, filling-past}
 use Rattle.arcs.proofs.Marking.{arcs-elsewhere, arcs-marked, head-same}

@@ -10,7 +10,7 @@ use lib.Seq.{getD-set-same, getD-set-other}
 use Rattle.table.specs.Limits.{mostAutomata, mostCredentials}
 use Rattle.table.specs.Layout.{credential, credentials}
 use Rattle.table.specs.declared.Role.{Role}
-use Rattle.automata.specs.Arcs.{Arcs, ArcRow, arcCells, firstRow, fromCell, indexCells, led, made, madeCell, mostArcs, rowCells}
+use Rattle.moves.specs.Arcs.{Arcs, ArcRow, arcCells, firstRow, fromCell, indexCells, led, made, madeCell, mostArcs, rowCells}
 use Rattle.arcs.specs.Filling.{Elsewhere, rowCell}
 use Rattle.arcs.proofs.Cells.{arc-in-row}
 

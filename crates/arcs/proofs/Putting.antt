@@ -9,7 +9,7 @@ use lib.Bits.{bitOr}
 use Rattle.table.specs.Limits.{mostAutomata, mostCredentials}
 use Rattle.table.specs.Layout.{Numbered}
 use Rattle.table.specs.declared.Edge.{Edge}
-use Rattle.automata.specs.Arcs.{fromCell, indexCells, mostArcs, toCell}
+use Rattle.moves.specs.Arcs.{fromCell, indexCells, mostArcs, toCell}
 use Rattle.arcs.specs.Filling.{Elsewhere, arcWith}
 use Rattle.arcs.proofs.Cells.{arc-in-row, outside-row}
 

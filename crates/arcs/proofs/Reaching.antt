@@ -15,8 +15,8 @@ use Rattle.sets.proofs.Tests.{or-and, or-false}
 use Rattle.sets.proofs.Members.{inSet-or, inSet-pow, inSet-zero}
 use Rattle.table.specs.Limits.{mostAutomata}
 use Rattle.table.specs.declared.Edge.{Edge}
-use Rattle.automata.specs.Arcs.{fromCell, led, mostArcs, toCell}
-use Rattle.automata.proofs.Arcs.{meets-zero}
+use Rattle.moves.specs.Arcs.{fromCell, led, mostArcs, toCell}
+use Rattle.moves.proofs.Arcs.{meets-zero}
 use Rattle.arcs.specs.Filling.{arcWith}
 use Rattle.arcs.proofs.Meeting.{any-changed, inSet-given, meets-more}
 use Rattle.arcs.proofs.Putting.{Fits, arc-kept, from-changed, others-kept, ownCell, to-changed}

@@ -10,7 +10,7 @@ use borrow.Author.Tests.{lt-ltb, le-ltb}
 use Rattle.sets.specs.Logic.{pick}
 use Rattle.table.specs.declared.Edge.{Edge}
 use Rattle.table.specs.declared.Role.{Role}
-use Rattle.automata.specs.Arcs.{mostArcs, toCell}
+use Rattle.moves.specs.Arcs.{mostArcs, toCell}
 use Rattle.arcs.specs.Filling.{Filling, ArcFound, MaskOf}
 use Rattle.arcs.proofs.Crowding.{Different, too-many}
 

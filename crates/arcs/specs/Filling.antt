@@ -10,7 +10,7 @@ use Rattle.table.specs.Layout.{edge}
 use Rattle.table.specs.declared.Edge.{Edge}
 use Rattle.table.specs.declared.Role.{Role}
 use Rattle.automata.specs.Automata.{movedBy}
-use Rattle.automata.specs.Arcs.{Ended, firstRow, fromCell, led, made, madeCell, mostArcs, rowCells, toCell}
+use Rattle.moves.specs.Arcs.{Ended, firstRow, fromCell, led, made, madeCell, mostArcs, rowCells, toCell}
 
 -- cell x of the row of credential p + 1
 abbrev pub rowCell : ℕ → ℕ → ℕ

@@ -1,13 +1,13 @@
 // The index of arcs, row by row: which edges match the role that a credential defines, found once and not at each move. Edges that
 // lead to states of one number are one arc, which has for each automaton the mask of the states from which they lead. What is in
-// the index, crate automata says (specs/Arcs.antt); which rows are made, and when, bears on time alone.
-use automata::ARC_CELLS;
+// the index, crate moves says (specs/Arcs.antt); which rows are made, and when, bears on time alone.
 use automata::AUTOMATA;
-use automata::FIRST_MADE;
-use automata::FIRST_ROW;
-use automata::MADE;
-use automata::MOST_ARCS;
-use automata::ROW_CELLS;
+use moves::ARC_CELLS;
+use moves::FIRST_MADE;
+use moves::FIRST_ROW;
+use moves::MADE;
+use moves::MOST_ARCS;
+use moves::ROW_CELLS;
 use sets::StateSet;
 use table::Edge;
 use table::Number;
@@ -18,7 +18,7 @@ ghost use lib.ListN.{getD, length, replicate};
 ghost use Rattle.table.specs.Limits.{lastState, mostAutomata, mostCredentials};
 ghost use Rattle.table.specs.Layout.{Numbered, credentials};
 ghost use Rattle.table.specs.Holding.{WellFormed};
-ghost use Rattle.automata.specs.Arcs.{Arcs, indexCells, made, madeCell, mostArcs};
+ghost use Rattle.moves.specs.Arcs.{Arcs, indexCells, made, madeCell, mostArcs};
 ghost use Rattle.arcs.specs.Filling.{Cleared, ArcFound, RowMade, arcWith};
 
 // Begins an index: the accepting sets, and no row.

@@ -1,5 +1,4 @@
 -- Laws that belong to no one function; crates above cite those marked `pub mod`.
-pub mod Arcs
 pub mod Each
 pub mod Moves
 pub mod Promised

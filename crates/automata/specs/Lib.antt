@@ -1,4 +1,3 @@
-pub mod Arcs
 pub mod Automata
 pub mod Promised
 pub mod Together

@@ -15,7 +15,7 @@ ghost use lib.Bits.{bitAnd, bitOr};
 ghost use Rattle.table.specs.Limits.{mostCredentials, mostDepth, mostParts};
 ghost use Rattle.table.specs.Layout.{Numbered};
 ghost use Rattle.table.specs.Holding.{WellFormed};
-ghost use Rattle.automata.specs.Arcs.{Arcs};
+ghost use Rattle.moves.specs.Arcs.{Arcs};
 ghost use Rattle.derivation.specs.Held.{GoalsFit};
 ghost use Rattle.branches.specs.Held.{above};
 ghost use Rattle.entering.specs.Entry.{entry};
@@ -107,7 +107,7 @@ pub fn after_node(
             some: some,
         };
     }
-    let accepting = states.accepting(table, arcs);
+    let accepting = moves::accepting(states, table, arcs);
     WordsKept {
         every: every & accepting,
         some: some | accepting,

@@ -19,7 +19,7 @@ ghost use Rattle.families.specs.Families.{FamilyOf, allSets, inFamily, isPart};
 ghost use Rattle.table.specs.Layout.{credential, credentials};
 ghost use Rattle.table.specs.Holding.{WellFormed};
 ghost use Rattle.sets.specs.Sets.{inSet, meets, part};
-ghost use Rattle.automata.specs.Arcs.{Arcs};
+ghost use Rattle.moves.specs.Arcs.{Arcs};
 ghost use Rattle.automata.specs.Together.{acceptingSet};
 ghost use Rattle.members.specs.Places.{isPerson};
 ghost use Rattle.members.specs.Members.{Indexed, Placed, askedCell, lesser, rowCell, tableCells};
@@ -60,7 +60,7 @@ pub fn ends_word(
     if members::asked_cell(index, i, 0) != person {
         return Family::none();
     }
-    let accepting = states.accepting(table, arcs);
+    let accepting = moves::accepting(states, table, arcs);
     if terms.constraints & accepting != terms.constraints {
         return Family::none();
     }
@@ -189,7 +189,7 @@ pub fn stepped(
             dead: 0,
         };
     }
-    states.moved(table, arcs, place)
+    moves::moved(states, table, arcs, place)
 }
 
 // Some automaton that is imposed is dead.

@@ -63,7 +63,7 @@ fn list_checked(table: &[Number], query: Query, room: usize, sets: &mut [Credent
     if attached::automata_of(table, usable) == 0 {
         return list_over(table, query, &index, &table[..0], usable, room, sets);
     }
-    let mut arcs = [0; automata::INDEX_CELLS];
+    let mut arcs = [0; moves::INDEX_CELLS];
     relevance::make_arcs(table, &index, usable, &mut arcs);
     list_over(table, query, &index, &arcs, usable, room, sets)
 }

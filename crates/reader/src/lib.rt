@@ -15,7 +15,7 @@ ghost use Prim.Native.Nat.{_+_, _^_, _<_, _≤_};
 ghost use lib.ListN.{length};
 ghost use Rattle.table.specs.Limits.{mostDepth};
 ghost use Rattle.table.specs.Holding.{WellFormed};
-ghost use Rattle.automata.specs.Arcs.{Arcs};
+ghost use Rattle.moves.specs.Arcs.{Arcs};
 ghost use Rattle.derivation.specs.Held.{GoalsFit};
 ghost use Rattle.branches.specs.Held.{above};
 ghost use Rattle.reader.specs.Tally.{ReadOn};
@@ -56,7 +56,7 @@ pub fn read<'a>(
     // a dead automaton stops nothing: it may belong to no used credential, and 11 to 13 of a later node come before 14
     let place = layout::wide(step.credential) - 1;
     arcs::ask(table, arcs, place);
-    let below = states.moved(table, arcs, place);
+    let below = moves::moved(states, table, arcs, place);
     let len = step.len;
     let goals = step.goals;
     *used = entering::with_credential(*used, step.credential);

@@ -10,7 +10,7 @@ use Rattle.sets.specs.Sets.{inSet}
 use Rattle.sets.proofs.Tests.{false-true}
 use Rattle.table.specs.Layout.{credential, credentials}
 use Rattle.table.specs.Holding.{WellFormed}
-use Rattle.automata.specs.Arcs.{Arcs, indexCells, made, madeCell}
+use Rattle.moves.specs.Arcs.{Arcs, indexCells, made, madeCell}
 use Rattle.arcs.specs.Filling.{RowMade}
 use Rattle.members.specs.Members.{Indexed, roleCell}
 use Rattle.members.proofs.Places.{role-first}

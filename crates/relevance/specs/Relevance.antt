@@ -8,7 +8,7 @@ use lib.ListN.{getD}
 use Rattle.sets.specs.Sets.{inSet, part, setOf}
 use Rattle.table.specs.Layout.{credential, credentials}
 use Rattle.table.specs.declared.Query.{Query}
-use Rattle.automata.specs.Arcs.{made, madeCell}
+use Rattle.moves.specs.Arcs.{made, madeCell}
 use Rattle.derivation.specs.Rules.{goalOf}
 use Rattle.derivation.specs.Forest.{Derives, Forest}
 use Rattle.members.specs.Places.{isPerson}

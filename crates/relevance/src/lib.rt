@@ -16,7 +16,7 @@ ghost use Rattle.sets.specs.Logic.{_and_};
 ghost use Rattle.sets.specs.Sets.{inSet};
 ghost use Rattle.table.specs.Layout.{credentials};
 ghost use Rattle.table.specs.Holding.{WellFormed};
-ghost use Rattle.automata.specs.Arcs.{Arcs, indexCells};
+ghost use Rattle.moves.specs.Arcs.{Arcs, indexCells};
 ghost use Rattle.members.specs.Members.{Aimed, Indexed, Placed, goalRole};
 ghost use Rattle.relevance.specs.Relevance.{Relevant, Round, RowsMade, WithAsked, WithLinks, WithRoles, definedAt};
 

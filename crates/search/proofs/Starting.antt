@@ -14,7 +14,7 @@ use Rattle.table.specs.Layout.{credentials, principal}
 use Rattle.table.specs.Holding.{WellFormed}
 use Rattle.table.specs.Checks.{Valid}
 use Rattle.table.specs.declared.Query.{Query}
-use Rattle.automata.specs.Arcs.{Arcs}
+use Rattle.moves.specs.Arcs.{Arcs}
 use Rattle.automata.specs.Together.{startingSets}
 use Rattle.automata.specs.declared.StateSets.{StateSets}
 use Rattle.derivation.specs.Rules.{goal, goalOf}

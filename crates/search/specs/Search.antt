@@ -20,7 +20,7 @@ use Rattle.table.specs.declared.Role.{Role}
 use Rattle.table.specs.declared.Goal.{Goal}
 use Rattle.table.specs.declared.Query.{Query}
 use Rattle.sets.specs.Sets.{inSet, part}
-use Rattle.automata.specs.Arcs.{Arcs}
+use Rattle.moves.specs.Arcs.{Arcs}
 use Rattle.automata.specs.Together.{acceptingSet, startingSets}
 use Rattle.automata.specs.declared.StateSets.{StateSets}
 use Rattle.derivation.specs.Rules.{goal, goalOf}

@@ -56,7 +56,7 @@ pub fn is_member(
 
 // Which sets of the owed automata can be met by derivations of the queried membership that use only allowed credentials and each
 // word of which is accepted by each of the automata `constraints`. The index is that of the table and the query
-// (`indexing::index`), the arcs are an index of the table's edges (crate automata), and the rows up to the last are the table of
+// (`indexing::index`), the arcs are an index of the table's edges (crate moves), and the rows up to the last are the table of
 // members of the allowed credentials (`levels::fill`). Where few credentials are allowed a small memory will do, which is
 // cleared sooner.
 pub fn query_search(

@@ -19,7 +19,7 @@ ghost use Prim.Native.Nat.{_≤_};
 ghost use Rattle.table.specs.Outcome.{Outcome};
 ghost use Rattle.table.specs.Holding.{WellFormed};
 ghost use Rattle.table.specs.Checks.{Valid, numberOf};
-ghost use Rattle.automata.specs.Arcs.{Arcs};
+ghost use Rattle.moves.specs.Arcs.{Arcs};
 ghost use Rattle.derivation.specs.Rules.{goalOf};
 ghost use Rattle.reader.specs.Reading.{reader};
 ghost use Rattle.verifier.specs.Verdict.{judged, verdict, verdictTold};
@@ -54,7 +54,7 @@ fn judge(table: &[Number], query: Query, rec: &[Number]) -> Verdict
         let mut none = [0; 1];
         return judge_by(table, query, rec, &mut none[..0]);
     }
-    let mut arcs = [0; automata::INDEX_CELLS];
+    let mut arcs = [0; moves::INDEX_CELLS];
     arcs::begin(table, &mut arcs);
     judge_by(table, query, rec, &mut arcs)
 }

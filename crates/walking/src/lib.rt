@@ -132,7 +132,7 @@ fn walk(
     if node.asked.len == 0 {
         return Reached {
             next: next,
-            met: terms.owed & below.states.accepting(table, arcs),
+            met: terms.owed & moves::accepting(below.states, table, arcs),
         };
     }
     if most < next {

@@ -51,7 +51,7 @@ fn write_checked(table: &[Number], query: Query, set: CredentialSet, rec: &mut [
     if attached::automata_of(table, set) == 0 {
         return write_over(table, query, &index, &table[..0], set, rec);
     }
-    let mut arcs = [0; automata::INDEX_CELLS];
+    let mut arcs = [0; moves::INDEX_CELLS];
     relevance::make_arcs(table, &index, set, &mut arcs);
     write_over(table, query, &index, &arcs, set, rec)
 }

@@ -3,8 +3,8 @@ use Prim.Native.Nat.{_<_}
 use lib.ListN.{length}
 use borrow.Author.Needs.{needs}
 use denote.Ref.{now}
-use Rattle.automata.specs.Arcs.{madeCell}
-use Rattle.automata.proofs.Arcs.{index-whole}
+use Rattle.moves.specs.Arcs.{madeCell}
+use Rattle.moves.proofs.Arcs.{index-whole}
 use Rattle.arcs.proofs.Making.{asked-again, made-cell}
 use Rattle.arcs.proofs.ask.Statement.{statement}
 use Rattle.arcs.proofs.ask.Tie as tie

@@ -4,7 +4,7 @@ use Prim.Native.Nat.{_-_, _≤_}
 use native.Mathlib.Omega.{arith}
 use lib.ListN.{length}
 use borrow.Author.Needs.{needs}
-use Rattle.automata.specs.Arcs.{indexCells}
+use Rattle.moves.specs.Arcs.{indexCells}
 use Rattle.automata.proofs.Written.{written-more, written-none}
 use Rattle.arcs.proofs.Beginning.{Begun, begun-all, begun-whole}
 use Rattle.arcs.proofs.begin.Statement.{statement}

@@ -2,7 +2,7 @@
 use Prim.Native.Nat.{_-_}
 use native.Mathlib.Omega.{arith}
 use borrow.Author.Needs.{needs}
-use Rattle.automata.specs.Arcs.{rowCells}
+use Rattle.moves.specs.Arcs.{rowCells}
 use Rattle.arcs.proofs.Clearing.{Clearing, clearing-all, clearing-more, clearing-none}
 use Rattle.arcs.proofs.clear.Statement.{statement}
 use Rattle.arcs.proofs.clear.Tie as tie

@@ -3,7 +3,7 @@ use mathlib.Core.Logic.{inl, inr}
 use Prim.Native.Nat.{_-_}
 use native.Mathlib.Omega.{arith}
 use borrow.Author.Needs.{needs}
-use Rattle.automata.specs.Arcs.{mostArcs}
+use Rattle.moves.specs.Arcs.{mostArcs}
 use Rattle.arcs.proofs.Looking.{Looking, found-here, looking-more, looking-none}
 use Rattle.arcs.proofs.find.Statement.{statement}
 use Rattle.arcs.proofs.find.Tie as tie

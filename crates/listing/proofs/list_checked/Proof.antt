@@ -5,7 +5,7 @@ use native.Mathlib.Omega.{arith}
 use lib.ListN.{length-take}
 use Rattle.sets.proofs.Tests.{failed, passed}
 use Rattle.table.specs.Checks.{numberOf}
-use Rattle.automata.proofs.Arcs.{no-arcs}
+use Rattle.moves.proofs.Arcs.{no-arcs}
 use Rattle.search.proofs.Starting.{prepared-by}
 use Rattle.relevance.proofs.Narrowing.{relevant-admits}
 use Rattle.listing.proofs.Whole.{none-told, start-none, told-instead}

@@ -11,7 +11,7 @@ use borrow.Fn.PlainCycle.{Measures, and, falls, is}
 use denote.Ref.{now}
 use Rattle.table.specs.Limits.{mostDepth}
 use Rattle.table.specs.declared.Goal.{Goal}
-use Rattle.automata.specs.Arcs.{Arcs}
+use Rattle.moves.specs.Arcs.{Arcs}
 use Rattle.derivation.specs.Held.{GoalsFit}
 use Rattle.branches.specs.Held.{above}
 use Rattle.reader.proofs.Onward.{Down, Node, Onward, child-stops, children-read, onward-goes, onward-starts, room-below}
@@ -22,7 +22,7 @@ use Rattle.reader.proofs.read.Reads as read
 use Rattle.reader.proofs.read.Kinds as read-kinds
 use Rattle.reader.proofs.+read.Lts-read as read-lts
 use Rattle.arcs.proofs.ask.Reads as ask-reads
-use Rattle.automata.proofs.StateSets.moved.Reads as moved-reads
+use Rattle.moves.proofs.moved.Reads as moved-reads
 use Rattle.branches.proofs.Branch.with.Reads as with-reads
 use Rattle.table.proofs.layout.wide.Reads as wide-reads
 use Rattle.entering.proofs.after_node.Reads as after-node-reads

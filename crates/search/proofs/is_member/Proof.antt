@@ -5,7 +5,7 @@ use native.Mathlib.Omega.{arith}
 use Prim.Native.Nat.{_<_}
 use denote.Ref.{now}
 use Rattle.table.specs.Layout.{credentials}
-use Rattle.automata.proofs.Arcs.{no-arcs}
+use Rattle.moves.proofs.Arcs.{no-arcs}
 use Rattle.search.specs.Search.{Prepared}
 use Rattle.search.proofs.Placing.{below-most}
 use Rattle.search.proofs.Starting.{goal-listed, goal-unnamed, prepared-by}

@@ -25,7 +25,7 @@ use Rattle.walking.proofs.+walk+walk_asked.Lts-walk as walk-lts
 use Rattle.walking.proofs.walk_asked.Reads as walk-asked
 use Rattle.walking.proofs.walk_asked.Kinds as walk-asked-kinds
 use Rattle.walking.proofs.+walk+walk_asked.Lts-walk_asked as walk-asked-lts
-use Rattle.automata.proofs.StateSets.accepting.Reads as accepting-reads
+use Rattle.moves.proofs.accepting.Reads as accepting-reads
 use Rattle.choice.proofs.choose.Reads as choose-reads
 use Rattle.members.proofs.above.Above.with.Reads as with-reads
 use Rattle.goals.proofs.stepped.Reads as stepped-reads

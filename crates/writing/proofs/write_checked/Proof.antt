@@ -2,7 +2,7 @@
 -- index of arcs where automata are attached. Assumes nothing.
 use native.Mathlib.Omega.{arith}
 use lib.ListN.{length-take}
-use Rattle.automata.proofs.Arcs.{no-arcs}
+use Rattle.moves.proofs.Arcs.{no-arcs}
 use Rattle.search.proofs.Starting.{prepared-by}
 use borrow.Author.Needs.{needs}
 use Rattle.writing.proofs.write_checked.Statement.{statement}

@@ -21,14 +21,14 @@ use Rattle.table.specs.Limits.{mostAutomata}
 use Rattle.table.specs.Layout.{automata, automaton, credential, credentials}
 use Rattle.table.specs.Holding.{WellFormed}
 use Rattle.table.specs.declared.Role.{Role}
 use Rattle.automata.specs.Automata.{acceptsFrom}
-use Rattle.automata.specs.Arcs.{Arcs, Ended, ArcRow, accepting, acceptingCell, arcCells, firstRow, fromCell, indexCells}
-use Rattle.automata.specs.Arcs.{led, ledSets, made, madeCell, mostArcs, rowCells, toCell, withArc}
+use Rattle.moves.specs.Arcs.{Arcs, Ended, ArcRow, accepting, acceptingCell, arcCells, firstRow, fromCell, indexCells}
+use Rattle.moves.specs.Arcs.{led, ledSets, made, madeCell, mostArcs, rowCells, toCell, withArc}
 use Rattle.automata.specs.Together.{acceptingSet, movedSets, setFor}
 use Rattle.automata.specs.declared.StateSets.{StateSets}
 use Rattle.automata.proofs.Each.{together-at, together-is, together-same}
 use Rattle.automata.proofs.Together.{acceptsAt, within-first}
 use Rattle.automata.proofs.Written.{Written, unwritten, written, written-more, written-none}
 
 -- where there is no cell no row has been made
 pub unmade : (arcs : List ℕ) (p : ℕ) → length arcs ≡ 0 → getD arcs (madeCell p) 0 ≡ made → ⊥

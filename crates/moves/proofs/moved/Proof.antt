@@ -1,8 +1,8 @@
--- `automata::StateSets::moved` meets its contract: what is told dead is what is dead in the moved sets. Assumes nothing.
+-- `moves::moved` meets its contract: what is told dead is what is dead in the moved sets. Assumes nothing.
 use borrow.Author.Needs.{needs}
 use Rattle.automata.proofs.Together.{dead-told}
-use Rattle.automata.proofs.StateSets.moved.Statement.{statement}
-use Rattle.automata.proofs.StateSets.moved.Tie as tie
+use Rattle.moves.proofs.moved.Statement.{statement}
+use Rattle.moves.proofs.moved.Tie as tie
 
 next-requires : tie.Need-next-requires
 next-requires c κs = search needs

@@ -1,12 +1,12 @@
--- `automata::StateSets::next` meets its contract: a row that has been made has the arcs of the credential's role; else the edges
+-- `moves::next` meets its contract: a row that has been made has the arcs of the credential's role; else the edges
 -- tell. Assumes nothing.
 use mathlib.Core.Path.{_∙_}
 use native.Mathlib.Omega.{arith}
 use borrow.Author.Needs.{needs}
-use Rattle.automata.proofs.Arcs.{row-made, row-moves}
+use Rattle.moves.proofs.Arcs.{row-made, row-moves}
 use Rattle.automata.proofs.Together.{role-moves}
-use Rattle.automata.proofs.StateSets.next.Statement.{statement}
-use Rattle.automata.proofs.StateSets.next.Tie as tie
+use Rattle.moves.proofs.next.Statement.{statement}
+use Rattle.moves.proofs.next.Tie as tie
 
 -- where the row has been made
 abbrev start : tie.Then1 → tie.Start

@@ -1,12 +1,12 @@
--- `automata::is_made` meets its contract: no index has no row. Assumes nothing.
+-- `moves::is_made` meets its contract: no index has no row. Assumes nothing.
 use mathlib.Core.Path.{sym}
 use native.Mathlib.Omega.{arith}
 use borrow.Author.Needs.{needs}
 use borrow.Author.Tests.{ne-eqb}
 use denote.Ref.{now}
-use Rattle.automata.proofs.Arcs.{index-whole, unmade}
-use Rattle.automata.proofs.is_made.Statement.{statement}
-use Rattle.automata.proofs.is_made.Tie as tie
+use Rattle.moves.proofs.Arcs.{index-whole, unmade}
+use Rattle.moves.proofs.is_made.Statement.{statement}
+use Rattle.moves.proofs.is_made.Tie as tie
 
 returns : tie.Need-returns
 returns c = let args = c .before .args in sym (ne-eqb _ _ (unmade (now (args .arcs)) (args .place) (c .if1 .taken)))

@@ -1,4 +1,4 @@
--- `automata::StateSets::accepting` meets its contract: the mask has those of the first k automata that accept, by the index's
+-- `moves::accepting` meets its contract: the mask has those of the first k automata that accept, by the index's
 -- accepting sets. Assumes nothing.
 use mathlib.Core.Path.{_≡_, refl, _∙_}
 use mathlib.Core.Logic.{⊎-elim}
@@ -10,16 +10,16 @@ use denote.Ref.{now}
 use Rattle.sets.specs.Sets.{setOf}
 use Rattle.sets.proofs.Members.{meets-not, meets-some, set-more, set-not}
 use Rattle.table.specs.Limits.{mostAutomata}
-use Rattle.automata.specs.Arcs.{indexCells}
-use Rattle.automata.proofs.Arcs.{accepting-in, acceptsIn, index-whole}
-use Rattle.automata.proofs.StateSets.accepting.Statement.{statement}
-use Rattle.automata.proofs.StateSets.accepting.Tie as tie
+use Rattle.moves.specs.Arcs.{indexCells}
+use Rattle.moves.proofs.Arcs.{accepting-in, acceptsIn, index-whole}
+use Rattle.moves.proofs.accepting.Statement.{statement}
+use Rattle.moves.proofs.accepting.Tie as tie
 
 abbrev Inv-loop : tie.InvT-loop
-Inv-loop table arcs self mask₀ k₀ mask k = (k ≤ mostAutomata) × (mask ≡ setOf (acceptsIn arcs self) k)
+Inv-loop table arcs states mask₀ k₀ mask k = (k ≤ mostAutomata) × (mask ≡ setOf (acceptsIn arcs states) k)
 
 abbrev μ-loop : tie.MeasureT-loop
-μ-loop table arcs self mask₀ k₀ mask k = mostAutomata - k
+μ-loop table arcs states mask₀ k₀ mask k = mostAutomata - k
 
 -- where there is an index
 abbrev start : tie.Else1 Inv-loop μ-loop → tie.Start Inv-loop μ-loop

@@ -1,17 +1,17 @@
--- `automata::StateSets::by_arc` meets its contract: the first k sets have what the arc gives. Assumes nothing.
+-- `moves::by_arc` meets its contract: the first k sets have what the arc gives. Assumes nothing.
 use Prim.Native.Nat.{_-_}
 use native.Mathlib.Omega.{arith}
 use borrow.Author.Needs.{needs}
 use Rattle.table.specs.Limits.{mostAutomata}
-use Rattle.automata.proofs.Arcs.{Giving, giving-all, giving-more, giving-none}
-use Rattle.automata.proofs.StateSets.by_arc.Statement.{statement}
-use Rattle.automata.proofs.StateSets.by_arc.Tie as tie
+use Rattle.moves.proofs.Arcs.{Giving, giving-all, giving-more, giving-none}
+use Rattle.moves.proofs.by_arc.Statement.{statement}
+use Rattle.moves.proofs.by_arc.Tie as tie
 
 abbrev Inv-loop : tie.InvT-loop
-Inv-loop arcs at self sets₀ to k₀ sets k = Giving arcs at self sets₀ to k sets
+Inv-loop arcs at states sets₀ to k₀ sets k = Giving arcs at states sets₀ to k sets
 
 abbrev μ-loop : tie.MeasureT-loop
-μ-loop arcs at self sets₀ to k₀ sets k = mostAutomata - k
+μ-loop arcs at states sets₀ to k₀ sets k = mostAutomata - k
 
 add-to : tie.Need-add-to Inv-loop μ-loop
 add-to c = search needs

@@ -1,4 +1,4 @@
--- `automata::StateSets::by_arcs` meets its contract: the sets have what the first l arcs give. Assumes nothing.
+-- `moves::by_arcs` meets its contract: the sets have what the first l arcs give. Assumes nothing.
 use mathlib.Core.Path.{_≡_, _∙_}
 use mathlib.Core.Logic.{_⊎_, inl, inr}
 use Prim.Native.Nat.{_-_, _≤_}
@@ -6,21 +6,21 @@ use native.Mathlib.Omega.{arith}
 use lib.ListN.{getD}
 use borrow.Author.Needs.{needs}
 use denote.Ref.{now}
-use Rattle.automata.specs.Arcs.{ledSets, mostArcs, toCell}
-use Rattle.automata.proofs.Arcs.{led-all, led-more, led-none}
-use Rattle.automata.proofs.StateSets.by_arcs.Statement.{statement}
-use Rattle.automata.proofs.StateSets.by_arcs.Tie as tie
+use Rattle.moves.specs.Arcs.{ledSets, mostArcs, toCell}
+use Rattle.moves.proofs.Arcs.{led-all, led-more, led-none}
+use Rattle.moves.proofs.by_arcs.Statement.{statement}
+use Rattle.moves.proofs.by_arcs.Tie as tie
 
 abbrev Inv-loop : tie.InvT-loop
-Inv-loop self arcs place next₀ row l₀ next l = (l ≤ mostArcs) × (next ≡ ledSets arcs place self l)
+Inv-loop states arcs place next₀ row l₀ next l = (l ≤ mostArcs) × (next ≡ ledSets arcs place states l)
 
 abbrev μ-loop : tie.MeasureT-loop
-μ-loop self arcs place next₀ row l₀ next l = mostArcs - l
+μ-loop states arcs place next₀ row l₀ next l = mostArcs - l
 
 -- the row ends after arc l, which is the last or leads nowhere: the other arcs give no more
 ended : (at : tie.At-loop Inv-loop μ-loop) → let from = at .before .before .args in
     (at .loop .l ≡ mostArcs) ⊎ (getD (now (from .arcs)) (toCell (from .place) (at .loop .l)) 0 ≡ 0)
-    → at .loop .next ≡ ledSets (now (from .arcs)) (from .place) (from .self) mostArcs
+    → at .loop .next ≡ ledSets (now (from .arcs)) (from .place) (from .states) mostArcs
 ended at last = at .loop .inv .1 ∙ led-all _ _ _ _ (at .before .before .pre .1) (at .loop .inv .0) last
 
 mul-row : tie.Need-mul-row Inv-loop μ-loop
