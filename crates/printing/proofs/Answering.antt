@@ -1,4 +1,4 @@
--- The whole answer: a list's lines and the count's, a refusal's line, and which of them is printed for an input.
+-- The whole answer: whether a list or a refusal is printed for an input, and what is told of the refusal.
 use mathlib.Core.Path.{_≡_, sym, ap, _∙_}
 use mathlib.Core.List.{List, []}
 use Prim.Native.Nat.{ℕ, _≤_}
@@ -12,23 +12,8 @@ use Rattle.listing.specs.Minimal.{listingTold}
 use Rattle.listing.specs.declared.Listing.{Listing}
 use Rattle.listing.specs.declared.Listing.the-variants as listing′
 use Rattle.input.proofs.Inputs.{listed-fits}
-use Rattle.printing.specs.Printed.{Filled, ascii, cells, decimal, line, lines}
-use Rattle.printing.specs.Printed.{printed, printedList, printedRefusal, programPrints}
-use Rattle.printing.specs.Put.{Put}
-use Rattle.printing.proofs.Puts.{put-filled, put-then}
-
-module _ {before after : List ℕ} {next : ℕ} where
-  pub list-filled : {m₁ m₂ : List ℕ} {k₁ k₂ : ℕ} (sets : List ℕ) (count : ℕ) → Put before 0 (lines sets) m₁ k₁
-      → Put m₁ k₁ (ascii "sets ") m₂ k₂ → Put m₂ k₂ (line count) after next
-      → Filled (printedList sets count) before after next
-  unfolding printedList
-  list-filled sets count p q r = put-filled (put-then (put-then p q) r)
-
-  pub refusal-filled : {m₁ m₂ m₃ : List ℕ} {k₁ k₂ k₃ : ℕ} (number position : ℕ) → Put before 0 (ascii "refused ") m₁ k₁
-      → Put m₁ k₁ (decimal number) m₂ k₂ → Put m₂ k₂ (ascii " ") m₃ k₃ → Put m₃ k₃ (line position) after next
-      → Filled (printedRefusal number position) before after next
-  unfolding printedRefusal
-  refusal-filled number position p q r s = put-filled (put-then (put-then (put-then p q) r) s)
+use Rattle.lines.specs.Printed.{Filled, cells, printed, printedList, printedRefusal}
+use Rattle.printing.specs.Program.{programPrints}
 
 -- what an input's answer and cells print
 module _ (input sets : List ℕ) (answer : Listing)

@@ -19,7 +19,7 @@ use Rattle.listing.specs.Demands.{DemandOne, DemandThree}
 use Rattle.listing.specs.Promised.{ListedNoneTwice}
 use Rattle.writing.specs.Writes.{NoneBegins, WritesFirst}
 use Rattle.writing.specs.Promised.{WrittenNoneTwice}
-use Rattle.printing.specs.Printed.{DecimalReads}
+use Rattle.lines.specs.Printed.{DecimalReads}
 use Rattle.misreadings.specs.Misreadings.{Misreadings}
 use Rattle.upgrading.specs.Upgrading.{Upgrading as UpgradingLists}
 use Rattle.upgrading.specs.Unmarked.{SameFirst, SameMinimal, SameVerdicts}
@@ -40,7 +40,7 @@ use Rattle.listing.proofs.Shop as shop
 use Rattle.writing.proofs.Ordering as ordering
 use Rattle.writing.proofs.Promised as writing-promised
 use Rattle.writing.proofs.WritesFirst as writing
-use Rattle.printing.proofs.Decimals as decimals
+use Rattle.lines.proofs.Decimals as decimals
 use Rattle.misreadings.proofs.Misreadings as misreadings
 use Rattle.upgrading.proofs.Upgrading as lists-upgrading
 use Rattle.upgrading.proofs.Unmarked as unmarked

@@ -2,7 +2,7 @@
 use mathlib.Core.Path.{sym}
 use borrow.Author.Needs.{needs}
 use lib.Seq.{length-take-le}
-use Rattle.printing.proofs.Puts.{filled-within}
+use Rattle.lines.proofs.Puts.{filled-within}
 use Rattle.minimal_sets.proofs.print_answer.Statement.{statement}
 use Rattle.minimal_sets.proofs.print_answer.Tie as tie
 

@@ -1,9 +1,9 @@
--- `printing::put_line` meets its contract: the digits, and the line's end. Assumes nothing.
+-- `lines::put_line` meets its contract: the digits, and the line's end. Assumes nothing.
 use borrow.Author.Needs.{needs}
 use native.Mathlib.Omega.{arith}
-use Rattle.printing.proofs.Lines.{decimal-long, put-ended}
-use Rattle.printing.proofs.put_line.Statement.{statement}
-use Rattle.printing.proofs.put_line.Tie as tie
+use Rattle.lines.proofs.Lines.{decimal-long, put-ended}
+use Rattle.lines.proofs.put_line.Statement.{statement}
+use Rattle.lines.proofs.put_line.Tie as tie
 
 put-number-requires : tie.Need-put-number-requires
 put-number-requires c κs = omega (arith, decimal-long _ (c .before .before .fits .number))

@@ -1,18 +1,18 @@
--- `printing::put_number` meets its contract: one digit, or the digits of a tenth and the last. The measure is the number.
+-- `lines::put_number` meets its contract: one digit, or the digits of a tenth and the last. The measure is the number.
 -- Assumes nothing.
 use mathlib.Core.Path.{_∙_}
 use Prim.Native.Nat.{ℕ, _<_}
 use native.Mathlib.Omega.{arith}
-use Rattle.printing.proofs.Decimals.{length-more, length-one}
-use Rattle.printing.proofs.Lines.{put-more, put-single}
+use Rattle.lines.proofs.Decimals.{length-more, length-one}
+use Rattle.lines.proofs.Lines.{put-more, put-single}
 use borrow.Fn.Kinds.{In}
 use borrow.Fn.PlainCycle.{Measures, is, falls, and}
-use Rattle.printing.proofs.put_number.Reads as put-number
-use Rattle.printing.proofs.put_number.Kinds as put-number-kinds
-use Rattle.printing.proofs.+put_number.Lts-put_number as put-number-lts
-use Rattle.printing.proofs.put_digit.Reads as put-digit-reads
-use Rattle.printing.proofs.+put_number.{statement}
-use Rattle.printing.proofs.+put_number.Tie.{close}
+use Rattle.lines.proofs.put_number.Reads as put-number
+use Rattle.lines.proofs.put_number.Kinds as put-number-kinds
+use Rattle.lines.proofs.+put_number.Lts-put_number as put-number-lts
+use Rattle.lines.proofs.put_digit.Reads as put-digit-reads
+use Rattle.lines.proofs.+put_number.{statement}
+use Rattle.lines.proofs.+put_number.Tie.{close}
 
 abbrev μ-put-number : Measures 1 put-number-kinds.ps ℕ
 μ-put-number κs a = a .1 .1 .0

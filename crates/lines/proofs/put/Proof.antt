@@ -1,13 +1,13 @@
--- `printing::put` meets its contract. The invariant: the first i bytes of the text are put. The measure is what is left of it.
+-- `lines::put` meets its contract. The invariant: the first i bytes of the text are put. The measure is what is left of it.
 -- Assumes nothing.
 use Prim.Native.Nat.{_+_, _≤_, _-_}
 use mathlib.Core.Path.{_≡_, refl}
 use native.Mathlib.Omega.{arith}
 use lib.ListN.{length, take, length-set}
-use Rattle.printing.specs.Put.{Put}
-use Rattle.printing.proofs.Puts.{put-all, put-next, put-none}
-use Rattle.printing.proofs.put.Statement.{statement}
-use Rattle.printing.proofs.put.Tie as tie
+use Rattle.lines.specs.Put.{Put}
+use Rattle.lines.proofs.Puts.{put-all, put-next, put-none}
+use Rattle.lines.proofs.put.Statement.{statement}
+use Rattle.lines.proofs.put.Tie as tie
 
 abbrev Inv-loop : tie.InvT-loop
 Inv-loop out₀ at text i₀ out i =

@@ -5,12 +5,11 @@ use Prim.Native.Char.{code}
 use Prim.Native.String.{String, [] as none, _∷_ as _then_}
 use mathlib.Core.Path.{_≡_}
 use mathlib.Core.List.{List, [], _∷_, _++_}
-use lib.ListN.{drop, length, replicate, take}
+use lib.ListN.{drop, length, take}
 use lib.Dec.{ltb}
 use Rattle.sets.specs.Logic.{pick}
 use Rattle.table.specs.Outcome.{Outcome}
 use Rattle.table.specs.Outcome.Outcome.{accepted, refused}
-use Rattle.input.specs.Input.{inputBuffer, inputOutcome}
 
 -- a text's characters by their codes
 abbrev pub ascii : String → List ℕ
@@ -62,9 +61,9 @@ printed (refused number position) cells = printedRefusal number position
 abbrev pub cells : ℕ
 cells = 4096
 
--- what the program prints for these bytes of its input
-unfoldable pub programPrints : List ℕ → List ℕ
-programPrints input = printed (inputOutcome input cells) (inputBuffer input (replicate cells 0))
+-- room for as many lines of ten digits, and a last line
+abbrev pub room : ℕ
+room = 45096
 
 -- a buffer into which a text is put: it has the text at its start, of so many bytes, and the bytes beyond are unchanged
 pub record Filled (text before after : List ℕ) (count : ℕ) : Type 0 where

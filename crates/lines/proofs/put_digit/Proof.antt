@@ -1,9 +1,9 @@
--- `printing::put_digit` meets its contract: it stores one byte. Assumes nothing.
+-- `lines::put_digit` meets its contract: it stores one byte. Assumes nothing.
 use borrow.Author.Needs.{needs}
 use native.Mathlib.Omega.{arith}
-use Rattle.printing.proofs.Puts.{put-one}
-use Rattle.printing.proofs.put_digit.Statement.{statement}
-use Rattle.printing.proofs.put_digit.Tie as tie
+use Rattle.lines.proofs.Puts.{put-one}
+use Rattle.lines.proofs.put_digit.Statement.{statement}
+use Rattle.lines.proofs.put_digit.Tie as tie
 
 cast-out : tie.Need-cast-out
 cast-out c = search needs

@@ -4,7 +4,7 @@ use mathlib.Core.Path.{_≡_, refl}
 use mathlib.Core.List.{[], _∷_}
 use Rattle.sets.specs.Logic.{pick}
 use Rattle.table.specs.Outcome.Outcome.{accepted, refused}
-use Rattle.printing.specs.Printed.{ascii, decimal, digits, line, lines, printed, printedList, printedRefusal}
+use Rattle.lines.specs.Printed.{ascii, decimal, digits, line, lines, printed, printedList, printedRefusal}
 
 zero-printed : decimal 0 ≡ ascii "0"
 unfolding decimal digits pick

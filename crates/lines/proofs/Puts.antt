@@ -7,8 +7,8 @@ use native.Mathlib.Numerals.{add-one}
 use native.Mathlib.Omega.{arith}
 use lib.ListN.{getD, length, set, take, length-append}
 use lib.Seq.{length-sets, sets-eq, take-length, take-suc}
-use Rattle.printing.specs.Printed.{Filled}
-use Rattle.printing.specs.Put.{Put, stored}
+use Rattle.lines.specs.Printed.{Filled}
+use Rattle.lines.specs.Put.{Put, stored}
 
 stored-then : (buffer : List ℕ) (at : ℕ) (s t : List ℕ)
     → stored (stored buffer at s) (at + length s) t ≡ stored buffer at (s ++ t)

@@ -1,10 +1,10 @@
--- `printing::put_place` meets its contract: `refused `, the number, a space, and the position's line. Assumes nothing.
+-- `lines::put_place` meets its contract: `refused `, the number, a space, and the position's line. Assumes nothing.
 use borrow.Author.Needs.{needs}
 use native.Mathlib.Omega.{arith}
-use Rattle.printing.proofs.Lines.{decimal-long}
-use Rattle.printing.proofs.Answering.{refusal-filled}
-use Rattle.printing.proofs.put_place.Statement.{statement}
-use Rattle.printing.proofs.put_place.Tie as tie
+use Rattle.lines.proofs.Lines.{decimal-long}
+use Rattle.lines.proofs.Filling.{refusal-filled}
+use Rattle.lines.proofs.put_place.Statement.{statement}
+use Rattle.lines.proofs.put_place.Tie as tie
 
 slice-aggregate-put : tie.Need-slice-aggregate-put
 slice-aggregate-put c = search needs

@@ -1,12 +1,12 @@
--- `printing::put_lines` meets its contract. The invariant: the lines of the first i sets are put, each of at most ten digits. The
+-- `lines::put_lines` meets its contract. The invariant: the lines of the first i sets are put, each of at most ten digits. The
 -- measure is how many sets are left. Assumes nothing.
 use Prim.Native.Nat.{_+_, _*_, _≤_, _-_}
 use native.Mathlib.Omega.{arith}
 use lib.ListN.{length}
-use Rattle.printing.specs.Put.{lineRoom}
-use Rattle.printing.proofs.Lines.{LinesPut, lines-begin, lines-end, lines-go-on}
-use Rattle.printing.proofs.put_lines.Statement.{statement}
-use Rattle.printing.proofs.put_lines.Tie as tie
+use Rattle.lines.specs.Put.{lineRoom}
+use Rattle.lines.proofs.Lines.{LinesPut, lines-begin, lines-end, lines-go-on}
+use Rattle.lines.proofs.put_lines.Statement.{statement}
+use Rattle.lines.proofs.put_lines.Tie as tie
 
 abbrev Inv-loop : tie.InvT-loop
 Inv-loop out₀ sets next₀ i₀ out next i =

@@ -1,9 +1,9 @@
--- `printing::put_list` meets its contract: the sets' lines, `sets `, and the count's line. Assumes nothing.
+-- `lines::put_list` meets its contract: the sets' lines, `sets `, and the count's line. Assumes nothing.
 use borrow.Author.Needs.{needs}
 use native.Mathlib.Omega.{arith}
-use Rattle.printing.proofs.Answering.{list-filled}
-use Rattle.printing.proofs.put_list.Statement.{statement}
-use Rattle.printing.proofs.put_list.Tie as tie
+use Rattle.lines.proofs.Filling.{list-filled}
+use Rattle.lines.proofs.put_list.Statement.{statement}
+use Rattle.lines.proofs.put_list.Tie as tie
 
 put-lines-requires : tie.Need-put-lines-requires
 put-lines-requires c κs = search needs

@@ -7,7 +7,7 @@ use native.Mathlib.Decide.{decLt}
 use lib.ListN.{length, length-append}
 use borrow.Author.Tests.{le-ltb, lt-ltb}
 use Rattle.sets.specs.Logic.{pick}
-use Rattle.printing.specs.Printed.{DecimalReads, decimal, digits, glyph, readAfter}
+use Rattle.lines.specs.Printed.{DecimalReads, decimal, digits, glyph, readAfter}
 
 -- any bound that is large enough gives the same digits
 digits-same : (k m n : ℕ) → n ≤ k → n ≤ m → digits k n ≡ digits m n

@@ -5,10 +5,6 @@ use mathlib.Core.List.{List}
 use lib.ListN.{length}
 use lib.Seq.{sets}
 
--- room for 4,096 lines of ten digits, and a last line
-abbrev pub room : ℕ
-room = 45096
-
 -- the buffer with the text's bytes stored from a place on
 unfoldable pub stored : List ℕ → ℕ → List ℕ → List ℕ
 stored buffer at text = sets buffer at text

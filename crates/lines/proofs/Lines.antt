@@ -8,10 +8,10 @@ use mir.Syntax.{w64}
 use mir.Val.{Fits}
 use lib.ListN.{getD, length, take, length-append}
 use lib.Seq.{take-length, take-suc}
-use Rattle.printing.specs.Printed.{ascii, decimal, glyph, line, lines}
-use Rattle.printing.specs.Put.{Put}
-use Rattle.printing.proofs.Decimals.{decimal-more, decimal-one, decimal-short}
-use Rattle.printing.proofs.Puts.{put-none, put-then}
+use Rattle.lines.specs.Printed.{ascii, decimal, glyph, line, lines}
+use Rattle.lines.specs.Put.{Put}
+use Rattle.lines.proofs.Decimals.{decimal-more, decimal-one, decimal-short}
+use Rattle.lines.proofs.Puts.{put-none, put-then}
 
 module _ {before after : List ℕ} {at next : ℕ} (n : ℕ) where
   -- one digit

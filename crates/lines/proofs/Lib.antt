@@ -1,0 +1,6 @@
+-- Laws that belong to no one function; crates above cite those marked `pub mod`.
+pub mod Decimals
+pub mod Puts
+mod Lines
+mod Filling
+mod Examples
