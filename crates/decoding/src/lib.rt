@@ -1,11 +1,14 @@
-// Bytes as 16-bit numbers, low byte first (docs/DEFINITION.md, "The listing program"). specs/Decoding.antt says which bytes count
-// and which numbers they hold.
+// Bytes as 16-bit numbers, low byte first, and the query that the first four are (docs/DEFINITION.md, "The listing program").
+// specs/Decoding.antt says which bytes count and which numbers they hold.
+use table::Name;
 use table::Number;
+use table::Principal;
+use table::Query;
 ghost use mathlib.Core.Path.{_≡_};
 ghost use mathlib.Core.List.{_++_};
 ghost use Prim.Native.Nat.{_/_, _≤_};
 ghost use lib.ListN.{drop, length};
-ghost use Rattle.decoding.specs.Decoding.{countedBytes, fromBytes, numbersOf};
+ghost use Rattle.decoding.specs.Decoding.{countedBytes, fromBytes, numbersOf, queryOf, querySize};
 
 const MOST_BYTES: usize = 4096;
 
@@ -30,6 +33,19 @@ pub fn decode(bytes: &[u8], numbers: &mut [Number])
     while i < half {
         numbers[i] = number_of(bytes[2 * i], bytes[2 * i + 1]);
         i += 1;
+    }
+}
+
+// The query's four numbers, which are the first.
+pub fn query_of(numbers: &[Number]) -> Query
+    requires { ⌜ querySize ≤ length (now numbers) ⌝ }
+    ensures { λ r. ⌜ r ≡ queryOf (now (numbers .entry)) ⌝ }
+{
+    Query {
+        principal: Principal(numbers[0]),
+        owner: Principal(numbers[1]),
+        name: Name(numbers[2]),
+        depth: numbers[3],
     }
 }
 

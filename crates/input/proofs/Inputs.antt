@@ -18,8 +18,8 @@ use Rattle.sets.proofs.Tests.{and-both, and-is, and-is-off}
 use Rattle.table.proofs.Stages.{then-second}
 use Rattle.listing.specs.Minimal.{bufferAfter, listing, listingTold}
 use Rattle.listing.proofs.Counting.{accepted-counted}
-use Rattle.decoding.specs.Decoding.{countedBytes, numbersOf}
-use Rattle.input.specs.Input.{inputBuffer, inputOutcome, isWhole, queryOf, querySize, tableOf}
+use Rattle.decoding.specs.Decoding.{countedBytes, numbersOf, queryOf, querySize}
+use Rattle.input.specs.Input.{inputBuffer, inputOutcome, isWhole, tableOf}
 use Rattle.listing.specs.declared.Listing.{Listing}
 use Rattle.listing.specs.declared.Listing.the-variants as listing′
 
@@ -43,12 +43,12 @@ Lists t q before after r = (listingTold r ≡ listing t q (length before)) × (a
 abbrev pub Answers : List ℕ → List ℕ → List ℕ → Listing → Type 0
 Answers bytes before after r = (listingTold r ≡ inputOutcome bytes (length before)) × (after ≡ inputBuffer bytes before)
 
--- the part of the numbers after the query is the table
-pub lists-rest : (s before after : List ℕ) (q : Query) (r : Listing)
-    → Lists (take (length s - querySize) (drop querySize s)) q before after r → Lists (tableOf s) q before after r
-lists-rest s before after q r h =
+-- the first numbers are the query, and the part after them is the table
+pub lists-rest : (s before after : List ℕ) (q : Query) (r : Listing) → q ≡ queryOf s
+    → Lists (take (length s - querySize) (drop querySize s)) q before after r → Lists (tableOf s) (queryOf s) before after r
+lists-rest s before after q r is h =
     let rest = take-all (length s - querySize) (drop querySize s) (simp length-drop (omega arith)) in
-    rw rest at h
+    rw (rest, is) at h
 
 -- refusal 1, at position 0
 abbrev shortHead : Refusal

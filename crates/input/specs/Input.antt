@@ -7,19 +7,10 @@ use lib.ListN.{drop, length}
 use lib.Dec.{eqb, leb}
 use Rattle.sets.specs.Logic.{_and_, pick}
 use Rattle.table.specs.Outcome.{Outcome, _andThen_, demand}
-use Rattle.table.specs.Layout.{number}
-use Rattle.table.specs.Checks.{asQuery}
-use Rattle.table.specs.declared.Query.{Query}
-use Rattle.decoding.specs.Decoding.{countedBytes, numbersOf}
+use Rattle.decoding.specs.Decoding.{countedBytes, numbersOf, queryOf, querySize}
 use Rattle.listing.specs.Minimal.{bufferAfter, listing}
 
--- a query's four numbers, in the definition's order, and the table after them
-abbrev pub querySize : ℕ
-querySize = 4
-
-abbrev pub queryOf : List ℕ → Query
-queryOf s = asQuery (number s 0) (number s 1) (number s 2) (number s 3)
-
+-- the table is after the query's four numbers
 abbrev pub tableOf : List ℕ → List ℕ
 tableOf s = drop querySize s
 

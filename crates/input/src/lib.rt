@@ -2,17 +2,15 @@
 // four and then the table. specs/Input.antt says what is told of it.
 use listing::Listing;
 use sets::CredentialSet;
-use table::Name;
 use table::Number;
-use table::Principal;
-use table::Query;
 use table::Reason;
 use table::Refusal;
 ghost use mathlib.Core.Path.{_≡_};
 ghost use Prim.Native.Nat.{_≤_};
 ghost use lib.ListN.{length};
 ghost use Rattle.listing.specs.Minimal.{bufferAfter, listing, listingTold};
-ghost use Rattle.input.specs.Input.{inputBuffer, inputOutcome, queryOf, querySize, tableOf};
+ghost use Rattle.decoding.specs.Decoding.{queryOf, querySize};
+ghost use Rattle.input.specs.Input.{inputBuffer, inputOutcome, tableOf};
 
 const MOST_NUMBERS: usize = 2048;
 
@@ -49,11 +47,6 @@ fn list_numbers(numbers: &[Number], sets: &mut [CredentialSet]) -> Listing
         × (now (sets .exit)
         ≡ bufferAfter (tableOf (now (numbers .entry))) (queryOf (now (numbers .entry))) (now (sets .entry))) ⌝ }
 {
-    let query = Query {
-        principal: Principal(numbers[0]),
-        owner: Principal(numbers[1]),
-        name: Name(numbers[2]),
-        depth: numbers[3],
-    };
+    let query = decoding::query_of(numbers);
     listing::list(&numbers[QUERY_SIZE..], query, sets)
 }

@@ -1,21 +1,12 @@
--- `input::list_numbers` meets its contract: what follows the query's four numbers is the table. Assumes nothing.
+-- `input::list_numbers` meets its contract: the first four numbers are the query, and what follows is the table. Assumes nothing.
 use borrow.Author.Needs.{needs}
 use denote.Ref.{now}
 use Rattle.input.proofs.Inputs.{lists-rest}
 use Rattle.input.proofs.list_numbers.Statement.{statement}
 use Rattle.input.proofs.list_numbers.Tie as tie
 
-shared-slice-read-t5 : tie.Need-shared-slice-read-t5
-shared-slice-read-t5 c = search needs
-
-shared-slice-read-t8 : tie.Need-shared-slice-read-t8
-shared-slice-read-t8 c = search needs
-
-shared-slice-read-t11 : tie.Need-shared-slice-read-t11
-shared-slice-read-t11 c = search needs
-
-shared-slice-read-t14 : tie.Need-shared-slice-read-t14
-shared-slice-read-t14 c = search needs
+query-of-requires : tie.Need-query-of-requires
+query-of-requires c κs = search needs
 
 sub-list : tie.Need-sub-list
 sub-list c = search needs
@@ -34,17 +25,16 @@ same-length c = search needs
 
 returns : tie.Need-returns
 returns c =
-    let args = c .before .before .before .before .before .before .before .before .before .before .before .args in
-    lists-rest (now (args .numbers)) _ _ _ _ (c .before .before .list .ensures)
+    let list = c .before .before in
+    let query = list .before .before .before in
+    let start = query .before .before .before in
+    lists-rest (now (start .args .numbers)) _ _ _ _ (query .query-of .ensures) (list .list .ensures)
 
 pub list-numbers-spec : {M : Type 1} → statement M
 list-numbers-spec =
     tie.close
     (tie.spec
-    shared-slice-read-t5
-    shared-slice-read-t8
-    shared-slice-read-t11
-    shared-slice-read-t14
+    query-of-requires
     sub-list
     part-list-start
     part-list-end
