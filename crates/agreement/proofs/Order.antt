@@ -3,35 +3,17 @@
 use mathlib.Core.Path.{_≡_, refl, sym, ap, _∙_}
 use mathlib.Core.Bool.{Bool, true, false}
 use mathlib.Core.Logic.{_⊎_, inl, inr}
-use Prim.Native.Nat.{ℕ, zero, suc, _-_, _<_, _≤_, _/_, _%_, _^_}
+use Prim.Native.Nat.{ℕ, zero, suc, _-_, _<_, _≤_, _/_}
 use native.Mathlib.Omega.{arith}
 use native.Mathlib.Numerals.{sub-one}
 use native.Mathlib.Decide.{decLt, ℕ-discrete}
-use native.Mathlib.Nat.{div-one, div-div-eq-div-mul, pow-succ'}
-use lib.Dec.{eqb, ltb}
-use borrow.Author.Tests.{eqb-true, eqb-false}
+use lib.Dec.{ltb}
 use Rattle.sets.specs.Logic.{_and_}
 use Rattle.sets.specs.Sets.{inSet, setOf}
 use Rattle.sets.proofs.Tests.{false-true, refuted}
-use Rattle.sets.proofs.Members.{same-members, setOf-members}
+use Rattle.sets.proofs.Members.{even, member-next, odd, same-members, setOf-members}
 use Rattle.agreement.specs.Agrees.{Among, KeepsOrder, Renumbers, renumbered}
 use Rattle.agreement.proofs.Renumbering.{counterpart, counterpart-back}
-
--- TEMP
-member-next : (x s : ℕ) → inSet x (suc s) ≡ inSet (x / 2) s
-unfolding inSet
-member-next x s = rw (pow-succ' 2 s, ← div-div-eq-div-mul x 2 (2 ^ s))
-
-member-first : (x : ℕ) → inSet x 0 ≡ eqb (x % 2) 1
-unfolding inSet
-member-first x = rw (div-one x)
-
-odd : (x : ℕ) → inSet x 0 ≡ true → x % 2 ≡ 1
-odd x e = eqb-true (x % 2) 1 (sym (member-first x) ∙ e)
-
-even : (x : ℕ) → inSet x 0 ≡ false → x % 2 ≡ 0
-even x e = let n = eqb-false (x % 2) 1 (sym (member-first x) ∙ e) in omega arith
--- TEMPEND
 
 -- x lacks member i, y has it, and above i they have the same
 pub record Decides (x y i : ℕ) : Type 0 where

@@ -31,7 +31,7 @@ pub fn begin(table: &[Number], arcs: &mut [StateSet])
     let mut k = 0;
     while k < a {
         let automaton = layout::automaton(table, k + 1);
-        arcs[k] = automaton.accepting;
+        arcs[k] = layout::states(automaton.accepting);
         k += 1;
     }
 }

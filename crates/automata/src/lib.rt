@@ -35,7 +35,7 @@ impl StateSets {
         let mut k = 0;
         while k < a {
             let automaton = layout::automaton(table, k + 1);
-            sets[k] = automaton.starting;
+            sets[k] = layout::states(automaton.starting);
             k += 1;
         }
         StateSets { sets: sets }
@@ -74,7 +74,8 @@ impl StateSets {
         let mut k = 0;
         while k < a {
             let automaton = layout::automaton(table, k + 1);
-            if self.sets[k] & automaton.accepting != 0 {
+            let accepting = layout::states(automaton.accepting);
+            if self.sets[k] & accepting != 0 {
                 mask = sets::with_16(mask, k);
             }
             k += 1;

@@ -22,7 +22,7 @@ member-first : (x : ℕ) → inSet x 0 ≡ eqb (x % 2) 1
 unfolding inSet
 member-first x = rw (div-one x)
 
-member-next : (x s : ℕ) → inSet x (suc s) ≡ inSet (x / 2) s
+pub member-next : (x s : ℕ) → inSet x (suc s) ≡ inSet (x / 2) s
 unfolding inSet
 member-next x s = rw (pow-succ' 2 s, ← div-div-eq-div-mul x 2 (2 ^ s))
 
@@ -69,10 +69,10 @@ inSet-pow (suc t) (suc s) =
     let half : 2 ^ suc t / 2 ≡ 2 ^ t = omega (arith, pow-suc 2 t) in
     member-next (2 ^ suc t) s ∙ rw (half, eqb·suc-suc t s) (inSet-pow t s)
 
-odd : (x : ℕ) → inSet x 0 ≡ true → x % 2 ≡ 1
+pub odd : (x : ℕ) → inSet x 0 ≡ true → x % 2 ≡ 1
 odd x e = eqb-true (x % 2) 1 (sym (member-first x) ∙ e)
 
-even : (x : ℕ) → inSet x 0 ≡ false → x % 2 ≡ 0
+pub even : (x : ℕ) → inSet x 0 ≡ false → x % 2 ≡ 0
 even x e = let n = eqb-false (x % 2) 1 (sym (member-first x) ∙ e) in omega arith
 
 -- two sets are one number where state 0 and all states after it are alike

@@ -9,6 +9,7 @@ use crate::Name;
 use crate::Number;
 use crate::Principal;
 use crate::Role;
+use sets::StateSet;
 ghost use mathlib.Core.Path.{_≡_};
 ghost use Prim.Native.Nat.{_+_, _≤_};
 ghost use mathlib.Core.Bool.{true};
@@ -55,6 +56,13 @@ pub fn wide(x: Number) -> usize
     ensures { λ r. ⌜ (r ≡ x) × (r ≤ 65535) ⌝ }
 {
     x as usize
+}
+
+// A number of the table as a set of states.
+pub fn states(x: Number) -> StateSet
+    ensures { λ r. ⌜ r ≡ x ⌝ }
+{
+    x as StateSet
 }
 
 // The head: how many records there are of each kind.

@@ -3,7 +3,6 @@
 // proofs/WellFormed.antt. The crate `checks` makes the checks.
 pub mod layout; // layout.rt: the records of a table, by number
 
-use sets::StateSet;
 ghost use mathlib.Core.Path.{_≡_};
 ghost use Rattle.table.specs.Layout.{sameRole};
 ghost use Rattle.table.specs.Checks.{numberOf};
@@ -74,8 +73,8 @@ pub struct Chain {
 
 // Sets of states: state s counts 2^s. The mark says what is demanded of a record's words: that every one is accepted, or one.
 pub struct Automaton {
-    pub starting: StateSet,
-    pub accepting: StateSet,
+    pub starting: Number,
+    pub accepting: Number,
     pub mark: Number,
 }
 

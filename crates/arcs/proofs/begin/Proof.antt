@@ -35,11 +35,14 @@ add-automaton c = search needs
 automaton-requires : tie.Need-automaton-requires Inv-loop μ-loop
 automaton-requires c κs = search needs
 
+states-requires : tie.Need-states-requires Inv-loop μ-loop
+states-requires c κs = search needs
+
 mul-arcs : tie.Need-mul-arcs Inv-loop μ-loop
 mul-arcs c = search needs
 
 slice-write-arcs : tie.Need-slice-write-arcs Inv-loop μ-loop
-slice-write-arcs c = omega (arith, whole (c .before .before))
+slice-write-arcs c = omega (arith, whole (c .before .before .before))
 
 add-k : tie.Need-add-k Inv-loop μ-loop
 add-k c = search needs
@@ -49,9 +52,10 @@ loop-less c = search needs
 
 loop-again : tie.Need-loop-again Inv-loop μ-loop
 loop-again c =
-    let at = c .before .before in
+    let at = c .before .before .before in
     let so-far = at .loop .inv .1 in
-    (omega arith, written-more _ _ so-far (omega (arith, whole at, so-far .size)) (rw (c .automaton .ensures)))
+    let read = c .before .automaton .ensures in
+    (omega arith, written-more _ _ so-far (omega (arith, whole at, so-far .size)) (rw (c .states .ensures, read)))
 
 same-length : tie.Need-same-length Inv-loop μ-loop
 same-length c = c .before .loop .inv .1 .size
@@ -71,6 +75,7 @@ begin-spec =
     loop-holds
     add-automaton
     automaton-requires
+    states-requires
     mul-arcs
     slice-write-arcs
     add-k

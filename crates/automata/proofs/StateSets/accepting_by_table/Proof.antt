@@ -29,6 +29,9 @@ add-automaton c = search needs
 automaton-requires : tie.Need-automaton-requires Inv-loop μ-loop
 automaton-requires c κs = search needs
 
+states-requires : tie.Need-states-requires Inv-loop μ-loop
+states-requires c κs = search needs
+
 mul-if1 : tie.Need-mul-if1 Inv-loop μ-loop
 mul-if1 c = search needs
 
@@ -48,9 +51,10 @@ loop-again : tie.Need-loop-again Inv-loop μ-loop
 loop-again c =
     let (in-range, so-far) = c .before .before .before .before .before .loop .inv in
     let read = c .before .before .before .automaton .ensures in
+    let accepting = c .before .before .states .ensures in
     let self = c .before .before .before .before .before .before .before .before .args .t1 in
-    let mask = ⊎-elim (λ w. w .2 ∙ w .1 .ensures ∙ accepting-more _ self _ so-far read (w .0 .taken))
-    (λ w. w .1 ∙ accepting-same _ self _ so-far read (w .0 .left)) (c .if1 .came) in
+    let mask = ⊎-elim (λ w. w .2 ∙ w .1 .ensures ∙ accepting-more _ self _ so-far read (rw accepting at (w .0 .taken)))
+    (λ w. w .1 ∙ accepting-same _ self _ so-far read (rw accepting at (w .0 .left))) (c .if1 .came) in
     (omega arith, mask)
 
 returns : tie.Need-returns Inv-loop μ-loop
@@ -66,6 +70,7 @@ accepting-by-table-spec =
     loop-holds
     add-automaton
     automaton-requires
+    states-requires
     mul-if1
     element-copy-out-if1
     with-16-requires

@@ -26,6 +26,9 @@ add-automaton c = search needs
 automaton-requires : tie.Need-automaton-requires Inv-loop μ-loop
 automaton-requires c κs = search needs
 
+states-requires : tie.Need-states-requires Inv-loop μ-loop
+states-requires c κs = search needs
+
 mul-sets : tie.Need-mul-sets Inv-loop μ-loop
 mul-sets c = search needs
 
@@ -40,8 +43,8 @@ loop-less c = search needs
 
 loop-again : tie.Need-loop-again Inv-loop μ-loop
 loop-again c =
-    let (in-range, so-far) = c .before .before .loop .inv in
-    (omega arith, written-more _ _ so-far (omega arith) (rw (c .automaton .ensures)))
+    let (in-range, so-far) = c .before .before .before .loop .inv in
+    (omega arith, written-more _ _ so-far (omega arith) (rw (c .states .ensures, c .before .automaton .ensures)))
 
 returns : tie.Need-returns Inv-loop μ-loop
 returns c = started-all _ _ _ (omega arith) (c .before .loop .inv .1)
@@ -56,6 +59,7 @@ start-spec =
     loop-holds
     add-automaton
     automaton-requires
+    states-requires
     mul-sets
     array-write-sets
     add-k
