@@ -23,9 +23,10 @@ use Rattle.automata.specs.Automata.{moved, movedBy}
 use Rattle.moves.specs.Arcs.{Ended, ArcRow, arcCells, fromCell, led, mostArcs, toCell}
 use Rattle.moves.proofs.Arcs.{led-ended}
 use Rattle.automata.proofs.Moves.{leadsTo, moved-next}
-use Rattle.arcs.specs.Filling.{Cleared, Filling, ArcFound, MaskOf, arcWith}
-use Rattle.arcs.proofs.Cells.{arc-in-row}
-use Rattle.arcs.proofs.Putting.{Fits, arc-kept, to-changed}
+use Rattle.placing.specs.Placing.{Cleared, ArcFound, arcWith}
+use Rattle.arcs.specs.Filling.{Filling, MaskOf}
+use Rattle.placing.proofs.Cells.{arc-in-row}
+use Rattle.placing.proofs.Putting.{Fits, arc-kept, to-changed}
 use Rattle.arcs.proofs.Reaching.{edgeReaches, led-changed}
 
 -- where a row is blank no arc leads anywhere, and nothing is moved, as by no edge

@@ -18,11 +18,12 @@ use Rattle.table.specs.declared.Role.{Role}
 use Rattle.edges.specs.Edges.{matches}
 use Rattle.moves.specs.Arcs.{Arcs, indexCells, made, madeCell, mostArcs}
 use Rattle.moves.proofs.Arcs.{index-whole}
-use Rattle.arcs.specs.Filling.{Cleared, Elsewhere, Filling, ArcFound, RowMade, arcWith}
+use Rattle.placing.specs.Placing.{Cleared, Elsewhere, ArcFound, arcWith}
+use Rattle.arcs.specs.Filling.{Filling, RowMade}
 use Rattle.arcs.proofs.Filling.{filling-all, filling-more, filling-none, filling-past}
 use Rattle.arcs.proofs.Marking.{arcs-elsewhere, arcs-marked, head-same}
 use Rattle.arcs.proofs.Rooms.{arc-there}
-use Rattle.arcs.proofs.Putting.{Fits, put-elsewhere}
+use Rattle.placing.proofs.Putting.{Fits, put-elsewhere}
 
 pub record Making (t : List ℕ) (r : Role) (p n : ℕ) (before arcs : List ℕ) : Type 0 where
   pub few : credentials t ≤ mostCredentials

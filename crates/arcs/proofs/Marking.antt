@@ -11,8 +11,8 @@ use Rattle.table.specs.Limits.{mostAutomata, mostCredentials}
 use Rattle.table.specs.Layout.{credential, credentials}
 use Rattle.table.specs.declared.Role.{Role}
 use Rattle.moves.specs.Arcs.{Arcs, ArcRow, arcCells, firstRow, fromCell, indexCells, led, made, madeCell, mostArcs, rowCells}
-use Rattle.arcs.specs.Filling.{Elsewhere, rowCell}
-use Rattle.arcs.proofs.Cells.{arc-in-row}
+use Rattle.placing.specs.Placing.{Elsewhere, rowCell}
+use Rattle.placing.proofs.Cells.{arc-in-row}
 
 -- the same cells of a row
 abbrev pub SameRow : ℕ → List ℕ → List ℕ → Type 0

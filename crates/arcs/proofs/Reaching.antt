@@ -17,9 +17,9 @@ use Rattle.table.specs.Limits.{mostAutomata}
 use Rattle.table.specs.declared.Edge.{Edge}
 use Rattle.moves.specs.Arcs.{fromCell, led, mostArcs, toCell}
 use Rattle.moves.proofs.Arcs.{meets-zero}
-use Rattle.arcs.specs.Filling.{arcWith}
+use Rattle.placing.specs.Placing.{arcWith}
 use Rattle.arcs.proofs.Meeting.{any-changed, inSet-given, meets-more}
-use Rattle.arcs.proofs.Putting.{Fits, arc-kept, from-changed, others-kept, ownCell, to-changed}
+use Rattle.placing.proofs.Putting.{Fits, arc-kept, from-changed, others-kept, ownCell, to-changed}
 
 -- arc l leads automaton k + 1 from the set x to state s
 abbrev reaches : List ℕ → ℕ → ℕ → ℕ → ℕ → ℕ → Bool

@@ -11,7 +11,8 @@ use Rattle.sets.specs.Logic.{pick}
 use Rattle.table.specs.declared.Edge.{Edge}
 use Rattle.table.specs.declared.Role.{Role}
 use Rattle.moves.specs.Arcs.{mostArcs, toCell}
-use Rattle.arcs.specs.Filling.{Filling, ArcFound, MaskOf}
+use Rattle.placing.specs.Placing.{ArcFound}
+use Rattle.arcs.specs.Filling.{Filling, MaskOf}
 use Rattle.arcs.proofs.Crowding.{Different, too-many}
 
 -- an arc has been looked for, for the edge e

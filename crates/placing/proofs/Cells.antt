@@ -4,7 +4,7 @@ use mathlib.Core.Logic.{_⊎_, ⊎-elim}
 use Prim.Native.Nat.{ℕ, _+_, _*_, _<_, _≤_}
 use native.Mathlib.Omega.{arith}
 use Rattle.moves.specs.Arcs.{arcCells, fromCell, rowCells}
-use Rattle.arcs.specs.Filling.{rowCell}
+use Rattle.placing.specs.Placing.{rowCell}
 
 pub arc-in-row : (p l k : ℕ) → fromCell p l k ≡ rowCell p (arcCells * l + k)
 arc-in-row p l k = omega arith

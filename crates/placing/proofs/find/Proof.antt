@@ -1,12 +1,12 @@
--- `arcs::find` meets its contract: none of the first l arcs leads nowhere, nor to the state. Assumes nothing.
+-- `placing::find` meets its contract: none of the first l arcs leads nowhere, nor to the state. Assumes nothing.
 use mathlib.Core.Logic.{inl, inr}
 use Prim.Native.Nat.{_-_}
 use native.Mathlib.Omega.{arith}
 use borrow.Author.Needs.{needs}
 use Rattle.moves.specs.Arcs.{mostArcs}
-use Rattle.arcs.proofs.Looking.{Looking, found-here, looking-more, looking-none}
-use Rattle.arcs.proofs.find.Statement.{statement}
-use Rattle.arcs.proofs.find.Tie as tie
+use Rattle.placing.proofs.Looking.{Looking, found-here, looking-more, looking-none}
+use Rattle.placing.proofs.find.Statement.{statement}
+use Rattle.placing.proofs.find.Tie as tie
 
 abbrev Inv-loop : tie.InvT-loop
 Inv-loop arcs place to row l₀ l = Looking arcs place to l

@@ -1,11 +1,11 @@
--- `arcs::clear` meets its contract: the first x cells of the row are 0. Assumes nothing.
+-- `placing::clear` meets its contract: the first x cells of the row are 0. Assumes nothing.
 use Prim.Native.Nat.{_-_}
 use native.Mathlib.Omega.{arith}
 use borrow.Author.Needs.{needs}
 use Rattle.moves.specs.Arcs.{rowCells}
-use Rattle.arcs.proofs.Clearing.{Clearing, clearing-all, clearing-more, clearing-none}
-use Rattle.arcs.proofs.clear.Statement.{statement}
-use Rattle.arcs.proofs.clear.Tie as tie
+use Rattle.placing.proofs.Clearing.{Clearing, clearing-all, clearing-more, clearing-none}
+use Rattle.placing.proofs.clear.Statement.{statement}
+use Rattle.placing.proofs.clear.Tie as tie
 
 abbrev Inv-loop : tie.InvT-loop
 Inv-loop arcs₀ place row x₀ arcs x = Clearing place x arcs₀ arcs

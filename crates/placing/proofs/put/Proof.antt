@@ -1,11 +1,11 @@
--- `arcs::put` meets its contract: two cells change. Assumes nothing.
+-- `placing::put` meets its contract: two cells change. Assumes nothing.
 use native.Mathlib.Omega.{arith}
 use borrow.Author.Needs.{needs}
 use denote.Ref.{now}
 use Rattle.sets.proofs.Members.{one-bit}
-use Rattle.arcs.proofs.Putting.{Fits, put-is, put-room}
-use Rattle.arcs.proofs.put.Statement.{statement}
-use Rattle.arcs.proofs.put.Tie as tie
+use Rattle.placing.proofs.Putting.{Fits, put-is, put-room}
+use Rattle.placing.proofs.put.Statement.{statement}
+use Rattle.placing.proofs.put.Tie as tie
 
 -- where the two cells are written, and before that where the automaton has been read
 abbrev automaton : tie.After-struct-known2 → tie.After-wide

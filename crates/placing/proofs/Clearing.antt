@@ -7,8 +7,8 @@ use native.Mathlib.Decide.{ℕ-discrete}
 use lib.ListN.{getD, length, set, length-set}
 use lib.Seq.{getD-set-same, getD-set-other}
 use Rattle.moves.specs.Arcs.{rowCells}
-use Rattle.arcs.specs.Filling.{Cleared, Elsewhere, rowCell}
-use Rattle.arcs.proofs.Cells.{outside-row}
+use Rattle.placing.specs.Placing.{Cleared, Elsewhere, rowCell}
+use Rattle.placing.proofs.Cells.{outside-row}
 
 pub record Clearing (p n : ℕ) (before after : List ℕ) : Type 0 where
   pub few : n ≤ rowCells

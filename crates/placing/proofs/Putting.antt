@@ -10,8 +10,8 @@ use Rattle.table.specs.Limits.{mostAutomata, mostCredentials}
 use Rattle.table.specs.Layout.{Numbered}
 use Rattle.table.specs.declared.Edge.{Edge}
 use Rattle.moves.specs.Arcs.{fromCell, indexCells, mostArcs, toCell}
-use Rattle.arcs.specs.Filling.{Elsewhere, arcWith}
-use Rattle.arcs.proofs.Cells.{arc-in-row, outside-row}
+use Rattle.placing.specs.Placing.{Elsewhere, arcWith}
+use Rattle.placing.proofs.Cells.{arc-in-row, outside-row}
 
 -- arc l is one of the row's, and the edge's automaton and `to` state are of those that there may be
 pub record Fits (arcs : List ℕ) (p l : ℕ) (e : Edge) : Type 0 where

@@ -7,7 +7,7 @@ use native.Mathlib.Omega.{arith}
 use native.Mathlib.Decide.{ℕ-discrete}
 use lib.ListN.{getD}
 use Rattle.moves.specs.Arcs.{mostArcs, toCell}
-use Rattle.arcs.specs.Filling.{ArcFound}
+use Rattle.placing.specs.Placing.{ArcFound}
 
 pub record Looking (arcs : List ℕ) (p to l : ℕ) : Type 0 where
   pub few : l ≤ mostArcs
