@@ -211,7 +211,7 @@ fn climb(mut arguments: impl Iterator<Item = OsString>) -> Result<Climb, String>
 }
 
 /// The number that some text is.
-fn number<Number: FromStr>(text: &OsString) -> Result<Number, String> {
+fn number<Value: FromStr>(text: &OsString) -> Result<Value, String> {
     let number = text.to_str().and_then(|text| text.parse().ok());
     number.ok_or(format!("{} is no number", text.display()))
 }

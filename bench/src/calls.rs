@@ -7,7 +7,7 @@ use reference::generate::growth::Policy;
 use reference::generate::{policies, valid, wide};
 use reference::random::Random;
 use reference::records::{Head, Records};
-use reference::shop;
+use reference::{shop, Number};
 
 use crate::listing::library_query;
 use crate::sheet::{Form, Sheet, Unit};
@@ -33,7 +33,7 @@ pub fn time_checks(random: &mut Random, form: Form) {
 }
 
 /// A thousand valid tables of every size.
-fn tables(random: &mut Random) -> Vec<Vec<u16>> {
+fn tables(random: &mut Random) -> Vec<Vec<Number>> {
     let mut table = || {
         let head = valid::head(random);
         valid::records(random, head).numbers()
@@ -42,9 +42,9 @@ fn tables(random: &mut Random) -> Vec<Vec<u16>> {
 }
 
 /// Times the table call on some tables and prints a line.
-fn report_checks(sheet: &Sheet, what: &str, tables: &[Vec<u16>]) {
-    let library = |table: &Vec<u16>| bwlchareg::check(table).is_ok();
-    let reference = |table: &Vec<u16>| reference::check(table).is_ok();
+fn report_checks(sheet: &Sheet, what: &str, tables: &[Vec<Number>]) {
+    let library = |table: &Vec<Number>| bwlchareg::check(table).is_ok();
+    let reference = |table: &Vec<Number>| reference::check(table).is_ok();
     let (library, reference) = medians(ROUNDS, tables, library, reference);
     let ratio = reference / library;
     sheet.line(what, [Some(library), Some(reference)], Some(ratio));
@@ -62,7 +62,7 @@ pub fn time_verdicts(random: &mut Random, form: Form) {
 
 /// The shop's records.
 pub fn by_hand() -> [(&'static str, Claim); 3] {
-    let claim = |table: &[u16], record: &[u16]| Claim {
+    let claim = |table: &[Number], record: &[Number]| Claim {
         table: table.to_vec(),
         query: shop::Q,
         record: record.to_vec(),
@@ -116,7 +116,7 @@ pub fn time_nodes(form: Form) {
 
 /// Times the verifying call on the record of so many levels, whose credentials
 /// have so many automata, and prints a line.
-fn report_nodes(sheet: &Sheet, levels: u16, automata: u16) {
+fn report_nodes(sheet: &Sheet, levels: Number, automata: Number) {
     let records = constrained(wide::records(levels), automata);
     let nodes = wide::nodes(levels);
     let edges = records.head().edges;
@@ -135,9 +135,9 @@ fn report_nodes(sheet: &Sheet, levels: u16, automata: u16) {
 
 /// The table with an automaton attached to each of so many credentials, from
 /// the first on. Each accepts words of at most 15 roles.
-pub fn constrained(mut records: Records, automata: u16) -> Records {
+pub fn constrained(mut records: Records, automata: Number) -> Records {
     let mut random = Random::new(EDGES_SEED);
-    for index in 0..usize::from(automata) {
+    for index in 0..automata as usize {
         let constraint = Constraint::at_most(15);
         let number = constraints::add(&mut random, &mut records, &constraint);
         records.credentials[index][5] = number.expect("there is room for an automaton");

@@ -7,7 +7,7 @@ use reference::generate::wide;
 use reference::query::DEEPEST;
 use reference::random::Random;
 use reference::records::{Head, Records};
-use reference::shop;
+use reference::{shop, Number};
 
 /// So many of the ways to the goal get a constraint where some get one.
 const CONSTRAINED: usize = Head::LIMITS.automata as usize;
@@ -16,7 +16,7 @@ const CONSTRAINED: usize = Head::LIMITS.automata as usize;
 pub type Named = (String, Wallet);
 
 /// The shop's table T or U, with query Q.
-pub fn shop(table: &[u16]) -> Wallet {
+pub fn shop(table: &[Number]) -> Wallet {
     Wallet {
         records: Records::read(table).expect("a table that is accepted"),
         query: shop::Q,
@@ -24,7 +24,7 @@ pub fn shop(table: &[u16]) -> Wallet {
 }
 
 /// So many wallets of 20 credentials of which so many bear on the query.
-pub fn bearing(random: &mut Random, count: usize, bearing: u16, place: Place) -> Vec<Wallet> {
+pub fn bearing(random: &mut Random, count: usize, bearing: Number, place: Place) -> Vec<Wallet> {
     let plan = Plan {
         bearing,
         others: Head::LIMITS.credentials - bearing,
@@ -82,7 +82,7 @@ fn layers() -> Vec<Named> {
 /// comes first, unless the name says otherwise.
 fn choices() -> Vec<Named> {
     use shapes::Place::{First, Last, Middle};
-    let equal = |each: u16| {
+    let equal = |each: Number| {
         let what = format!("four roles, each defined {each} times");
         (what, shapes::choices(&[each; 4], First))
     };
@@ -102,7 +102,7 @@ fn choices() -> Vec<Named> {
 
 /// Ladders with two sides, the longest last.
 fn ladders() -> Vec<Named> {
-    let ladder = |principals: u16| {
+    let ladder = |principals: Number| {
         let what = format!("ladder of {} of kind 3", 2 * principals);
         (what, shapes::ladder(principals))
     };
@@ -137,7 +137,7 @@ fn rungs() -> Vec<Named> {
 
 /// Ladders of containments.
 fn containments() -> Vec<Named> {
-    let ladder = |roles: u16| {
+    let ladder = |roles: Number| {
         let what = format!("ladder of {} of kind 2", 2 * roles);
         (what, shapes::containments(roles))
     };
@@ -147,7 +147,7 @@ fn containments() -> Vec<Named> {
 /// How many credentials each way to the goal has, with what these ways are. To
 /// leave the goal unproved, one of each way must go: for that the last have the
 /// most choices that twenty credentials allow, 1,458.
-const WAYS: [(&str, &[u16]); 4] = [
+const WAYS: [(&str, &[Number]); 4] = [
     ("10 ways of 2", &[2; 10]),
     ("6 ways of 3", &[3; 6]),
     ("5 ways of 4", &[4; 5]),
@@ -162,11 +162,11 @@ fn ways() -> Vec<Named> {
 
 /// Such ways, some of them with constraints.
 fn constrained_ways() -> Vec<Named> {
-    let barred = |(words, each): (&str, &[u16])| {
+    let barred = |(words, each): (&str, &[Number])| {
         let some = each.len() / 2;
         (format!("{words}, nothing on {some}"), barred(each))
     };
-    let constrained = |(words, each): (&str, &[u16])| {
+    let constrained = |(words, each): (&str, &[Number])| {
         let some = each.len().min(CONSTRAINED);
         let what = format!("{words}, constraints on {some}");
         (what, constrained(each))
@@ -175,7 +175,7 @@ fn constrained_ways() -> Vec<Named> {
 }
 
 /// Such ways, of which every other has a credential that accepts no word.
-fn barred(each: &[u16]) -> Wallet {
+fn barred(each: &[Number]) -> Wallet {
     let mut wallet = shapes::ways(each, Way::Chain);
     let nothing = Constraint::nothing(&mut Random::new(0));
     let others: Vec<usize> = lasts(each).skip(1).step_by(2).collect();
@@ -185,7 +185,7 @@ fn barred(each: &[u16]) -> Wallet {
 
 /// Such ways, of which each, while there are automata, shuts out the next: on
 /// its last credential stands that a role of the next is nowhere.
-fn constrained(each: &[u16]) -> Wallet {
+fn constrained(each: &[Number]) -> Wallet {
     let mut wallet = shapes::ways(each, Way::Chain);
     let nexts = lasts(each).cycle().skip(1);
     for (last, next) in lasts(each).zip(nexts).take(CONSTRAINED) {
@@ -197,9 +197,9 @@ fn constrained(each: &[u16]) -> Wallet {
 }
 
 /// The indices of the last credential of each way.
-fn lasts(each: &[u16]) -> impl Iterator<Item = usize> + Clone + '_ {
+fn lasts(each: &[Number]) -> impl Iterator<Item = usize> + Clone + '_ {
     let ends = each.iter().scan(0, |end, each| {
-        *end += usize::from(*each);
+        *end += *each as usize;
         Some(*end)
     });
     ends.map(|end| end - 1)

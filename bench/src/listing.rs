@@ -10,6 +10,7 @@ use reference::patience::Patience;
 use reference::query::{Asked, Query};
 use reference::records::Records;
 use reference::table::Table;
+use reference::Number;
 
 /// So many cells are lent, as many as the listing program has.
 pub const CELLS: usize = 4_096;
@@ -22,16 +23,16 @@ const STEPS_PER_SECOND: f64 = 1e9;
 #[derive(Clone, Debug)]
 pub struct Listing {
     /// The table.
-    pub table: Vec<u16>,
+    pub table: Vec<Number>,
     /// The query.
     pub query: Query,
     /// The table in the base layout, if it means the same there.
-    base: Option<Vec<u16>>,
+    base: Option<Vec<Number>>,
 }
 
 impl Listing {
     /// The listing of a table's numbers.
-    pub fn new(table: Vec<u16>, query: Query) -> Listing {
+    pub fn new(table: Vec<Number>, query: Query) -> Listing {
         let base = Records::read(&table)
             .ok()
             .and_then(|records| based(&records));
@@ -49,7 +50,7 @@ impl Listing {
 
     /// The table in the base layout, for builds that know no other. There is none
     /// if some automaton does not demand every word: nothing means that there.
-    pub fn base(&self) -> Option<&[u16]> {
+    pub fn base(&self) -> Option<&[Number]> {
         self.base.as_deref()
     }
 
@@ -76,12 +77,12 @@ impl Listing {
     }
 
     /// The library's answer for a set, with the record in the first cells.
-    pub fn write(&self, set: u32, cells: &mut [u16]) -> Result<usize, bwlchareg::Refusal> {
+    pub fn write(&self, set: u32, cells: &mut [Number]) -> Result<usize, bwlchareg::Refusal> {
         bwlchareg::write(&self.table, library_query(self.query), set, cells)
     }
 
     /// The library's verdict on a record.
-    pub fn verify(&self, record: &[u16]) -> Result<u32, bwlchareg::Refusal> {
+    pub fn verify(&self, record: &[Number]) -> Result<u32, bwlchareg::Refusal> {
         bwlchareg::verify(&self.table, library_query(self.query), record)
     }
 
@@ -94,7 +95,7 @@ impl Listing {
 }
 
 /// The table of some records in the base layout, if all marks are 0.
-fn based(records: &Records) -> Option<Vec<u16>> {
+fn based(records: &Records) -> Option<Vec<Number>> {
     let mut marks = records.automata.iter().map(|[_, _, mark]| *mark);
     marks
         .all(|mark| mark == EVERY_WORD)
@@ -122,10 +123,15 @@ mod tests {
     use super::Listing;
     use bwlchareg::layout::{self, SOME_WORD};
     use reference::shop::{Q, T, U};
+    use reference::Number;
 
     #[test]
     fn the_base_layout_leaves_out_marks_of_0_and_knows_no_others() {
-        let base = |table: &[u16]| Listing::new(table.to_vec(), Q).base().map(<[u16]>::to_vec);
+        let base = |table: &[Number]| {
+            Listing::new(table.to_vec(), Q)
+                .base()
+                .map(<[Number]>::to_vec)
+        };
         assert_eq!(base(&T), Some(T.to_vec()));
         let upgraded = base(&U).map(|base| bwlchareg::upgraded(&base));
         assert_eq!(upgraded, Some(Ok(U.to_vec())));

@@ -5,13 +5,15 @@
 
 use std::fmt::Write;
 
+use reference::Number;
+
 /// A curve: times in nanoseconds at numbers. A time is missing if it is over
 /// the limit.
 pub struct Curve {
     /// Its name in the legend.
     pub name: String,
     /// Its points, from left to right.
-    pub points: Vec<(u16, Option<f64>)>,
+    pub points: Vec<(Number, Option<f64>)>,
     /// Which of the colours and markers it has.
     pub look: usize,
     /// Whether its line is dashed and its markers are hollow.
@@ -90,7 +92,7 @@ impl Plot {
 
     /// The line and the markers of a curve.
     fn curve(&self, curve: &Curve) -> String {
-        let point = |&(number, time): &(u16, Option<f64>)| {
+        let point = |&(number, time): &(Number, Option<f64>)| {
             let time = time.unwrap_or(self.limit).min(self.limit);
             (self.x(number), self.y(time))
         };
@@ -126,9 +128,9 @@ impl Plot {
     }
 
     /// The numbers at which there are points, ascending.
-    fn numbers(&self) -> Vec<u16> {
+    fn numbers(&self) -> Vec<Number> {
         let points = self.curves.iter().flat_map(|curve| &curve.points);
-        let mut numbers: Vec<u16> = points.map(|point| point.0).collect();
+        let mut numbers: Vec<Number> = points.map(|point| point.0).collect();
         numbers.sort();
         numbers.dedup();
         numbers
@@ -151,7 +153,7 @@ impl Plot {
     }
 
     /// Where a number stands from left to right.
-    fn x(&self, number: u16) -> f64 {
+    fn x(&self, number: Number) -> f64 {
         let numbers = self.numbers();
         let ends = numbers.first().zip(numbers.last());
         let (first, last) = ends.map_or((0.0, 1.0), |(&first, &last)| (first.into(), last.into()));
@@ -250,8 +252,9 @@ fn power_of_ten(power: i32) -> String {
 #[cfg(test)]
 mod tests {
     use super::{escaped, power_of_ten, Curve, Plot, SIZE};
+    use reference::Number;
 
-    fn curve(look: usize, dashed: bool, points: Vec<(u16, Option<f64>)>) -> Curve {
+    fn curve(look: usize, dashed: bool, points: Vec<(Number, Option<f64>)>) -> Curve {
         Curve {
             name: format!("{look} <&> {dashed}"),
             points,

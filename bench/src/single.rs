@@ -101,7 +101,7 @@ fn words(numbers: &[impl ToString]) -> String {
 }
 
 /// The numbers that are in a text, if nothing else is.
-fn numbers<Number: std::str::FromStr>(text: &str) -> Option<Vec<Number>> {
+fn numbers<Value: std::str::FromStr>(text: &str) -> Option<Vec<Value>> {
     let words = text.split_whitespace();
     words.map(|word| word.parse().ok()).collect()
 }

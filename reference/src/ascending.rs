@@ -94,7 +94,7 @@ impl<'a> Ascending<'a> {
         let mut ascending = Ascending {
             table,
             set,
-            depth: usize::from(asked.depth),
+            depth: asked.depth as usize,
             middles: middles(table),
             rows: Vec::new(),
             places: HashMap::new(),

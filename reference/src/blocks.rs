@@ -16,7 +16,7 @@
 use std::fmt::Display;
 
 use crate::stored::{Case, Given};
-use crate::{list, verify, write, Refusal};
+use crate::{list, verify, write, Number, Refusal};
 
 /// Numbers of a block.
 const BLOCK: usize = 512;
@@ -28,7 +28,7 @@ pub const LISTS: usize = 4;
 pub const UNTOUCHED: u32 = 2863311530;
 /// What a cell for a number of a record holds beforehand. No such number is so
 /// great.
-const UNTOUCHED_NUMBER: u16 = 43690;
+const UNTOUCHED_NUMBER: Number = 43690;
 /// Sets that are on the list of no case.
 pub const UNLISTED: [u32; 2] = [0, 15];
 /// How many numbers there is room for: as many as the longest record has that is
@@ -40,7 +40,7 @@ const ONE: usize = 1;
 /// What the program reads.
 pub fn input(cases: &[Case]) -> Vec<u8> {
     let numbers = cases.iter().flat_map(block);
-    numbers.flat_map(u16::to_le_bytes).collect()
+    numbers.flat_map(Number::to_le_bytes).collect()
 }
 
 /// What the program prints.
@@ -83,12 +83,12 @@ fn written(case: &Case, set: u32, cells: usize) -> String {
     line(answer.map(|length| length as u64), &after)
 }
 
-fn block(case: &Case) -> Vec<u16> {
+fn block(case: &Case) -> Vec<Number> {
     let (kind, cells, record) = match &case.given {
         Given::Cells(cells) => (1, *cells, &[][..]),
         Given::Record(record) => (2, 0, &record[..]),
     };
-    let lengths = [cells, case.table.len(), record.len()].map(|length| length as u16);
+    let lengths = [cells, case.table.len(), record.len()].map(|length| length as Number);
     let head = [&[kind], &case.query.numbers()[..], &lengths].concat();
     let mut block = [&head, &case.table[..], record].concat();
     let fits = block.len() <= BLOCK && cells <= MOST_CELLS;

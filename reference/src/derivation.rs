@@ -7,6 +7,7 @@ use crate::query::Asked;
 use crate::refusal::Refusal;
 use crate::sorts::Goal;
 use crate::table::Table;
+use crate::Number;
 
 /// How many numbers a record has for each node: its credential and its middle.
 pub const NODE: usize = 2;
@@ -18,7 +19,7 @@ pub struct Derivation {
     /// What is derived.
     pub goal: Goal,
     /// The number of the credential.
-    pub credential: u16,
+    pub credential: Number,
     /// The derivations of the premises in their order; none under kind 1.
     pub premises: Vec<Derivation>,
 }
@@ -26,10 +27,10 @@ pub struct Derivation {
 impl Derivation {
     /// Reads a record as one whole derivation of what is asked, or refuses it
     /// at the first node that fails.
-    pub fn read(table: &Table, asked: Asked, record: &[u16]) -> Result<Derivation, Refusal> {
+    pub fn read(table: &Table, asked: Asked, record: &[Number]) -> Result<Derivation, Refusal> {
         let mut reader = Reader {
             table,
-            depth: usize::from(asked.depth),
+            depth: asked.depth as usize,
             numbers: record.iter(),
             nodes: 0,
         };
@@ -55,7 +56,7 @@ struct Reader<'a> {
     /// The highest level that a node may have.
     depth: usize,
     /// The numbers that have not been read.
-    numbers: slice::Iter<'a, u16>,
+    numbers: slice::Iter<'a, Number>,
     /// How many nodes have been begun.
     nodes: u64,
 }
@@ -89,7 +90,7 @@ impl Reader<'_> {
     }
 
     /// The two numbers of the next node, if so many remain.
-    fn pair(&mut self) -> Option<(u16, u16)> {
+    fn pair(&mut self) -> Option<(Number, Number)> {
         let credential = *self.numbers.next()?;
         let middle = *self.numbers.next()?;
         Some((credential, middle))

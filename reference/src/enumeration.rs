@@ -82,7 +82,7 @@ pub fn pairs(table: &Table, asked: Asked, patience: Patience) -> Option<Rc<Pairs
     };
     let top = Place {
         spot: enumeration.spot(asked.goal, &Standing::start(table)),
-        levels: usize::from(asked.depth),
+        levels: asked.depth as usize,
         without: Vec::new(),
     };
     enumeration.derivations(top)

@@ -51,21 +51,24 @@ pub mod writing;
 pub use query::Query;
 pub use refusal::Refusal;
 
+/// A number of a table, a query or a record.
+pub type Number = u16;
+
 /// A table of the base layout, upgraded: with mark 0 at each automaton. Where its
 /// head or its length is wrong in that layout it is refused, with 1, 2 or 3.
-pub fn upgraded(base: &[u16]) -> Result<Vec<u16>, Refusal> {
+pub fn upgraded(base: &[Number]) -> Result<Vec<Number>, Refusal> {
     Ok(records::Records::upgrade(base)?.numbers())
 }
 
 /// Checks a table: the table's rows of docs/DEFINITION.md, "Where each input is
 /// stopped".
-pub fn check(table: &[u16]) -> Result<(), Refusal> {
+pub fn check(table: &[Number]) -> Result<(), Refusal> {
     table::Table::read(table)?;
     Ok(())
 }
 
 /// Checks a table, then a query: the request's rows.
-pub fn check_query(table: &[u16], query: Query) -> Result<(), Refusal> {
+pub fn check_query(table: &[Number], query: Query) -> Result<(), Refusal> {
     table::Table::read(table)?;
     query.read()?;
     Ok(())
@@ -73,7 +76,7 @@ pub fn check_query(table: &[u16], query: Query) -> Result<(), Refusal> {
 
 /// Verifies a proof record: the request's rows, then 11 to 14. An accepted record
 /// is answered with its used set.
-pub fn verify(table: &[u16], query: Query, record: &[u16]) -> Result<u32, Refusal> {
+pub fn verify(table: &[Number], query: Query, record: &[Number]) -> Result<u32, Refusal> {
     let table = table::Table::read(table)?;
     let asked = query.read()?;
     let derivation = derivation::Derivation::read(&table, asked, record)?;
@@ -83,7 +86,7 @@ pub fn verify(table: &[u16], query: Query, record: &[u16]) -> Result<u32, Refusa
 
 /// Lists the minimal sets for a query in the first cells, ascending: the request's
 /// rows, then 9 and 10. An accepted list is answered with its count.
-pub fn list(table: &[u16], query: Query, cells: &mut [u32]) -> Result<usize, Refusal> {
+pub fn list(table: &[Number], query: Query, cells: &mut [u32]) -> Result<usize, Refusal> {
     let table = table::Table::read(table)?;
     let asked = query.read()?;
     listing::write(&listing::minimal_sets(&table, asked), cells)
@@ -91,7 +94,12 @@ pub fn list(table: &[u16], query: Query, cells: &mut [u32]) -> Result<usize, Ref
 
 /// Writes the first record of a minimal set into the first cells: the request's
 /// rows, then 15 and 16. A record that is written is answered with its length.
-pub fn write(table: &[u16], query: Query, set: u32, cells: &mut [u16]) -> Result<usize, Refusal> {
+pub fn write(
+    table: &[Number],
+    query: Query,
+    set: u32,
+    cells: &mut [Number],
+) -> Result<usize, Refusal> {
     let table = table::Table::read(table)?;
     let asked = query.read()?;
     let sets = listing::minimal_sets(&table, asked);

@@ -12,6 +12,7 @@ use crate::patience::Patience;
 use crate::query::Asked;
 use crate::refusal::Refusal;
 use crate::table::{Demand, Table};
+use crate::Number;
 
 /// A minimal set.
 #[derive(Clone, Debug)]
@@ -64,7 +65,7 @@ pub fn write(sets: &[Minimal], cells: &mut [u32]) -> Result<usize, Refusal> {
 
 /// Whether every automaton that is attached to a used credential is met.
 pub fn is_accepted(table: &Table, pair: Pair) -> bool {
-    let numbered = (1u16..).zip(&table.credentials);
+    let numbered = (1..).zip(&table.credentials);
     let mut used = numbered.filter(|(number, _)| is_in(*number, pair.used));
     used.all(|(_, credential)| match credential.automaton {
         Some(automaton) => is_met(table, automaton, pair),
@@ -73,8 +74,8 @@ pub fn is_accepted(table: &Table, pair: Pair) -> bool {
 }
 
 /// Whether the automaton with this number is met by a derivation of this pair.
-fn is_met(table: &Table, automaton: u16, pair: Pair) -> bool {
-    match table.automata[usize::from(automaton) - 1].demand {
+fn is_met(table: &Table, automaton: Number, pair: Pair) -> bool {
+    match table.automata[automaton as usize - 1].demand {
         Demand::EveryWord => !is_in(automaton, pair.rejecting),
         Demand::SomeWord => is_in(automaton, pair.accepting),
     }

@@ -11,6 +11,7 @@
 use std::rc::Rc;
 
 use crate::patience::Patience;
+use crate::Number;
 
 /// The pair of a derivation, or of a part of one.
 #[derive(Clone, Copy, Debug, PartialEq, Eq, PartialOrd, Ord)]
@@ -29,8 +30,8 @@ pub struct Pair {
 /// so it takes little room however many nodes it has.
 #[derive(Debug)]
 pub struct Witness {
-    credential: u16,
-    middle: u16,
+    credential: Number,
+    middle: Number,
     premises: Vec<Rc<Witness>>,
     nodes: u64,
     used: u32,
@@ -91,19 +92,19 @@ pub fn is_part(part: u32, whole: u32) -> bool {
 }
 
 /// Whether the credential or automaton with this number is in a set.
-pub fn is_in(number: u16, set: u32) -> bool {
+pub fn is_in(number: Number, set: u32) -> bool {
     (set >> (number - 1)) & 1 == 1
 }
 
 impl Witness {
     /// A node without its premises.
-    pub fn node(credential: u16, middle: u16) -> Witness {
+    pub fn node(credential: Number, middle: Number) -> Witness {
         Witness::over(credential, middle, Vec::new())
     }
 
     /// A node over these premises. The number of nodes is at most that of four
     /// premises at each of sixteen levels.
-    pub fn over(credential: u16, middle: u16, premises: Vec<Rc<Witness>>) -> Witness {
+    pub fn over(credential: Number, middle: Number, premises: Vec<Rc<Witness>>) -> Witness {
         let nodes = premises.iter().map(|premise| premise.nodes).sum::<u64>();
         let used = premises.iter().map(|premise| premise.used);
         Witness {
@@ -133,13 +134,13 @@ impl Witness {
     }
 
     /// The proof record of the derivation: its nodes in preorder.
-    pub fn record(&self) -> Vec<u16> {
+    pub fn record(&self) -> Vec<Number> {
         let mut record = Vec::new();
         self.write(&mut record);
         record
     }
 
-    fn write(&self, record: &mut Vec<u16>) {
+    fn write(&self, record: &mut Vec<Number>) {
         record.extend([self.credential, self.middle]);
         for premise in &self.premises {
             premise.write(record);
@@ -149,7 +150,7 @@ impl Witness {
 
 impl Found {
     /// A node without its premises.
-    pub fn node(pair: Pair, spot: Spot, credential: u16, middle: u16) -> Found {
+    pub fn node(pair: Pair, spot: Spot, credential: Number, middle: Number) -> Found {
         Found {
             pair,
             witness: Rc::new(Witness::node(credential, middle)),
@@ -261,6 +262,7 @@ mod tests {
     use std::rc::Rc;
 
     use super::{Found, Pair, Pairs, Patience};
+    use crate::Number;
 
     fn pair(used: u32, rejecting: u32) -> Pair {
         judged(used, rejecting, 0)
@@ -274,7 +276,7 @@ mod tests {
         }
     }
 
-    fn leaf(used: u32, rejecting: u32, credential: u16) -> Pairs {
+    fn leaf(used: u32, rejecting: u32, credential: Number) -> Pairs {
         Pairs::one(Found::node(pair(used, rejecting), 0, credential, 0))
     }
 
@@ -345,7 +347,7 @@ mod tests {
         let long = joined(&joined(&short, &short), &short);
         for both in [[&short, &long], [&long, &short]] {
             let best = added(&both);
-            let records: Vec<Vec<u16>> = best.iter().map(|held| held.witness.record()).collect();
+            let records: Vec<Vec<Number>> = best.iter().map(|held| held.witness.record()).collect();
             assert_eq!(records, [[1, 0]]);
         }
     }

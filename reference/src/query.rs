@@ -2,21 +2,22 @@
 
 use crate::refusal::Refusal;
 use crate::sorts::{one_to, Goal, Name, Principal, Role, HIGHEST};
+use crate::Number;
 
 /// The greatest depth limit; the smallest is 1.
-pub const DEEPEST: u16 = 16;
+pub const DEEPEST: Number = 16;
 
 /// A query as written.
 #[derive(Clone, Copy, Debug, PartialEq, Eq)]
 pub struct Query {
     /// The principal.
-    pub principal: u16,
+    pub principal: Number,
     /// The owner of the role.
-    pub owner: u16,
+    pub owner: Number,
     /// The name of the role.
-    pub name: u16,
+    pub name: Number,
     /// The depth limit.
-    pub depth: u16,
+    pub depth: Number,
 }
 
 /// What a valid query stands for: the goal, and how deep a derivation of it
@@ -26,20 +27,20 @@ pub struct Asked {
     /// The goal.
     pub goal: Goal,
     /// The highest level that a node may have.
-    pub depth: u16,
+    pub depth: Number,
 }
 
 impl Query {
     /// The greatest value of each field; the smallest is 1.
-    pub const LIMITS: [u16; 4] = [HIGHEST, HIGHEST, HIGHEST, DEEPEST];
+    pub const LIMITS: [Number; 4] = [HIGHEST, HIGHEST, HIGHEST, DEEPEST];
 
     /// The four fields in the order in which they are given.
-    pub fn numbers(self) -> [u16; 4] {
+    pub fn numbers(self) -> [Number; 4] {
         [self.principal, self.owner, self.name, self.depth]
     }
 
     /// The query with these four fields.
-    pub fn from_numbers([principal, owner, name, depth]: [u16; 4]) -> Query {
+    pub fn from_numbers([principal, owner, name, depth]: [Number; 4]) -> Query {
         Query {
             principal,
             owner,

@@ -1,5 +1,7 @@
 //! A small source of made-up numbers: the same seed, the same numbers.
 
+use crate::Number;
+
 /// SplitMix64: a counter that goes up by a fixed odd step, whose bits are
 /// then mixed.
 #[derive(Clone, Debug)]
@@ -29,8 +31,8 @@ impl Random {
     }
 
     /// A number from `low` to `high`, both included.
-    pub fn between(&mut self, low: u16, high: u16) -> u16 {
-        low + self.below(usize::from(high - low) + 1) as u16
+    pub fn between(&mut self, low: Number, high: Number) -> Number {
+        low + self.below((high - low) as usize + 1) as Number
     }
 
     /// True once in so many times.
@@ -62,6 +64,7 @@ impl Random {
 #[cfg(test)]
 mod tests {
     use super::Random;
+    use crate::Number;
 
     #[test]
     fn the_numbers_are_those_of_splitmix64() {
@@ -75,7 +78,7 @@ mod tests {
     #[test]
     fn both_ends_of_a_range_come_out() {
         let mut random = Random::new(1);
-        let drawn: Vec<u16> = (0..200).map(|_| random.between(3, 6)).collect();
+        let drawn: Vec<Number> = (0..200).map(|_| random.between(3, 6)).collect();
         assert!((3..=6).all(|number| drawn.contains(&number)));
         assert!(drawn.iter().all(|number| (3..=6).contains(number)));
     }

@@ -2,6 +2,7 @@
 //! which automata have no marks.
 
 use crate::refusal::Refusal;
+use crate::Number;
 
 /// How many numbers a record of each sort has, in the order of the head.
 const SIZES: [usize; 4] = [6, 3, 3, 6];
@@ -9,25 +10,25 @@ const SIZES: [usize; 4] = [6, 3, 3, 6];
 const BASE_SIZES: [usize; 4] = [6, 3, 2, 6];
 
 /// A credential as written: owner, name, kind, first, second, automaton.
-pub type CredentialRecord = [u16; SIZES[0]];
+pub type CredentialRecord = [Number; SIZES[0]];
 /// A part cell as written: principal, name, next.
-pub type CellRecord = [u16; SIZES[1]];
+pub type CellRecord = [Number; SIZES[1]];
 /// An automaton as written: starting set, accepting set, mark.
-pub type AutomatonRecord = [u16; SIZES[2]];
+pub type AutomatonRecord = [Number; SIZES[2]];
 /// An edge as written: automaton, from, label, owner, name, to.
-pub type EdgeRecord = [u16; SIZES[3]];
+pub type EdgeRecord = [Number; SIZES[3]];
 
 /// How many records of each sort a table has.
 #[derive(Clone, Copy, Debug, PartialEq, Eq)]
 pub struct Head {
     /// The number of credentials, n.
-    pub credentials: u16,
+    pub credentials: Number,
     /// The number of part cells, q.
-    pub cells: u16,
+    pub cells: Number,
     /// The number of automata, a.
-    pub automata: u16,
+    pub automata: Number,
     /// The number of edges, e.
-    pub edges: u16,
+    pub edges: Number,
 }
 
 impl Head {
@@ -40,7 +41,7 @@ impl Head {
     };
 
     /// The four counts in the order in which they are written.
-    pub fn numbers(self) -> [u16; 4] {
+    pub fn numbers(self) -> [Number; 4] {
         [self.credentials, self.cells, self.automata, self.edges]
     }
 
@@ -53,7 +54,7 @@ impl Head {
     fn length_with(self, sizes: [usize; 4]) -> usize {
         let records = self.numbers().into_iter().zip(sizes);
         4 + records
-            .map(|(count, size)| usize::from(count) * size)
+            .map(|(count, size)| count as usize * size)
             .sum::<usize>()
     }
 
@@ -82,7 +83,7 @@ pub struct Records {
 
 impl Records {
     /// Takes a table apart, or refuses it for its head or its length.
-    pub fn read(table: &[u16]) -> Result<Records, Refusal> {
+    pub fn read(table: &[Number]) -> Result<Records, Refusal> {
         let (head, mut rest) = parted(table, SIZES)?;
         Ok(Records {
             credentials: take(head.credentials, &mut rest),
@@ -94,9 +95,9 @@ impl Records {
 
     /// Takes a table of the base layout apart, or refuses it as such for its head
     /// or its length. Each automaton gets mark 0.
-    pub fn upgrade(base: &[u16]) -> Result<Records, Refusal> {
+    pub fn upgrade(base: &[Number]) -> Result<Records, Refusal> {
         let (head, mut rest) = parted(base, BASE_SIZES)?;
-        let with_mark = |[starting, accepting]: [u16; 2]| [starting, accepting, 0];
+        let with_mark = |[starting, accepting]: [Number; 2]| [starting, accepting, 0];
         Ok(Records {
             credentials: take(head.credentials, &mut rest),
             cells: take(head.cells, &mut rest),
@@ -112,25 +113,25 @@ impl Records {
     /// the limits allow; the counts are true all the same.
     pub fn head(&self) -> Head {
         Head {
-            credentials: self.credentials.len() as u16,
-            cells: self.cells.len() as u16,
-            automata: self.automata.len() as u16,
-            edges: self.edges.len() as u16,
+            credentials: self.credentials.len() as Number,
+            cells: self.cells.len() as Number,
+            automata: self.automata.len() as Number,
+            edges: self.edges.len() as Number,
         }
     }
 
     /// The table with these records, as a slice of it would be written.
-    pub fn numbers(&self) -> Vec<u16> {
+    pub fn numbers(&self) -> Vec<Number> {
         self.with_automata(self.automata.iter().flatten())
     }
 
     /// The same in the base layout, which leaves out the marks.
-    pub fn base_numbers(&self) -> Vec<u16> {
+    pub fn base_numbers(&self) -> Vec<Number> {
         self.with_automata(self.automata.iter().flat_map(|record| &record[..2]))
     }
 
     /// The table with these records, in which the automata have these numbers.
-    fn with_automata<'a>(&'a self, automata: impl Iterator<Item = &'a u16>) -> Vec<u16> {
+    fn with_automata<'a>(&'a self, automata: impl Iterator<Item = &'a Number>) -> Vec<Number> {
         let credentials = self.credentials.iter().flatten();
         let records = credentials
             .chain(self.cells.iter().flatten())
@@ -144,9 +145,9 @@ impl Records {
 /// The head of a table and the numbers behind it, where the records of each sort
 /// have so many numbers; or why its head or its length is refused.
 fn parted(
-    table: &[u16],
+    table: &[Number],
     sizes: [usize; 4],
-) -> Result<(Head, impl Iterator<Item = u16> + '_), Refusal> {
+) -> Result<(Head, impl Iterator<Item = Number> + '_), Refusal> {
     let &[credentials, cells, automata, edges, ref rest @ ..] = table else {
         return Err(Refusal::new(1, 0u64));
     };
@@ -167,7 +168,10 @@ fn parted(
 
 /// Takes so many records of `SIZE` numbers each from the front of the rest.
 /// The length is known to fit, so the rest does not end too early.
-fn take<const SIZE: usize>(count: u16, rest: &mut impl Iterator<Item = u16>) -> Vec<[u16; SIZE]> {
+fn take<const SIZE: usize>(
+    count: Number,
+    rest: &mut impl Iterator<Item = Number>,
+) -> Vec<[Number; SIZE]> {
     let mut record = || std::array::from_fn(|_| rest.next().expect("the length fits the head"));
     (0..count).map(|_| record()).collect()
 }

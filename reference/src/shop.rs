@@ -4,10 +4,11 @@
 //! accredited 3.
 
 use crate::query::Query;
+use crate::Number;
 
 /// Table T: Shop gives the discount to the students of whoever it accredits,
 /// it accredits School, Ann is a student of School, and Ann has the discount.
-pub const T: [u16; 28] = [
+pub const T: [Number; 28] = [
     4, 0, 0, 0, //
     1, 1, 3, 3, 2, 0, //
     1, 3, 1, 2, 0, 0, //
@@ -17,7 +18,7 @@ pub const T: [u16; 28] = [
 
 /// Table U: T with an automaton attached to credential 3, which rejects every
 /// word that begins with Shop.discount. Its mark demands every word.
-pub const U: [u16; 43] = [
+pub const U: [Number; 43] = [
     4, 0, 1, 2, //
     1, 1, 3, 3, 2, 0, //
     1, 3, 1, 2, 0, 0, //
@@ -38,4 +39,4 @@ pub const Q: Query = Query {
 
 /// Record R: Ann has the discount as a student of School, which Shop
 /// accredits. Its words are discount, accredited and discount, student.
-pub const R: [u16; 6] = [1, 2, 2, 0, 3, 0];
+pub const R: [Number; 6] = [1, 2, 2, 0, 3, 0];

@@ -3,16 +3,18 @@
 //! Principals and role names are numbers alike, but separate sorts: neither
 //! can stand for the other.
 
+use crate::Number;
+
 /// Principals and role names are each numbered from 1 to this.
-pub const HIGHEST: u16 = 64;
+pub const HIGHEST: Number = 64;
 
 /// A principal, numbered 1 to 64.
 #[derive(Clone, Copy, Debug, PartialEq, Eq, PartialOrd, Ord, Hash)]
-pub struct Principal(u16);
+pub struct Principal(Number);
 
 /// A role name, numbered 1 to 64.
 #[derive(Clone, Copy, Debug, PartialEq, Eq, PartialOrd, Ord, Hash)]
-pub struct Name(u16);
+pub struct Name(Number);
 
 /// A role: its owner and its name.
 #[derive(Clone, Copy, Debug, PartialEq, Eq, PartialOrd, Ord, Hash)]
@@ -34,24 +36,24 @@ pub struct Goal {
 
 impl Principal {
     /// The principal with this number, if there is one.
-    pub fn read(number: u16) -> Option<Principal> {
+    pub fn read(number: Number) -> Option<Principal> {
         one_to(HIGHEST, number).map(Principal)
     }
 
     /// The principal's number.
-    pub fn number(self) -> u16 {
+    pub fn number(self) -> Number {
         self.0
     }
 }
 
 impl Name {
     /// The role name with this number, if there is one.
-    pub fn read(number: u16) -> Option<Name> {
+    pub fn read(number: Number) -> Option<Name> {
         one_to(HIGHEST, number).map(Name)
     }
 
     /// The role name's number.
-    pub fn number(self) -> u16 {
+    pub fn number(self) -> Number {
         self.0
     }
 }
@@ -63,7 +65,7 @@ impl Role {
     }
 
     /// The role with these numbers, if there is one.
-    pub fn read(owner: u16, name: u16) -> Option<Role> {
+    pub fn read(owner: Number, name: Number) -> Option<Role> {
         Some(Role {
             owner: Principal::read(owner)?,
             name: Name::read(name)?,
@@ -72,6 +74,6 @@ impl Role {
 }
 
 /// The number itself, if it is one of 1 to `limit`.
-pub fn one_to(limit: u16, number: u16) -> Option<u16> {
+pub fn one_to(limit: Number, number: Number) -> Option<Number> {
     (1..=limit).contains(&number).then_some(number)
 }

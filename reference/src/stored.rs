@@ -29,12 +29,13 @@ use crate::generate::{full, wide};
 use crate::query::Query;
 use crate::records::{EdgeRecord, Records};
 use crate::shop::{Q, R, T, U};
+use crate::Number;
 
 /// A case: what a call is given.
 #[derive(Clone, Debug, PartialEq, Eq)]
 pub struct Case {
     /// The table's numbers.
-    pub table: Vec<u16>,
+    pub table: Vec<Number>,
     /// The query.
     pub query: Query,
     /// What else, by the call.
@@ -47,7 +48,7 @@ pub enum Given {
     /// The listing call: a buffer of so many cells.
     Cells(usize),
     /// The verifying call: a record.
-    Record(Vec<u16>),
+    Record(Vec<Number>),
 }
 
 /// All cases, in their order.
@@ -64,7 +65,7 @@ pub fn cases() -> Vec<Case> {
     .concat()
 }
 
-fn list(table: &[u16], query: Query, cells: usize) -> Case {
+fn list(table: &[Number], query: Query, cells: usize) -> Case {
     let (table, given) = (table.to_vec(), Given::Cells(cells));
     Case {
         table,
@@ -73,7 +74,7 @@ fn list(table: &[u16], query: Query, cells: usize) -> Case {
     }
 }
 
-fn verify(table: &[u16], query: Query, record: &[u16]) -> Case {
+fn verify(table: &[Number], query: Query, record: &[Number]) -> Case {
     let (table, given) = (table.to_vec(), Given::Record(record.to_vec()));
     Case {
         table,
@@ -145,7 +146,7 @@ const OWNED_BY_3: Query = Query {
 };
 
 /// The wallet with a change, as numbers.
-fn changed(change: impl FnOnce(&mut Records)) -> Vec<u16> {
+fn changed(change: impl FnOnce(&mut Records)) -> Vec<Number> {
     let mut wallet = wallet();
     change(&mut wallet);
     wallet.numbers()
@@ -154,7 +155,7 @@ fn changed(change: impl FnOnce(&mut Records)) -> Vec<u16> {
 /// The wallet with label 4: its second automaton accepts the words that have
 /// roles of these owners alone. Credential 6, to which it is attached, is for a
 /// role of 3.
-fn owned_by(owners: &[u16]) -> Records {
+fn owned_by(owners: &[Number]) -> Records {
     let mut wallet = wallet();
     wallet.edges.truncate(2);
     let edges = owners.iter().map(|&owner| [2, 0, 4, owner, 0, 0]);
@@ -198,12 +199,12 @@ const FRIEND: Query = Query {
 
 /// As many edges as a block has room for beside eight credentials, eight automata
 /// and a record of four nodes.
-const EDGES: u16 = 70;
+const EDGES: Number = 70;
 
 /// Two ways by which principal 7 is in 1.1, and two automata with these edges,
 /// which start in state 0 and accept in state 2. The first is for the first way,
 /// and one of them for the second.
-fn fork(second: u16, edges: &[EdgeRecord]) -> Records {
+fn fork(second: Number, edges: &[EdgeRecord]) -> Records {
     Records {
         credentials: vec![
             [1, 1, 2, 1, 2, 0],      // 1: whoever is in 1.2 is in 1.1

@@ -8,9 +8,13 @@ use std::iter::successors;
 use crate::records::{AutomatonRecord, CellRecord, CredentialRecord, EdgeRecord, Head, Records};
 use crate::refusal::Refusal;
 use crate::sorts::{one_to, Goal, Name, Principal, Role};
+use crate::Number;
 
 /// The highest state; the lowest is 0.
-pub const LAST_STATE: u16 = 15;
+pub const LAST_STATE: Number = 15;
+/// The set of all states, in which state s counts 2^s: sixteen bits, however wide
+/// a number is.
+pub const EVERY_STATE: Number = u16::MAX as Number;
 
 /// A table whose checks find nothing.
 #[derive(Clone, Debug, PartialEq, Eq)]
@@ -33,7 +37,7 @@ pub struct Credential {
     /// Who is in the role.
     pub members: Members,
     /// The number of the automaton attached to it, if there is one.
-    pub automaton: Option<u16>,
+    pub automaton: Option<Number>,
 }
 
 /// Who is in a credential's role: the four kinds.
@@ -47,7 +51,7 @@ pub enum Members {
     Linked(Name, Name),
     /// Kind 4: whoever is in every part's role; the number of the chain's
     /// first cell.
-    InEvery(u16),
+    InEvery(Number),
 }
 
 /// A part cell: a role of a chain, and where the chain goes on.
@@ -56,7 +60,7 @@ pub struct Cell {
     /// The part's role.
     pub role: Role,
     /// The number of the chain's next cell; none ends the chain.
-    pub next: Option<u16>,
+    pub next: Option<Number>,
 }
 
 /// An automaton: two sets of states, in which state s counts 2^s, and what it
@@ -64,9 +68,9 @@ pub struct Cell {
 #[derive(Clone, Debug, PartialEq, Eq)]
 pub struct Automaton {
     /// The starting states.
-    pub starting: u16,
+    pub starting: Number,
     /// The accepting states.
-    pub accepting: u16,
+    pub accepting: Number,
     /// Which words of a record it must accept.
     pub demand: Demand,
 }
@@ -84,13 +88,13 @@ pub enum Demand {
 #[derive(Clone, Debug, PartialEq, Eq)]
 pub struct Edge {
     /// The number of the automaton to which it belongs.
-    pub automaton: u16,
+    pub automaton: Number,
     /// The state it leaves.
-    pub from: u16,
+    pub from: Number,
     /// The roles on which it is taken.
     pub label: Label,
     /// The state it enters.
-    pub to: u16,
+    pub to: Number,
 }
 
 /// The roles that an edge matches.
@@ -111,7 +115,7 @@ impl Table {
     ///
     /// All credentials are read before any cell, all cells before any chain
     /// is followed, all chains before any edge, all edges before any mark.
-    pub fn read(table: &[u16]) -> Result<Table, Refusal> {
+    pub fn read(table: &[Number]) -> Result<Table, Refusal> {
         let records = Records::read(table)?;
         let head = records.head();
         let credentials = each(4, &records.credentials, |_, record| {
@@ -134,8 +138,8 @@ impl Table {
     }
 
     /// The credential with this number, if there is one.
-    pub fn credential(&self, number: u16) -> Option<&Credential> {
-        let index = usize::from(number).checked_sub(1)?;
+    pub fn credential(&self, number: Number) -> Option<&Credential> {
+        let index = (number as usize).checked_sub(1)?;
         self.credentials.get(index)
     }
 
@@ -144,7 +148,7 @@ impl Table {
     /// cannot be proved so, and an empty one under kind 1.
     ///
     /// Only kind 3 has a middle; for the others it is 0.
-    pub fn premises(&self, goal: Goal, credential: u16, middle: u16) -> Option<Vec<Goal>> {
+    pub fn premises(&self, goal: Goal, credential: Number, middle: Number) -> Option<Vec<Goal>> {
         let credential = self.credential(credential)?;
         if credential.role != goal.role {
             return None;
@@ -178,9 +182,9 @@ impl Table {
 fn each<Record, Value>(
     refusal: u32,
     records: &[Record],
-    read: impl Fn(u16, &Record) -> Option<Value>,
+    read: impl Fn(Number, &Record) -> Option<Value>,
 ) -> Result<Vec<Value>, Refusal> {
-    let numbered = (1u16..).zip(records);
+    let numbered = (1..).zip(records);
     numbered
         .map(|(number, record)| read(number, record).ok_or(Refusal::new(refusal, number)))
         .collect()
@@ -224,8 +228,8 @@ impl Credential {
 
 /// The cells of the chain that begins at a cell, in order. Each next cell is
 /// a greater one, so the chain ends.
-pub fn chain(first: u16, cells: &[Cell]) -> impl Iterator<Item = &Cell> {
-    let cell = |number: u16| cells.get(usize::from(number) - 1);
+pub fn chain(first: Number, cells: &[Cell]) -> impl Iterator<Item = &Cell> {
+    let cell = |number: Number| cells.get(number as usize - 1);
     successors(cell(first), move |last| last.next.and_then(cell))
 }
 
@@ -243,7 +247,7 @@ impl Label {
 
 impl Cell {
     /// The part cell that a record stands for, if it stands for one.
-    fn read(number: u16, record: &CellRecord, head: Head) -> Option<Cell> {
+    fn read(number: Number, record: &CellRecord, head: Head) -> Option<Cell> {
         let &[principal, name, next] = record;
         let role = Role::read(principal, name)?;
         let next = match next {
@@ -269,7 +273,7 @@ impl Automaton {
 
 impl Demand {
     /// What a mark demands, if it is one.
-    fn read(mark: u16) -> Option<Demand> {
+    fn read(mark: Number) -> Option<Demand> {
         match mark {
             0 => Some(Demand::EveryWord),
             1 => Some(Demand::SomeWord),
@@ -299,6 +303,6 @@ impl Edge {
 }
 
 /// The number itself, if it is a state.
-fn state(number: u16) -> Option<u16> {
+fn state(number: Number) -> Option<Number> {
     (number <= LAST_STATE).then_some(number)
 }

@@ -2,14 +2,15 @@
 
 use crate::sorts::{Goal, Principal};
 use crate::table::{Members, Table};
+use crate::Number;
 
 /// A credential and a middle through which a goal can be proved.
 #[derive(Clone, Debug, PartialEq, Eq)]
 pub struct Way {
     /// The number of the credential.
-    pub credential: u16,
+    pub credential: Number,
     /// The middle.
-    pub middle: u16,
+    pub middle: Number,
     /// The goals on which it then rests, in their order; none under kind 1.
     pub premises: Vec<Goal>,
 }
@@ -18,7 +19,7 @@ pub struct Way {
 /// and then by middle.
 pub fn ways(table: &Table, middles: &[Principal], goal: Goal) -> Vec<Way> {
     let mut ways = Vec::new();
-    for (credential, of_table) in (1u16..).zip(&table.credentials) {
+    for (credential, of_table) in (1..).zip(&table.credentials) {
         let middles = match of_table.members {
             Members::Linked(..) => middles.iter().map(|middle| middle.number()).collect(),
             _ => vec![0],

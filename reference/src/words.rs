@@ -9,12 +9,13 @@ use crate::derivation::Derivation;
 use crate::refusal::Refusal;
 use crate::sorts::Role;
 use crate::table::{Automaton, Demand, Table, LAST_STATE};
+use crate::Number;
 
 /// Judges the words of a derivation, or names the lowest used automaton that is
 /// not met.
 pub fn comply(table: &Table, derivation: &Derivation) -> Result<(), Refusal> {
     let used_set = derivation.used_set();
-    for number in (1u16..).take(table.automata.len()) {
+    for number in (1..).take(table.automata.len()) {
         if is_used(table, number, used_set) && !is_met(table, number, derivation) {
             return Err(Refusal::new(14, number));
         }
@@ -24,16 +25,16 @@ pub fn comply(table: &Table, derivation: &Derivation) -> Result<(), Refusal> {
 
 /// Whether the words of a derivation are as the automaton with this number
 /// demands, used or not.
-pub fn is_met(table: &Table, number: u16, derivation: &Derivation) -> bool {
+pub fn is_met(table: &Table, number: Number, derivation: &Derivation) -> bool {
     let accepted = |word: &[Role]| accepts(table, number, word);
-    match table.automata[usize::from(number) - 1].demand {
+    match table.automata[number as usize - 1].demand {
         Demand::EveryWord => every_word(derivation, accepted),
         Demand::SomeWord => some_word(derivation, accepted),
     }
 }
 
 /// Whether an automaton is attached to one of the used credentials.
-fn is_used(table: &Table, automaton: u16, used_set: u32) -> bool {
+fn is_used(table: &Table, automaton: Number, used_set: u32) -> bool {
     let numbered = table.credentials.iter().enumerate();
     let mut used = numbered.filter(|(index, _)| (used_set >> index) & 1 == 1);
     used.any(|(_, credential)| credential.automaton == Some(automaton))
@@ -81,7 +82,7 @@ pub fn words(derivation: &Derivation) -> Vec<Vec<Role>> {
 type States = [bool; LAST_STATE as usize + 1];
 
 /// The states of a set in which state s counts 2^s.
-fn states(set: u16) -> States {
+fn states(set: Number) -> States {
     std::array::from_fn(|state| (set >> state) & 1 == 1)
 }
 
@@ -103,7 +104,7 @@ impl Standing {
 
     /// After one role more.
     pub fn after(&self, table: &Table, role: Role) -> Standing {
-        let numbered = (1u16..).zip(&self.0);
+        let numbered = (1..).zip(&self.0);
         let stepped = numbered.map(|(number, &before)| step(table, number, before, role));
         Standing(stepped.collect())
     }
@@ -141,8 +142,8 @@ impl Standing {
 
 /// Whether the automaton with this number accepts a word: whether it can end
 /// in an accepting state.
-pub fn accepts(table: &Table, number: u16, word: &[Role]) -> bool {
-    let automaton = &table.automata[usize::from(number) - 1];
+pub fn accepts(table: &Table, number: Number, word: &[Role]) -> bool {
+    let automaton = &table.automata[number as usize - 1];
     let mut reached = states(automaton.starting);
     for &role in word {
         reached = step(table, number, reached, role);
@@ -160,12 +161,12 @@ fn meets(reached: &States, automaton: &Automaton) -> bool {
 }
 
 /// Where an automaton can be after a role, given where it can be before.
-fn step(table: &Table, number: u16, before: States, role: Role) -> States {
+fn step(table: &Table, number: Number, before: States, role: Role) -> States {
     let mut after = states(0);
     let own = table.edges.iter().filter(|edge| edge.automaton == number);
     for edge in own {
-        if before[usize::from(edge.from)] && edge.label.matches(role) {
-            after[usize::from(edge.to)] = true;
+        if before[edge.from as usize] && edge.label.matches(role) {
+            after[edge.to as usize] = true;
         }
     }
     after

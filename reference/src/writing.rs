@@ -14,7 +14,7 @@ use crate::patience::Patience;
 use crate::query::Asked;
 use crate::refusal::Refusal;
 use crate::table::Table;
-use crate::words;
+use crate::{words, Number};
 
 /// The first record of a minimal set.
 #[derive(Clone, Debug)]
@@ -67,7 +67,7 @@ fn is_accepted(
 
 /// Whether no credential of a set has an automaton: all its records comply.
 fn is_free(table: &Table, set: u32) -> bool {
-    let numbered = (1u16..).zip(&table.credentials);
+    let numbered = (1..).zip(&table.credentials);
     let mut used = numbered.filter(|(number, _)| is_in(*number, set));
     used.all(|(_, credential)| credential.automaton.is_none())
 }
@@ -83,7 +83,7 @@ fn complies(table: &Table, asked: Asked, witness: &Witness) -> bool {
 /// Writes the first record of a set into the cells and tells its length, or
 /// refuses: 15 if there is none, since the set is not minimal, 16 if there are
 /// fewer cells than numbers. Where it refuses it changes no cell.
-pub fn write(first: Option<&First>, cells: &mut [u16]) -> Result<usize, Refusal> {
+pub fn write(first: Option<&First>, cells: &mut [Number]) -> Result<usize, Refusal> {
     let first = first.ok_or(Refusal::new(15, 0u64))?;
     let length = NODE as u64 * first.witness.nodes();
     if (cells.len() as u64) < length {

@@ -2,7 +2,7 @@
 
 use reference::records::Records;
 use reference::shop::{Q, T, U};
-use reference::{check, check_query, Query, Refusal};
+use reference::{check, check_query, Number, Query, Refusal};
 
 /// A table with two credentials of kind 4, six cells (two chains, one of them
 /// inside the other, and two unused cells), an automaton and an edge for each
@@ -36,9 +36,9 @@ fn parts() -> Records {
 /// from 1, fields from 0.
 #[derive(Clone, Copy)]
 enum Change {
-    Credential(usize, usize, u16),
-    Cell(usize, usize, u16),
-    Edge(usize, usize, u16),
+    Credential(usize, usize, Number),
+    Cell(usize, usize, Number),
+    Edge(usize, usize, Number),
 }
 use Change::{Cell, Credential, Edge};
 
@@ -194,7 +194,7 @@ fn refusal_7_edges() {
 }
 
 /// The answer if edge 4 has this label, owner and name.
-fn labelled(label: u16, owner: u16, name: u16) -> Result<(), Refusal> {
+fn labelled(label: Number, owner: Number, name: Number) -> Result<(), Refusal> {
     changed(&[Edge(4, 2, label), Edge(4, 3, owner), Edge(4, 4, name)])
 }
 

@@ -7,27 +7,28 @@ use by_hand_tables::{
     chain, from, in_every, kept, linked, member, on, on_any_of, on_every, plain, table,
 };
 use reference::records::{CredentialRecord, EdgeRecord};
-use reference::{list, verify, write, Query, Refusal};
+use reference::table::EVERY_STATE;
+use reference::{list, verify, write, Number, Query, Refusal};
 
 /// Who there is, and the name of the role that they all own.
-const CLUB: u16 = 1;
-const ANN: u16 = 4;
-const BOB: u16 = 5;
-const CLEO: u16 = 6;
-const FRIEND: u16 = 2;
+const CLUB: Number = 1;
+const ANN: Number = 4;
+const BOB: Number = 5;
+const CLEO: Number = 6;
+const FRIEND: Number = 2;
 
 /// Somebody's friends.
-fn friends(owner: u16) -> [u16; 2] {
+fn friends(owner: Number) -> [Number; 2] {
     [owner, FRIEND]
 }
 
 /// A friend of somebody.
-fn friend(owner: u16, person: u16) -> CredentialRecord {
+fn friend(owner: Number, person: Number) -> CredentialRecord {
     member(friends(owner), person)
 }
 
 /// Somebody's friends' friends are their friends.
-fn of_friends(owner: u16) -> CredentialRecord {
+fn of_friends(owner: Number) -> CredentialRecord {
     linked(friends(owner), FRIEND, FRIEND)
 }
 
@@ -47,12 +48,12 @@ fn club_with(more: &[CredentialRecord]) -> Vec<CredentialRecord> {
 }
 
 /// Somebody in Club.friend, within so many levels.
-fn asked(principal: u16, depth: u16) -> Query {
+fn asked(principal: Number, depth: Number) -> Query {
     Query::from_numbers([principal, CLUB, FRIEND, depth])
 }
 
 /// The list; nothing if there is no set.
-fn sets(table: &[u16], query: Query) -> Vec<u32> {
+fn sets(table: &[Number], query: Query) -> Vec<u32> {
     let mut cells = vec![0; 64];
     match list(table, query, &mut cells) {
         Ok(count) => cells.truncate(count),
@@ -65,7 +66,7 @@ fn sets(table: &[u16], query: Query) -> Vec<u32> {
 }
 
 /// The first record of a listed set, which the verifier accepts with this set.
-fn first(table: &[u16], query: Query, set: u32) -> Vec<u16> {
+fn first(table: &[Number], query: Query, set: u32) -> Vec<Number> {
     let mut cells = vec![0; 100];
     let length = write(table, query, set, &mut cells).expect("a record");
     cells.truncate(length);
@@ -79,7 +80,7 @@ fn refused(number: u32, position: u64) -> Result<u32, Refusal> {
 
 /// Cleo, by way of Bob, who is there by way of Ann: the role three times on the
 /// first branch.
-const BY_ANN: [u16; 10] = [1, BOB, 1, ANN, 2, 0, 3, 0, 4, 0];
+const BY_ANN: [Number; 10] = [1, BOB, 1, ANN, 2, 0, 3, 0, 4, 0];
 
 #[test]
 fn the_club_of_the_definition() {
@@ -111,7 +112,7 @@ fn a_pair_is_refused_wherever_it_stands_above() {
         friend(CLUB, CLUB), // 6
         friend(CLEO, CLEO), // 7
     ]));
-    let verdict = |record: &[u16]| verify(&club, asked(CLEO, 16), record);
+    let verdict = |record: &[Number]| verify(&club, asked(CLEO, 16), record);
     // Right below itself, as the first premise and as the second.
     let below = [&[1, CLEO], &BY_ANN[..], &[7, 0]].concat();
     assert_eq!(verdict(&below), refused(13, 2));
@@ -166,7 +167,7 @@ fn a_principal_may_come_again_in_another_role() {
 }
 
 /// The edges of an automaton that reads so many roles at most.
-fn at_most(roles: u16) -> Vec<EdgeRecord> {
+fn at_most(roles: Number) -> Vec<EdgeRecord> {
     (0..roles).map(|state| on_every(state, state + 1)).collect()
 }
 
@@ -180,10 +181,10 @@ fn a_constraint_may_limit_how_far_friendship_goes() {
     limited[0] = kept(limited[0]);
     // The words of 15 have three roles and two, those of 25 have two.
     for (roles, expected) in [(1, &[][..]), (2, &[25]), (3, &[15, 25]), (8, &[15, 25])] {
-        let limited = table(&limited, &[], u16::MAX, &at_most(roles));
+        let limited = table(&limited, &[], EVERY_STATE, &at_most(roles));
         assert_eq!(sets(&limited, query), expected, "{roles} roles");
     }
-    let two = table(&limited, &[], u16::MAX, &at_most(2));
+    let two = table(&limited, &[], EVERY_STATE, &at_most(2));
     assert_eq!(first(&two, query, 25), [1, BOB, 5, 0, 4, 0]);
     let mut longer = BY_ANN.to_vec();
     assert_eq!(verify(&two, query, &longer), refused(14, 1));
@@ -263,7 +264,7 @@ fn what_would_comply_may_come_back_to_its_own_pair() {
 fn the_first_record_takes_the_least_middle_that_does() {
     // Cleo has to be in Club.friend and in Ann.friend, and all say the same of
     // their friends' friends. Ann comes before Bob as a middle.
-    const GATE: [u16; 2] = [9, 9];
+    const GATE: [Number; 2] = [9, 9];
     let credentials = [
         in_every(GATE, 1), // 1
         of_friends(CLUB),  // 2
@@ -312,7 +313,7 @@ fn a_membership_may_be_needless_once_a_role_comes_again() {
     // 6 is needed under A only if A may not come again: 4 in A, 3 in B, 2 in A.
     assert_eq!(sets(&gate, query), [255 - 32]);
     let [by_2, by_6] = [&[4, 2, 5, 0, 7, 0][..], &[6, 0]];
-    let record = |under_a: &[u16], under_e: &[u16]| {
+    let record = |under_a: &[Number], under_e: &[Number]| {
         [&[1, 0, 2, 3], under_a, &[8, 0, 3, 3], under_e, &[8, 0]].concat()
     };
     assert_eq!(first(&gate, query, 223), record(by_2, by_2));
@@ -328,7 +329,7 @@ fn a_line_of_sixteen_people_has_sixteen_levels() {
     let mut line = vec![of_friends(CLUB)];
     line.extend((1..18).map(|person| friend(person, person + 1)));
     let line = plain(&line);
-    for person in 2..=18u16 {
+    for person in 2..=18 {
         let levels = person - 1;
         let used = (1 << person) - 1;
         let expected = if person == 2 { vec![2] } else { vec![used] };

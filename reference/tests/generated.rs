@@ -8,7 +8,8 @@ use reference::generate::damage::Damaged;
 use reference::generate::{chains, damage, noise, places, queries, valid, Place};
 use reference::random::Random;
 use reference::records::{Head, Records};
-use reference::{check, check_query, shop, Query, Refusal};
+use reference::table::EVERY_STATE;
+use reference::{check, check_query, shop, Number, Query, Refusal};
 
 const SEED: u64 = 7;
 
@@ -29,15 +30,15 @@ fn found(there: impl Fn(&Records) -> bool) -> usize {
 }
 
 /// The first cells of the chains of a table's kind 4 credentials.
-fn starts(records: &Records) -> Vec<u16> {
+fn starts(records: &Records) -> Vec<Number> {
     let credentials = records.credentials.iter();
     let fourth = credentials.filter(|credential| credential[2] == 4);
     fourth.map(|credential| credential[3]).collect()
 }
 
 /// The cells of the chain that starts at a cell.
-fn chain(records: &Records, start: u16) -> Vec<u16> {
-    let next = |&cell: &u16| Some(records.cells[usize::from(cell) - 1][2]).filter(|&n| n != 0);
+fn chain(records: &Records, start: Number) -> Vec<Number> {
+    let next = |&cell: &Number| Some(records.cells[cell as usize - 1][2]).filter(|&n| n != 0);
     std::iter::successors(Some(start), next).collect()
 }
 
@@ -85,7 +86,7 @@ fn every_count_is_at_its_ends() {
         assert!(found(|r| r.head().numbers()[index] == 0) > 0);
         assert!(found(|r| r.head().numbers()[index] == limit) > 0);
     }
-    for set in [0, u16::MAX] {
+    for set in [0, EVERY_STATE] {
         assert!(found(|r| r.automata.iter().any(|a| a[0] == set)) > 0);
         assert!(found(|r| r.automata.iter().any(|a| a[1] == set)) > 0);
     }
@@ -119,12 +120,12 @@ fn cells_are_shared_unused_and_repeated() {
     };
     assert!(found(shared) > 0, "two cells with one next");
     let unused = |r: &Records| {
-        let used: BTreeSet<u16> = starts(r).iter().flat_map(|&s| chain(r, s)).collect();
+        let used: BTreeSet<Number> = starts(r).iter().flat_map(|&s| chain(r, s)).collect();
         !used.is_empty() && used.len() < r.cells.len()
     };
     assert!(found(unused) > 0, "an unused cell beside used ones");
     let twice = |r: &Records| {
-        let role = |cell: u16| &r.cells[usize::from(cell) - 1][..2];
+        let role = |cell: Number| &r.cells[cell as usize - 1][..2];
         let chains = starts(r).into_iter().map(|s| chain(r, s));
         chains.into_iter().any(|c| role(c[0]) == role(c[1]))
     };
@@ -201,8 +202,8 @@ fn damage_reaches_label_4_with_every_wrong_owner_and_name() {
             met.insert((field, edge[field]));
         }
     }
-    let wrong_owners = [0, 65, u16::MAX].map(|owner| (3, owner));
-    let wrong_names = [1, 64, 256, u16::MAX].map(|name| (4, name));
+    let wrong_owners = [0, 65, Number::MAX].map(|owner| (3, owner));
+    let wrong_names = [1, 64, 256, Number::MAX].map(|name| (4, name));
     assert!(met.is_superset(&wrong_owners.into()), "{met:?}");
     assert!(met.is_superset(&wrong_names.into()), "{met:?}");
 }
@@ -238,7 +239,7 @@ fn a_chain_has_the_wanted_length() {
         let lengths = chains::lengths(&changed.cells);
         let start = starts(&changed)
             .into_iter()
-            .find(|&start| lengths[usize::from(start) - 1] == usize::from(length));
+            .find(|&start| lengths[start as usize - 1] == length as usize);
         assert!(start.is_some(), "a chain of {length}");
     }
 }

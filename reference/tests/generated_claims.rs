@@ -18,7 +18,7 @@ use reference::records::{Head, Records};
 use reference::sorts::{Goal, Role};
 use reference::table::Table;
 use reference::words::accepts;
-use reference::{check, shop, verify, Refusal};
+use reference::{check, shop, verify, Number, Refusal};
 
 const SEED: u64 = 7;
 
@@ -92,7 +92,7 @@ fn policies_have_everything_that_a_table_can_have() {
     assert!(found(&shared), "two cells with one next");
     let inside = |r: &Records| {
         let starts = r.credentials.iter().filter(|c| c[2] == 4).map(|c| c[3]);
-        let nexts: BTreeSet<u16> = r.cells.iter().map(|cell| cell[2]).collect();
+        let nexts: BTreeSet<Number> = r.cells.iter().map(|cell| cell[2]).collect();
         starts.into_iter().any(|start| nexts.contains(&start))
     };
     assert!(found(&inside), "a chain that begins inside another");
@@ -136,7 +136,7 @@ fn grown_records_have_nodes_of_every_kind() {
 #[test]
 fn grown_records_repeat_credentials_and_roles_beside_each_other() {
     let credential_twice = |grown: &Grown| {
-        let used: BTreeSet<u16> = grown.nodes.iter().map(|node| node.credential).collect();
+        let used: BTreeSet<Number> = grown.nodes.iter().map(|node| node.credential).collect();
         used.len() < grown.nodes.len()
     };
     assert!(found(credential_twice) > 0);
@@ -152,7 +152,7 @@ fn grown_records_repeat_credentials_and_roles_beside_each_other() {
 fn branches(grown: &Grown) -> Vec<Vec<Goal>> {
     let mut branch = Vec::new();
     let mut goals = |node: &Node| {
-        branch.truncate(usize::from(node.level) - 1);
+        branch.truncate(node.level as usize - 1);
         branch.push(node.goal);
         branch.clone()
     };
@@ -244,7 +244,7 @@ fn every_simple_way_of_spoiling_the_shop() {
 
 /// Whether a constraint accepts a word, given by the owners and names of its
 /// roles.
-fn accepts_roles(constraint: &Constraint, roles: &[(u16, u16)]) -> bool {
+fn accepts_roles(constraint: &Constraint, roles: &[(Number, Number)]) -> bool {
     let mut records = Records::read(&shop::T).expect("T is accepted");
     constraints::add(&mut Random::new(SEED), &mut records, constraint);
     let table = Table::read(&records.numbers()).expect("accepted");
@@ -254,16 +254,16 @@ fn accepts_roles(constraint: &Constraint, roles: &[(u16, u16)]) -> bool {
 }
 
 /// The same for a word that is given by the names of its roles, all of one owner.
-fn constraint_accepts(constraint: &Constraint, names: &[u16]) -> bool {
-    let roles: Vec<(u16, u16)> = names.iter().map(|&name| (9, name)).collect();
+fn constraint_accepts(constraint: &Constraint, names: &[Number]) -> bool {
+    let roles: Vec<(Number, Number)> = names.iter().map(|&name| (9, name)).collect();
     accepts_roles(constraint, &roles)
 }
 
 /// The same for a word that is given by the owners of its roles, whose names are
 /// the same the other way round.
-fn owners_accepted(constraint: &Constraint, owners: &[u16]) -> bool {
+fn owners_accepted(constraint: &Constraint, owners: &[Number]) -> bool {
     let names = owners.iter().rev();
-    let roles: Vec<(u16, u16)> = owners.iter().copied().zip(names.copied()).collect();
+    let roles: Vec<(Number, Number)> = owners.iter().copied().zip(names.copied()).collect();
     accepts_roles(constraint, &roles)
 }
 
@@ -333,7 +333,7 @@ fn constraints_by_owner_accept_what_they_say() {
             vec![&[2, 1], &[2, 1, 3]],
         ),
     ] {
-        let accepts = |word: &&[u16]| owners_accepted(&constraint, word);
+        let accepts = |word: &&[Number]| owners_accepted(&constraint, word);
         assert!(accepted.iter().all(accepts), "{constraint:?}");
         assert!(!rejected.iter().any(accepts), "{constraint:?}");
     }

@@ -16,13 +16,14 @@ use reference::random::Random;
 use reference::sorts::Role;
 use reference::table::Table;
 use reference::words::words;
+use reference::Number;
 
 const SEED: u64 = 7;
 /// A table is left aside if it takes more steps to find all records.
 const STEPS: usize = 4_000;
 
 /// Some wallets of a circle, of at most so many credentials.
-fn drawn(circle: Circle, most: u16, count: usize) -> Vec<Wallet> {
+fn drawn(circle: Circle, most: Number, count: usize) -> Vec<Wallet> {
     let mut random = Random::new(SEED);
     (0..count)
         .map(|_| clubs::made_up(&mut random, circle, most))
@@ -30,7 +31,7 @@ fn drawn(circle: Circle, most: u16, count: usize) -> Vec<Wallet> {
 }
 
 /// How often a role stands in one word of a record at the most.
-fn most_often(wallet: &Wallet, record: &[u16]) -> usize {
+fn most_often(wallet: &Wallet, record: &[Number]) -> usize {
     let table = Table::read(&wallet.records.numbers()).expect("an accepted table");
     let asked = wallet.query.read().expect("a valid query");
     let derivation = Derivation::read(&table, asked, record).expect("a right record");
@@ -95,7 +96,7 @@ fn a_line_of_friends_is_one_set() {
         let expected = if people == 1 { vec![2] } else { vec![all] };
         assert_eq!(listed(&line), expected, "{people}");
         let record = first(&line, expected[0]);
-        assert_eq!(most_often(&line, &record), usize::from(people));
+        assert_eq!(most_often(&line, &record), people as usize);
     }
     // The last of seventeen is on the seventeenth level.
     assert_eq!(listed(&clubs::line(17, 1)), []);
@@ -134,6 +135,6 @@ fn a_clique_has_every_way_through_it() {
         assert_eq!(clique.query.depth, DEEPEST);
         // By way of one, two or more of the others, in any order.
         let ways = [2, 5, 16];
-        assert_eq!(sets.len(), ways[usize::from(people) - 2]);
+        assert_eq!(sets.len(), ways[people as usize - 2]);
     }
 }

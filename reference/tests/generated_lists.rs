@@ -19,7 +19,7 @@ use reference::query::DEEPEST;
 use reference::random::Random;
 use reference::records::Records;
 use reference::table::Table;
-use reference::{check, check_query, list, verify, Query, Refusal};
+use reference::{check, check_query, list, verify, Number, Query, Refusal};
 
 const SEED: u64 = 7;
 
@@ -27,7 +27,7 @@ const SEED: u64 = 7;
 /// that have another one as a proper part.
 fn by_definition(listing: &Listing) -> Option<Vec<u32>> {
     let records = records(&listing.table, listing.query)?;
-    let verdict = |record: &Vec<u16>| verify(&listing.table, listing.query, record);
+    let verdict = |record: &Vec<Number>| verify(&listing.table, listing.query, record);
     let verdicts = records.iter().map(verdict);
     let used: BTreeSet<u32> = verdicts.filter_map(Result::ok).collect();
     let proper = |part: u32, whole: u32| is_part(part, whole) && part != whole;
@@ -38,7 +38,7 @@ fn by_definition(listing: &Listing) -> Option<Vec<u32>> {
 }
 
 /// The list with cells to spare.
-fn listed(table: &[u16], query: Query) -> Result<Vec<u32>, Refusal> {
+fn listed(table: &[Number], query: Query) -> Result<Vec<u32>, Refusal> {
     let mut cells = vec![0; 4_096];
     let count = list(table, query, &mut cells)?;
     cells.truncate(count);
@@ -90,7 +90,7 @@ fn wallets_are_accepted_and_of_the_size_that_is_planned() {
     each_planned(|random, plan| {
         let wallet = wallets::planned(random, plan);
         assert_eq!(check(&wallet.records.numbers()), Ok(()), "{wallet:?}");
-        let size = usize::from(plan.bearing + plan.others);
+        let size = (plan.bearing + plan.others) as usize;
         assert_eq!(wallet.records.credentials.len(), size);
     });
 }
@@ -123,7 +123,7 @@ fn every_credential_that_is_to_bear_on_the_query_does() {
         };
         looked_at += 1;
         let nodes = records.iter().flat_map(|record| record.chunks(NODE));
-        let used: BTreeSet<u16> = nodes.map(|node| node[0]).collect();
+        let used: BTreeSet<Number> = nodes.map(|node| node[0]).collect();
         assert_eq!(used, (1..=plan.bearing).collect(), "{wallet:?}");
     });
     assert!(looked_at > 30, "{looked_at}");
@@ -211,14 +211,14 @@ fn choices_have_a_set_for_each_choice() {
     for definers in [&[1, 1][..], &[5, 2], &[1, 2, 3], &[6, 6, 6], &[4, 5, 5, 5]] {
         for place in shapes::Place::ALL {
             let wallet = shapes::choices(definers, place);
-            let count: u16 = definers.iter().product();
-            assert_eq!(list_of(&wallet).len(), usize::from(count));
+            let count: Number = definers.iter().product();
+            assert_eq!(list_of(&wallet).len(), count as usize);
             let chain = match place {
                 shapes::Place::First => 0,
-                shapes::Place::Middle => definers.iter().sum::<u16>() / 2,
+                shapes::Place::Middle => definers.iter().sum::<Number>() / 2,
                 shapes::Place::Last => definers.iter().sum(),
             };
-            assert_eq!(wallet.records.credentials[usize::from(chain)][2], 4);
+            assert_eq!(wallet.records.credentials[chain as usize][2], 4);
         }
     }
 }

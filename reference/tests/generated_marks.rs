@@ -15,7 +15,7 @@ use reference::generate::wallets::Wallet;
 use reference::generate::{claims, crossed, demands, valid, Place};
 use reference::random::Random;
 use reference::records::{Head, Records};
-use reference::{check, check_query, list, upgraded, verify, Refusal};
+use reference::{check, check_query, list, upgraded, verify, Number, Refusal};
 
 const SEED: u64 = 11;
 /// Wallets are left aside if it takes more steps to find all records.
@@ -38,11 +38,11 @@ fn with_marks(wallets: &[Wallet], marks: Marks) -> Vec<Wallet> {
 }
 
 /// The marks of the automata that are attached to credentials.
-fn attached(records: &Records) -> BTreeSet<u16> {
+fn attached(records: &Records) -> BTreeSet<Number> {
     let credentials = records.credentials.iter();
     let numbers = credentials.filter(|credential| credential[5] > 0);
     numbers
-        .map(|credential| records.automata[usize::from(credential[5]) - 1][2])
+        .map(|credential| records.automata[credential[5] as usize - 1][2])
         .collect()
 }
 
@@ -104,7 +104,7 @@ fn records_are_refused_by_automata_of_both_marks() {
             if let Err(Refusal { number, position }) = verify(&table, wallet.query, &record) {
                 assert_eq!(number, 14);
                 let mark = wallet.records.automata[position as usize - 1][2];
-                told[usize::from(mark)] += 1;
+                told[mark as usize] += 1;
             }
         }
     }
@@ -115,7 +115,7 @@ fn records_are_refused_by_automata_of_both_marks() {
 fn tables_from_which_records_are_grown_have_all_sorts_of_marks() {
     let mut random = Random::new(SEED);
     let drawn = (0..400).map(|_| attached(&claims::table(&mut random)));
-    let drawn: BTreeSet<Vec<u16>> = drawn.map(|marks| marks.into_iter().collect()).collect();
+    let drawn: BTreeSet<Vec<Number>> = drawn.map(|marks| marks.into_iter().collect()).collect();
     let expected = [vec![], vec![0], vec![0, 1], vec![1]];
     assert_eq!(drawn, expected.into());
 }

@@ -12,14 +12,14 @@ use reference::generate::wallets::Wallet;
 use reference::generate::{full, nets};
 use reference::random::Random;
 use reference::records::{EdgeRecord, Head, Records};
-use reference::{check_query, verify, Refusal};
+use reference::{check_query, verify, Number, Refusal};
 
 const SEED: u64 = 7;
 /// A table is left aside if it takes more steps to find all records.
 const STEPS: usize = 4_000;
 
 /// Some nets of at most so many credentials.
-fn drawn(most: u16, count: usize) -> Vec<Wallet> {
+fn drawn(most: Number, count: usize) -> Vec<Wallet> {
     let mut random = Random::new(SEED);
     (0..count)
         .map(|_| nets::made_up(&mut random, most))
@@ -40,7 +40,7 @@ fn any_two(records: &Records, holds: impl Fn(&EdgeRecord, &EdgeRecord) -> bool) 
 }
 
 /// The roles that a table defines.
-fn roles(records: &Records) -> BTreeSet<[u16; 2]> {
+fn roles(records: &Records) -> BTreeSet<[Number; 2]> {
     let credentials = records.credentials.iter();
     credentials.map(|record| [record[0], record[1]]).collect()
 }
@@ -115,7 +115,7 @@ fn nets_have_many_roles_that_differ_little() {
     assert!(counts.is_superset(&(4..=20).collect()), "{counts:?}");
     for index in [0, 1] {
         let differ_elsewhere = |r: &Records| {
-            let kept: BTreeSet<u16> = roles(r).iter().map(|role| role[index]).collect();
+            let kept: BTreeSet<Number> = roles(r).iter().map(|role| role[index]).collect();
             kept.len() < roles(r).len()
         };
         assert!(found(&nets, differ_elsewhere) > 390);
@@ -137,7 +137,7 @@ fn the_last_edge_of_a_net_often_matters() {
 }
 
 /// A full table with so many edges.
-fn full_table(edges: u16) -> Wallet {
+fn full_table(edges: Number) -> Wallet {
     Wallet {
         records: full::records(edges),
         query: full::ASKED,
@@ -173,7 +173,7 @@ fn the_last_edge_helps_no_other_automaton() {
 fn automata_of_a_full_table_share_edges_of_every_label() {
     let records = full::records(Head::LIMITS.edges);
     for label in 1..=4 {
-        let of = |automaton: u16| {
+        let of = |automaton: Number| {
             let edges = records.edges.iter();
             let own = edges.filter(move |e| e[0] == automaton && e[2] == label);
             own.map(|e| &e[1..]).collect::<BTreeSet<_>>()

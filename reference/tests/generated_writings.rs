@@ -16,20 +16,20 @@ use reference::patience::Patience;
 use reference::random::Random;
 use reference::table::Table;
 use reference::writing::first_within;
-use reference::{check_query, list, verify, write, Refusal};
+use reference::{check_query, list, verify, write, Number, Refusal};
 
 const SEED: u64 = 7;
 /// What a cell holds before the call. No number of a record is so great.
-const BEFORE: u16 = 0xA5A5;
+const BEFORE: Number = 0xA5A5;
 
 /// The used set of a record that derives its query.
-fn used_set(record: &[u16]) -> u32 {
+fn used_set(record: &[Number]) -> u32 {
     let nodes = record.chunks(NODE);
     nodes.fold(0, |used, node| used | 1 << (node[0] - 1))
 }
 
 /// Made-up listings of valid tables, with every record of each.
-fn listings_with_records(count: usize) -> Vec<(Listing, Vec<Vec<u16>>)> {
+fn listings_with_records(count: usize) -> Vec<(Listing, Vec<Vec<Number>>)> {
     let mut random = Random::new(SEED);
     let drawn = (0..count).map(|_| listings::any(&mut random));
     let valid = drawn.filter(|listing| check_query(&listing.table, listing.query).is_ok());
@@ -50,7 +50,7 @@ fn listed(listing: &Listing) -> Vec<u32> {
 }
 
 /// All derivations from a set, in the order in which they come.
-fn in_order(listing: &Listing, set: u32) -> Vec<Vec<u16>> {
+fn in_order(listing: &Listing, set: u32) -> Vec<Vec<Number>> {
     let table = Table::read(&listing.table).expect("an accepted table");
     let asked = listing.query.read().expect("a valid query");
     let mut ascending = Ascending::new(&table, asked, set, Patience::new(u64::MAX));
@@ -66,8 +66,8 @@ fn derivations_come_in_the_order_of_their_records_and_none_is_left_out() {
     for (listing, records) in &all {
         let any = random.bits() as u32;
         for set in [u32::MAX, any, any | random.bits() as u32] {
-            let within = |record: &&Vec<u16>| is_part(used_set(record), set);
-            let mut expected: Vec<Vec<u16>> = records.iter().filter(within).cloned().collect();
+            let within = |record: &&Vec<Number>| is_part(used_set(record), set);
+            let mut expected: Vec<Vec<Number>> = records.iter().filter(within).cloned().collect();
             expected.sort();
             most = most.max(expected.len());
             assert_eq!(in_order(listing, set), expected, "{listing:?}, set {set}");
@@ -89,7 +89,7 @@ fn first_records_are_what_the_definition_says() {
             assert!(cells[length..].iter().all(|&cell| cell == BEFORE));
             assert_eq!(verify(table, *query, &record), Ok(set), "{listing:?}");
             let from_set = records.iter().filter(|other| is_part(used_set(other), set));
-            let mut others: Vec<&Vec<u16>> = from_set.collect();
+            let mut others: Vec<&Vec<Number>> = from_set.collect();
             not_least += usize::from(others.iter().any(|&other| *other < record));
             others.retain(|other| verify(table, *query, other).is_ok());
             assert_eq!(others.into_iter().min(), Some(&record), "{listing:?}");

@@ -12,13 +12,13 @@ use reference::listing::minimal_sets;
 use reference::records::CredentialRecord;
 use reference::shop::{Q, T, U};
 use reference::table::Table;
-use reference::{list, verify, Query, Refusal};
+use reference::{list, verify, Number, Query, Refusal};
 
 /// What a cell holds before the call. No set is so great.
 const BEFORE: u32 = 0xA5A5_A5A5;
 
 /// The answer with a buffer of so many cells, and the cells after the call.
-fn listed(table: &[u16], query: Query, cells: usize) -> (Result<usize, Refusal>, Vec<u32>) {
+fn listed(table: &[Number], query: Query, cells: usize) -> (Result<usize, Refusal>, Vec<u32>) {
     let mut buffer = vec![BEFORE; cells];
     let answer = list(table, query, &mut buffer);
     (answer, buffer)
@@ -26,7 +26,7 @@ fn listed(table: &[u16], query: Query, cells: usize) -> (Result<usize, Refusal>,
 
 /// All sets, in a buffer with two cells to spare, which stay as they were. For
 /// each set there is a record of which the verifier says the same.
-fn sets(table: &[u16], query: Query) -> Vec<u32> {
+fn sets(table: &[Number], query: Query) -> Vec<u32> {
     let read = Table::read(table).expect("a table that is accepted");
     let minimal = minimal_sets(&read, query.read().expect("a valid query"));
     for set in &minimal {
@@ -45,13 +45,13 @@ fn refused(number: u32, position: u64) -> Result<usize, Refusal> {
 }
 
 /// Whether the answer is "none", whatever the buffer, and no cell changes.
-fn is_none(table: &[u16], query: Query) -> bool {
+fn is_none(table: &[Number], query: Query) -> bool {
     [0, 1, 5]
         .into_iter()
         .all(|cells| listed(table, query, cells) == (refused(9, 0), vec![BEFORE; cells]))
 }
 
-fn depth(depth: u16) -> Query {
+fn depth(depth: Number) -> Query {
     Query { depth, ..Q }
 }
 
@@ -148,7 +148,7 @@ fn a_chain_wants_all_its_parts() {
     assert_eq!(sets(&table(&whole, &parts, 0, &[]), ASKED), [31]);
     for missing in 1..5 {
         let mut credentials = whole.clone();
-        credentials[missing] = member([1, 1 + missing as u16], 8);
+        credentials[missing] = member([1, 1 + missing as Number], 8);
         assert!(is_none(&table(&credentials, &parts, 0, &[]), ASKED));
     }
     // The chain that begins at its second cell does without A.
@@ -279,7 +279,7 @@ fn an_automaton_starts_at_the_goal() {
 }
 
 /// A role of another owner, whose name Gate has too.
-const ELSEWHERE: [u16; 2] = [2, 2];
+const ELSEWHERE: [Number; 2] = [2, 2];
 
 #[test]
 fn words_may_be_kept_to_an_owner_s_roles() {

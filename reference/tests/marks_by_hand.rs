@@ -3,7 +3,7 @@
 
 use reference::records::{CellRecord, CredentialRecord, EdgeRecord, Records};
 use reference::shop::{Q, R, T, U};
-use reference::{check, check_query, list, upgraded, verify, write, Query, Refusal};
+use reference::{check, check_query, list, upgraded, verify, write, Number, Query, Refusal};
 
 /// The place of U's mark.
 const MARK: usize = 4 + 6 * 4 + 2;
@@ -13,7 +13,7 @@ fn refused<Told>(number: u32, position: u64) -> Result<Told, Refusal> {
 }
 
 /// The list; nothing if there is no set.
-fn listed(table: &[u16], query: Query) -> Vec<u32> {
+fn listed(table: &[Number], query: Query) -> Vec<u32> {
     let mut cells = vec![0; 64];
     let count = list(table, query, &mut cells).unwrap_or(0);
     cells.truncate(count);
@@ -21,7 +21,7 @@ fn listed(table: &[u16], query: Query) -> Vec<u32> {
 }
 
 /// The first record of a set.
-fn first(table: &[u16], query: Query, set: u32) -> Vec<u16> {
+fn first(table: &[Number], query: Query, set: u32) -> Vec<Number> {
     let mut cells = vec![0; 64];
     let length = write(table, query, set, &mut cells).expect("a record");
     cells.truncate(length);
@@ -29,7 +29,7 @@ fn first(table: &[u16], query: Query, set: u32) -> Vec<u16> {
 }
 
 /// U with this mark.
-fn marked(mark: u16) -> [u16; U.len()] {
+fn marked(mark: Number) -> [Number; U.len()] {
     let mut table = U;
     table[MARK] = mark;
     table
@@ -37,24 +37,24 @@ fn marked(mark: u16) -> [u16; U.len()] {
 
 /// The edges of automata, numbered from 1, each of which is met by the words that
 /// pass through a role of principal 1 with its name.
-fn through(names: &[u16]) -> Vec<EdgeRecord> {
-    let edges = |(automaton, &name): (u16, &u16)| {
+fn through(names: &[Number]) -> Vec<EdgeRecord> {
+    let edges = |(automaton, &name): (Number, &Number)| {
         [
             [automaton, 0, 2, 0, 0, 0],
             [automaton, 0, 1, 1, name, 1],
             [automaton, 1, 2, 0, 0, 1],
         ]
     };
-    (1u16..).zip(names).flat_map(edges).collect()
+    (1..).zip(names).flat_map(edges).collect()
 }
 
 /// A table with automata of these marks, each for the words through a name.
 fn passing(
     credentials: &[CredentialRecord],
     cells: &[CellRecord],
-    automata: &[(u16, u16)],
-) -> Vec<u16> {
-    let names: Vec<u16> = automata.iter().map(|&(name, _)| name).collect();
+    automata: &[(Number, Number)],
+) -> Vec<Number> {
+    let names: Vec<Number> = automata.iter().map(|&(name, _)| name).collect();
     let records = Records {
         credentials: credentials.to_vec(),
         cells: cells.to_vec(),
@@ -91,7 +91,7 @@ fn refusal_17_comes_behind_7_and_before_8() {
 #[test]
 fn refusal_17_names_the_first_automaton_attached_or_not() {
     let member = [1, 1, 1, 9, 0, 0];
-    let told = |marks: [u16; 3]| check(&passing(&[member], &[], &marks.map(|mark| (2, mark))));
+    let told = |marks: [Number; 3]| check(&passing(&[member], &[], &marks.map(|mark| (2, mark))));
     assert_eq!(told([0, 1, 1]), Ok(()));
     assert_eq!(told([0, 1, 2]), refused(17, 3));
     assert_eq!(told([0, 7, 2]), refused(17, 2));
@@ -128,7 +128,7 @@ fn the_shop_s_automaton_is_met_by_no_word_that_begins_with_the_discount() {
 
 /// The shop's table T with an automaton of this mark, attached to a credential,
 /// which is met by the words that pass through a role of the shop.
-fn shop_through(name: u16, mark: u16, credential: usize) -> Vec<u16> {
+fn shop_through(name: Number, mark: Number, credential: usize) -> Vec<Number> {
     let mut records = Records::read(&T).expect("T is accepted");
     records.credentials[credential - 1][5] = 1;
     records.automata.push([1, 2, mark]);
@@ -176,7 +176,7 @@ const ASKED: Query = Query {
 
 /// The verdict on the one record, where credentials 2 and 3 have automata 1 and 2
 /// for the words through these names, of these marks.
-fn verdict(automata: [(u16, u16); 2]) -> Result<u32, Refusal> {
+fn verdict(automata: [(Number, Number); 2]) -> Result<u32, Refusal> {
     let mut credentials = BOTH;
     credentials[1][5] = 1;
     credentials[2][5] = 2;
@@ -224,7 +224,7 @@ fn one_word_may_meet_several_automata() {
 
 /// A chain that names a role twice: 1.1 is for whoever is in 1.2 and in 1.2, which
 /// is by 1.3 or by 1.4. The automata demand a word through each of these two.
-fn twice() -> Vec<u16> {
+fn twice() -> Vec<Number> {
     let credentials = [
         [1, 1, 4, 1, 0, 1],
         [1, 2, 2, 1, 3, 0],
@@ -291,7 +291,7 @@ fn the_first_record_has_its_demanded_word_as_far_behind_as_can_be() {
 
 /// A club whose friends' friends are its friends; 4, 5 and 6 are friends in line,
 /// and 6 has 5 as a friend. A word that passes through a role of 6 is demanded.
-fn club(mark: u16) -> Vec<u16> {
+fn club(mark: Number) -> Vec<Number> {
     let records = Records {
         credentials: vec![
             [1, 2, 3, 2, 2, 1],
@@ -323,7 +323,7 @@ fn a_way_round_is_needed_for_its_word_but_no_pair_may_come_twice() {
 /// Principal 9 is in 1.1 if in 1.2, 1.3 and 1.4, or by 1.4 alone under the
 /// constraint that some word passes through 1.3. Who is in 1.1 is in 1.2, and
 /// whoever somebody in 1.2 has put into their role 5. So is principal 8.
-fn round() -> Vec<u16> {
+fn round() -> Vec<Number> {
     let credentials = [
         [1, 1, 4, 1, 0, 0],
         [1, 2, 2, 1, 1, 0],

@@ -7,7 +7,7 @@ use reference::blocks::{self, LISTS, UNLISTED, UNTOUCHED};
 use reference::records::Records;
 use reference::stored::{cases, Case, Given};
 use reference::table::{Label, Table};
-use reference::{check, list};
+use reference::{check, list, Number};
 
 const STDOUT: &str = include_str!("../../crates/rows/stdout");
 
@@ -226,7 +226,7 @@ fn without(case: &Case, index: usize) -> Case {
 fn lists_hang_on_single_edges() {
     let cases = cases().into_iter();
     let cases: Vec<Case> = cases.filter(|case| case.query.principal == 7).collect();
-    let edges = usize::from(cases[0].table[3]);
+    let edges = cases[0].table[3] as usize;
     assert_eq!(listed(&without(&cases[0], edges - 1)), [85]);
     // The two edges on one role to one state.
     assert_eq!(listed(&without(&cases[1], 3)), [26]);
@@ -242,11 +242,11 @@ fn every_kind_label_and_mark_is_among_them() {
     let accepted = tables.filter(|table| check(table).is_ok());
     let records: Vec<Records> = accepted.flat_map(|table| Records::read(&table)).collect();
     let credentials = records.iter().flat_map(|records| &records.credentials);
-    let kinds: BTreeSet<u16> = credentials.map(|credential| credential[2]).collect();
+    let kinds: BTreeSet<Number> = credentials.map(|credential| credential[2]).collect();
     let edges = records.iter().flat_map(|records| &records.edges);
-    let labels: BTreeSet<u16> = edges.map(|edge| edge[2]).collect();
+    let labels: BTreeSet<Number> = edges.map(|edge| edge[2]).collect();
     let automata = records.iter().flat_map(|records| &records.automata);
-    let marks: BTreeSet<u16> = automata.map(|automaton| automaton[2]).collect();
+    let marks: BTreeSet<Number> = automata.map(|automaton| automaton[2]).collect();
     assert_eq!(kinds, (1..=4).collect());
     assert_eq!(labels, (1..=4).collect());
     assert_eq!(marks, (0..=1).collect());

@@ -8,7 +8,7 @@ use reference::shop::{Q, R, T, U};
 use reference::sorts::Role;
 use reference::table::Table;
 use reference::words::{accepts, words};
-use reference::{verify, Query, Refusal};
+use reference::{verify, Number, Query, Refusal};
 
 /// What a record is answered with.
 type Verdict = Result<u32, Refusal>;
@@ -18,12 +18,12 @@ fn refused(number: u32, position: u64) -> Verdict {
 }
 
 /// The shop's query with another depth limit.
-fn depth(depth: u16) -> Query {
+fn depth(depth: Number) -> Query {
     Query { depth, ..Q }
 }
 
 /// The starting set and the accepting set of an automaton of mark 0.
-type Sets = [u16; 2];
+type Sets = [Number; 2];
 
 /// The table with these records.
 fn table(
@@ -31,7 +31,7 @@ fn table(
     cells: &[CellRecord],
     automata: &[Sets],
     edges: &[EdgeRecord],
-) -> Vec<u16> {
+) -> Vec<Number> {
     let automata = automata.iter();
     let records = Records {
         credentials: credentials.to_vec(),
@@ -45,7 +45,7 @@ fn table(
 }
 
 /// The shop's table T with one automaton, attached to one of the credentials.
-fn shop(credential: usize, [starting, accepting]: Sets, edges: &[EdgeRecord]) -> Vec<u16> {
+fn shop(credential: usize, [starting, accepting]: Sets, edges: &[EdgeRecord]) -> Vec<Number> {
     let mut records = Records::read(&T).expect("T is accepted");
     records.credentials[credential - 1][5] = 1;
     records.automata.push([starting, accepting, 0]);
@@ -53,7 +53,7 @@ fn shop(credential: usize, [starting, accepting]: Sets, edges: &[EdgeRecord]) ->
     records.numbers()
 }
 
-fn role(owner: u16, name: u16) -> Role {
+fn role(owner: Number, name: Number) -> Role {
     Role::read(owner, name).expect("a role")
 }
 
@@ -302,7 +302,7 @@ fn sixteen_levels_are_allowed() {
     let mut credentials: Vec<CredentialRecord> = (1..16).map(|n| [1, n, 2, 1, n + 1, 0]).collect();
     credentials.push([1, 16, 1, 4, 0, 0]);
     let ladder = table(&credentials, &[], &[], &[]);
-    let record: Vec<u16> = (1..=16).flat_map(|number| [number, 0]).collect();
+    let record: Vec<Number> = (1..=16).flat_map(|number| [number, 0]).collect();
     assert_eq!(verify(&ladder, depth(16), &record), Ok(65535));
     assert_eq!(verify(&ladder, depth(15), &record), refused(13, 16));
     assert_eq!(verify(&ladder, depth(1), &record), refused(13, 2));
@@ -389,7 +389,7 @@ fn a_record_of_more_than_a_million_nodes() {
 fn the_words_of_the_shop() {
     let table = Table::read(&T).expect("T is accepted");
     let asked = Q.read().expect("Q is valid");
-    let of = |record: &[u16]| words(&Derivation::read(&table, asked, record).expect("right"));
+    let of = |record: &[Number]| words(&Derivation::read(&table, asked, record).expect("right"));
     // No principal and no linked role is in them, and the middle's branch
     // begins at the goal.
     let [discount, student, accredited] = [role(1, 1), role(2, 2), role(1, 3)];
@@ -530,7 +530,7 @@ fn nodes_come_before_an_automaton_that_is_dead() {
 }
 
 /// Attaches these automata to the first three credentials.
-fn attach(records: &mut Records, automata: [u16; 3]) {
+fn attach(records: &mut Records, automata: [Number; 3]) {
     for (credential, automaton) in records.credentials.iter_mut().zip(automata) {
         credential[5] = automaton;
     }

@@ -10,32 +10,32 @@ use by_hand_tables::{
 use reference::generate::wide;
 use reference::records::{CredentialRecord, EdgeRecord};
 use reference::shop::{Q, R, T, U};
-use reference::{list, verify, write, Query, Refusal};
+use reference::{list, verify, write, Number, Query, Refusal};
 
 /// What a cell holds before the call. No number of a record is so great.
-const BEFORE: u16 = 0xA5A5;
+const BEFORE: Number = 0xA5A5;
 
 /// The answer with a buffer of so many cells, and the cells after the call.
 fn written(
-    table: &[u16],
+    table: &[Number],
     query: Query,
     set: u32,
     cells: usize,
-) -> (Result<usize, Refusal>, Vec<u16>) {
+) -> (Result<usize, Refusal>, Vec<Number>) {
     let mut buffer = vec![BEFORE; cells];
     let answer = write(table, query, set, &mut buffer);
     (answer, buffer)
 }
 
 /// What is told where no cell changes.
-fn refused(number: u32, position: u64, cells: usize) -> (Result<usize, Refusal>, Vec<u16>) {
+fn refused(number: u32, position: u64, cells: usize) -> (Result<usize, Refusal>, Vec<Number>) {
     (Err(Refusal { number, position }), vec![BEFORE; cells])
 }
 
 /// The first record of a listed set. It is the same in every buffer that is
 /// long enough, no cell beyond it changes, the verifier accepts it with just
 /// this set, and no shorter buffer holds it.
-fn first(table: &[u16], query: Query, set: u32) -> Vec<u16> {
+fn first(table: &[Number], query: Query, set: u32) -> Vec<Number> {
     let (answer, mut record) = written(table, query, set, 400);
     let length = answer.expect("a record");
     assert!(record.split_off(length).iter().all(|&cell| cell == BEFORE));
@@ -54,20 +54,20 @@ fn first(table: &[u16], query: Query, set: u32) -> Vec<u16> {
 }
 
 /// Whether a set is refused as not listed, whatever the buffer.
-fn is_unlisted(table: &[u16], query: Query, set: u32) -> bool {
+fn is_unlisted(table: &[Number], query: Query, set: u32) -> bool {
     let mut sizes = [0, 1, 2, 6, 40].into_iter();
     sizes.all(|cells| written(table, query, set, cells) == refused(15, 0, cells))
 }
 
 /// The list.
-fn sets(table: &[u16], query: Query) -> Vec<u32> {
+fn sets(table: &[Number], query: Query) -> Vec<u32> {
     let mut cells = vec![0; 64];
     let count = list(table, query, &mut cells).expect("a list");
     cells.truncate(count);
     cells
 }
 
-fn depth(depth: u16) -> Query {
+fn depth(depth: Number) -> Query {
     Query { depth, ..Q }
 }
 
@@ -122,7 +122,7 @@ fn the_table_comes_first_then_the_query_then_the_set_then_the_buffer() {
     let wrong_chain = table(&[in_every(G, 1)], &[[1, 2, 0]], 0, &[]);
     let bad = depth(0);
     for (cells, set) in [0, 5, 6, 40].into_iter().flat_map(|n| [(n, 0), (n, 7)]) {
-        let told = |table: &[u16], query| written(table, query, set, cells);
+        let told = |table: &[Number], query| written(table, query, set, cells);
         assert_eq!(told(&T[..3], bad), refused(1, 0, cells));
         assert_eq!(told(&[21, 0, 0, 0], bad), refused(2, 0, cells));
         assert_eq!(told(&T[..27], bad), refused(3, 0, cells));
@@ -175,14 +175,14 @@ fn premises_come_in_the_order_of_the_chain() {
 }
 
 /// The names of what a middle owns, beside the linking role A.
-const T1: u16 = 11;
-const T2: u16 = 12;
-const T3: u16 = 13;
+const T1: Number = 11;
+const T2: Number = 12;
+const T3: Number = 13;
 
 /// A table in which two middles, 7 and 64, lead to B, and everything is needed:
 /// C only goes by way of 7, D only by way of 64, and E wants what both own.
-fn two_middles() -> Vec<u16> {
-    const E: [u16; 2] = [1, 6];
+fn two_middles() -> Vec<Number> {
+    const E: [Number; 2] = [1, 6];
     let credentials = [
         in_every(G, 1),      // 1: B, C, D and E
         linked(B, 2, T1),    // 2
@@ -375,7 +375,7 @@ fn the_depth_limit_counts_levels() {
     let steps = (1..16).map(|level| from(role(level), role(level + 1)));
     let ladder: Vec<CredentialRecord> = steps.chain([member(role(16), 9)]).collect();
     let ladder = plain(&ladder);
-    let record: Vec<u16> = (1..=16).flat_map(|number| [number, 0]).collect();
+    let record: Vec<Number> = (1..=16).flat_map(|number| [number, 0]).collect();
     assert_eq!(first(&ladder, ASKED, 65_535), record);
     assert!(is_unlisted(&ladder, Query { depth: 15, ..ASKED }, 65_535));
 }

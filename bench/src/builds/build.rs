@@ -7,43 +7,43 @@ use std::ffi::c_void;
 use std::mem;
 use std::path::Path;
 
-use bwlchareg::{Query, Refusal};
+use bwlchareg::{Number, Query, Refusal};
 
 use super::object::Object;
 use crate::listing::{library_query, Listing, NONE};
 
 /// The calls as bindings/c/bwlchareg.h has them.
 type List = unsafe extern "C" fn(
-    table: *const u16,
+    table: *const Number,
     table_length: usize,
-    principal: u16,
-    owner: u16,
-    name: u16,
-    depth: u16,
+    principal: Number,
+    owner: Number,
+    name: Number,
+    depth: Number,
     sets: *mut u32,
     sets_length: usize,
     value: *mut u64,
 ) -> u32;
 type Write = unsafe extern "C" fn(
-    table: *const u16,
+    table: *const Number,
     table_length: usize,
-    principal: u16,
-    owner: u16,
-    name: u16,
-    depth: u16,
+    principal: Number,
+    owner: Number,
+    name: Number,
+    depth: Number,
     set: u32,
-    record: *mut u16,
+    record: *mut Number,
     record_length: usize,
     value: *mut u64,
 ) -> u32;
 type Verify = unsafe extern "C" fn(
-    table: *const u16,
+    table: *const Number,
     table_length: usize,
-    principal: u16,
-    owner: u16,
-    name: u16,
-    depth: u16,
-    record: *const u16,
+    principal: Number,
+    owner: Number,
+    name: Number,
+    depth: Number,
+    record: *const Number,
     record_length: usize,
     value: *mut u64,
 ) -> u32;
@@ -59,7 +59,7 @@ pub enum Layout {
 
 impl Layout {
     /// Both, with a table of each, whose automaton is its only record.
-    const ALL: [(Layout, &[u16]); 2] = [
+    const ALL: [(Layout, &[Number]); 2] = [
         (Layout::Base, &[0, 0, 1, 0, 0, 0]),
         (Layout::Marked, &[0, 0, 1, 0, 0, 0, 0]),
     ];
@@ -92,14 +92,14 @@ impl Build {
                 layout: Layout::Marked,
             }
         };
-        let reads = |(_, table): &(Layout, &[u16])| build.reads(table);
+        let reads = |(_, table): &(Layout, &[Number])| build.reads(table);
         let layout = Layout::ALL.into_iter().find(reads);
         (build.layout, _) = layout.ok_or(format!("{}: reads no layout", file.display()))?;
         Ok(build)
     }
 
     /// Whether it accepts a table, in which there is no minimal set.
-    fn reads(&self, table: &[u16]) -> bool {
+    fn reads(&self, table: &[Number]) -> bool {
         let query = Query {
             principal: 1,
             owner: 1,
@@ -119,7 +119,7 @@ impl Build {
     /// The same for the numbers of a table.
     fn list_numbers(
         &self,
-        table: &[u16],
+        table: &[Number],
         query: Query,
         sets: &mut [u32],
     ) -> Result<usize, Refusal> {
@@ -144,7 +144,12 @@ impl Build {
     }
 
     /// Its answer for a set, with the record in the first cells.
-    pub fn write(&self, listing: &Listing, set: u32, cells: &mut [u16]) -> Result<usize, Refusal> {
+    pub fn write(
+        &self,
+        listing: &Listing,
+        set: u32,
+        cells: &mut [Number],
+    ) -> Result<usize, Refusal> {
         let (table, query) = self.asked(listing);
         let length = answer(|value| {
             // SAFETY: as for `list`.
@@ -167,7 +172,7 @@ impl Build {
     }
 
     /// Its verdict on a record.
-    pub fn verify(&self, listing: &Listing, record: &[u16]) -> Result<u32, Refusal> {
+    pub fn verify(&self, listing: &Listing, record: &[Number]) -> Result<u32, Refusal> {
         let (table, query) = self.asked(listing);
         let used = answer(|value| {
             // SAFETY: as for `list`; the record is only read.
@@ -189,7 +194,7 @@ impl Build {
     }
 
     /// What it is asked, with the table in its layout.
-    fn asked<'a>(&self, listing: &'a Listing) -> (&'a [u16], Query) {
+    fn asked<'a>(&self, listing: &'a Listing) -> (&'a [Number], Query) {
         let table = match self.layout {
             Layout::Base => listing.base().expect("every mark is 0"),
             Layout::Marked => &listing.table,
@@ -308,7 +313,7 @@ mod tests {
         let build = taken(object);
         assert_eq!(build.layout, Layout::Base);
         let listing = Listing::new(U.to_vec(), Q);
-        let automata = usize::from(U[2]);
+        let automata = U[2] as usize;
         assert_eq!(build.list(&listing, &mut []), Ok(U.len() - automata));
     }
 

@@ -4,7 +4,7 @@
 use std::fmt::Debug;
 use std::time::Duration;
 
-use bwlchareg::Refusal;
+use bwlchareg::{Number, Refusal};
 
 use super::{Build, Pair};
 use crate::listing::Listing;
@@ -35,7 +35,12 @@ impl Side<'_> {
     }
 
     /// Its answer for a set, with the record in the first cells.
-    pub fn write(self, listing: &Listing, set: u32, cells: &mut [u16]) -> Result<usize, Refusal> {
+    pub fn write(
+        self,
+        listing: &Listing,
+        set: u32,
+        cells: &mut [Number],
+    ) -> Result<usize, Refusal> {
         match self {
             Side::Linked => listing.write(set, cells),
             Side::Loaded(build) => build.write(listing, set, cells),
@@ -43,7 +48,7 @@ impl Side<'_> {
     }
 
     /// Its verdict on a record.
-    pub fn verify(self, listing: &Listing, record: &[u16]) -> Result<u32, Refusal> {
+    pub fn verify(self, listing: &Listing, record: &[Number]) -> Result<u32, Refusal> {
         match self {
             Side::Linked => listing.verify(record),
             Side::Loaded(build) => build.verify(listing, record),

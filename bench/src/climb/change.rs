@@ -7,11 +7,12 @@ use reference::random::Random;
 use reference::records::{CredentialRecord, Head};
 use reference::sorts::HIGHEST;
 use reference::table::LAST_STATE;
+use reference::Number;
 
 use crate::listing::library_query;
 
 /// At most so many small changes are made at once.
-const AT_ONCE: u16 = 3;
+const AT_ONCE: Number = 3;
 /// One in so many numbers is any, and the others are in the wallet already.
 const ANY: usize = 8;
 
@@ -60,7 +61,7 @@ fn change(random: &mut Random, wallet: &mut Wallet, automata: Automata) {
 
 /// The principals or the names of a wallet, from which new ones are mostly
 /// drawn: so that credentials go on having to do with each other.
-struct Numbers(Vec<u16>);
+struct Numbers(Vec<Number>);
 
 impl Numbers {
     fn principals(wallet: &Wallet) -> Numbers {
@@ -83,7 +84,7 @@ impl Numbers {
         Numbers(numbers)
     }
 
-    fn one(&self, random: &mut Random) -> u16 {
+    fn one(&self, random: &mut Random) -> Number {
         match random.one_in(ANY) {
             true => random.between(1, HIGHEST),
             false => *random.pick(&self.0),
@@ -112,7 +113,7 @@ fn change_credential(random: &mut Random, wallet: &mut Wallet) {
 }
 
 /// A kind, and who is in a role by it.
-fn members(random: &mut Random, wallet: &Wallet, kind: u16) -> [u16; 3] {
+fn members(random: &mut Random, wallet: &Wallet, kind: Number) -> [Number; 3] {
     let principals = Numbers::principals(wallet);
     let names = Numbers::names(wallet);
     match kind {
@@ -227,7 +228,7 @@ fn add_automaton(random: &mut Random, wallet: &mut Wallet) {
 }
 
 /// Adds an edge on every role to one of so many automata.
-fn add_edge(random: &mut Random, wallet: &mut Wallet, automata: u16) {
+fn add_edge(random: &mut Random, wallet: &mut Wallet, automata: Number) {
     if wallet.records.head().edges < Head::LIMITS.edges {
         let automaton = random.between(1, automata);
         let [from, to] = [0; 2].map(|_| random.between(0, LAST_STATE));
@@ -265,7 +266,7 @@ mod tests {
     use crate::families;
     use reference::generate::wallets::Wallet;
     use reference::random::Random;
-    use reference::shop;
+    use reference::{shop, Number};
     use std::collections::BTreeSet;
 
     /// The wallets that come one after the other, change by change.
@@ -306,7 +307,7 @@ mod tests {
     fn edges_get_every_label() {
         let wallets = several(1, 1_000, Automata::With);
         let edges = wallets.iter().flat_map(|wallet| &wallet.records.edges);
-        let labels: BTreeSet<u16> = edges.map(|edge| edge[2]).collect();
+        let labels: BTreeSet<Number> = edges.map(|edge| edge[2]).collect();
         assert!(labels.into_iter().eq(1..=4));
     }
 
@@ -314,7 +315,7 @@ mod tests {
     fn every_part_of_a_wallet_changes() {
         let wallets = several(1, 1_000, Automata::With);
         let differ =
-            |part: fn(&Wallet) -> Vec<u16>| wallets.iter().any(|w| part(w) != part(&wallets[0]));
+            |part: fn(&Wallet) -> Vec<Number>| wallets.iter().any(|w| part(w) != part(&wallets[0]));
         assert!(differ(|wallet| wallet.query.numbers().to_vec()));
         assert!(differ(|wallet| wallet.records.cells.concat()));
         assert!(differ(|wallet| wallet.records.edges.concat()));

@@ -6,6 +6,8 @@ use std::sync::Arc;
 use wallet::print::print;
 use wallet::table::Table;
 
+use reference::Number;
+
 use super::call::{costliest, Record};
 use super::change::Automata;
 use super::watch::Watch;
@@ -28,7 +30,7 @@ pub fn text(climb: Climb, automata: Automata, climbs: usize, from: &str, slow: &
     writeln!(text, "```\n{}```\n", wallet_text(&listing)).expect("room");
     let query = listing.query.numbers();
     let numbers = query.iter().chain(&listing.table);
-    let numbers: Vec<String> = numbers.map(u16::to_string).collect();
+    let numbers: Vec<String> = numbers.map(Number::to_string).collect();
     writeln!(text, "As numbers: {}\n", numbers.join(" ")).expect("room");
     text
 }

@@ -6,7 +6,7 @@ use std::sync::Arc;
 use std::thread;
 use std::time::{Duration, Instant};
 
-use bwlchareg::Refusal;
+use bwlchareg::{Number, Refusal};
 
 use crate::listing::{Listing, CELLS};
 
@@ -17,7 +17,7 @@ const RECORD_CELLS: usize = 16_384;
 /// What the calls of a thread are lent.
 struct Buffers {
     sets: Vec<u32>,
-    record: Vec<u16>,
+    record: Vec<Number>,
 }
 
 /// Something to be done on the other thread.

@@ -8,33 +8,35 @@ use reference::generate::wallets::Wallet;
 use reference::query::{Query, DEEPEST};
 use reference::random::Random;
 use reference::records::{CredentialRecord, EdgeRecord, Head};
+use reference::table::EVERY_STATE;
+use reference::Number;
 
 use crate::families::Named;
 use crate::SEED;
 
 /// Whose role is asked about.
-const DOOR: u16 = 1;
+const DOOR: Number = 1;
 /// Who issues the one credential.
-const CLUB: u16 = 2;
+const CLUB: Number = 2;
 /// A second club.
-const OTHER: u16 = 3;
+const OTHER: Number = 3;
 /// The first of the people, the others come after.
-const FIRST: u16 = 10;
+const FIRST: Number = 10;
 /// The role names: the door's, and that of everybody's friends.
-const OPEN: u16 = 1;
-const FRIEND: u16 = 2;
+const OPEN: Number = 1;
+const FRIEND: Number = 2;
 /// A third name, and a fourth.
-const THIRD: u16 = 3;
-const FOURTH: u16 = 4;
+const THIRD: Number = 3;
+const FOURTH: Number = 4;
 
 /// How many people there are.
-const SIZES: &[u16] = &[6, 10, 14, 17];
+const SIZES: &[Number] = &[6, 10, 14, 17];
 /// How many there are where there must be room for rules of their own: which size is
 /// hard is not easily foreseen.
-const OWN_SIZES: &[u16] = &[6, 7, 8, 9, 10];
+const OWN_SIZES: &[Number] = &[6, 7, 8, 9, 10];
 /// Somebody who is further down the line than this is not reached: the line's
 /// first stands one level deeper than the line is long.
-const REACHED: u16 = DEEPEST - 1;
+const REACHED: Number = DEEPEST - 1;
 
 /// A constraint on the door's credential, which every derivation uses.
 #[derive(Clone, Copy, Debug, PartialEq, Eq)]
@@ -69,13 +71,13 @@ impl Constraint {
     }
 
     /// Its accepting set and its edges, in a club of so many. It starts in state 0.
-    fn automaton(self, people: u16) -> Option<(u16, Vec<EdgeRecord>)> {
+    fn automaton(self, people: Number) -> Option<(Number, Vec<EdgeRecord>)> {
         let any = |from, to| [1, from, 2, 0, 0, to];
         let all_but = |owner| [1, 0, 3, owner, FRIEND, 0];
         match self {
             Constraint::None => None,
             Constraint::AtMostFive => Some((
-                u16::MAX,
+                EVERY_STATE,
                 (0..5).map(|state| any(state, state + 1)).collect(),
             )),
             Constraint::NeverX => Some((1, vec![all_but(person(people.div_ceil(2)))])),
@@ -90,7 +92,7 @@ pub struct Club {
     /// What shape it has.
     pub shape: &'static str,
     /// How many people are in it.
-    pub people: u16,
+    pub people: Number,
     /// The table without a constraint, and the query.
     wallet: Wallet,
 }
@@ -114,10 +116,10 @@ type Credentials = Vec<CredentialRecord>;
 /// How clubs of one shape are made, and in which sizes.
 struct Shape {
     name: &'static str,
-    sizes: &'static [u16],
-    made: fn(u16) -> Credentials,
+    sizes: &'static [Number],
+    made: fn(Number) -> Credentials,
     /// The number of the one who is asked about.
-    asked: fn(u16) -> u16,
+    asked: fn(Number) -> Number,
 }
 
 /// All clubs.
@@ -180,67 +182,71 @@ impl Shape {
 }
 
 /// One of the people, by a number from 1 on.
-fn person(number: u16) -> u16 {
+fn person(number: Number) -> Number {
     FIRST + number - 1
 }
 
 /// The number of the last one whom the depth limit lets in.
-fn last(people: u16) -> u16 {
+fn last(people: Number) -> Number {
     people.min(REACHED)
 }
 
 /// The number of the next in a ring.
-fn next(number: u16, people: u16) -> u16 {
+fn next(number: Number, people: Number) -> Number {
     number % people + 1
 }
 
 /// Somebody's friends are those of another.
-fn contained(one: u16, another: u16) -> CredentialRecord {
+fn contained(one: Number, another: Number) -> CredentialRecord {
     [one, FRIEND, 2, another, FRIEND, 0]
 }
 
 /// Somebody names a friend.
-fn names(one: u16, friend: u16) -> CredentialRecord {
+fn names(one: Number, friend: Number) -> CredentialRecord {
     [one, FRIEND, 1, friend, 0, 0]
 }
 
 /// Somebody's friends are the friends of their friends.
-fn recursive(one: u16) -> CredentialRecord {
+fn recursive(one: Number) -> CredentialRecord {
     [one, FRIEND, 3, FRIEND, FRIEND, 0]
 }
 
 /// The door is open to somebody's friends.
-fn door(one: u16) -> CredentialRecord {
+fn door(one: Number) -> CredentialRecord {
     [DOOR, OPEN, 2, one, FRIEND, 0]
 }
 
 /// As many of some credentials as there is room for, after those that are there.
 fn filled(mut all: Credentials, more: impl IntoIterator<Item = CredentialRecord>) -> Credentials {
-    let room = usize::from(Head::LIMITS.credentials) - all.len();
+    let room = Head::LIMITS.credentials as usize - all.len();
     all.extend(more.into_iter().take(room));
     all
 }
 
 /// The club names the first, and each but the last the next.
-fn chain(people: u16) -> Credentials {
+fn chain(people: Number) -> Credentials {
     let mut all = vec![door(CLUB), recursive(CLUB), names(CLUB, person(1))];
     all.extend((1..people).map(|number| names(person(number), person(number + 1))));
     all
 }
 
 /// A chain whose last names the first.
-fn ring(people: u16) -> Credentials {
+fn ring(people: Number) -> Credentials {
     filled(chain(people), [names(person(people), person(1))])
 }
 
 /// A chain, and friends at random while there is room.
-fn dense(people: u16) -> Credentials {
+fn dense(people: Number) -> Credentials {
     at_random(chain(people), people, names)
 }
 
 /// Credentials about two people each, at random and each once, while there is room
 /// after those that are there.
-fn at_random(all: Credentials, people: u16, made: fn(u16, u16) -> CredentialRecord) -> Credentials {
+fn at_random(
+    all: Credentials,
+    people: Number,
+    made: fn(Number, Number) -> CredentialRecord,
+) -> Credentials {
     let numbers = || (1..=people).map(person);
     let pairs = numbers().flat_map(|one| numbers().map(move |other| (one, other)));
     let pairs = pairs.filter(|(one, other)| one != other);
@@ -251,12 +257,12 @@ fn at_random(all: Credentials, people: u16, made: fn(u16, u16) -> CredentialReco
 }
 
 /// The people too have the friends of their friends as friends.
-fn own(all: Credentials, people: u16) -> Credentials {
+fn own(all: Credentials, people: Number) -> Credentials {
     filled(all, (1..=people).map(|number| recursive(person(number))))
 }
 
 /// The same in a dense club, where half of the friends that were drawn make room.
-fn dense_with_rules(people: u16) -> Credentials {
+fn dense_with_rules(people: Number) -> Credentials {
     let mut all = dense(people);
     let drawn = all.len() - chain(people).len();
     all.truncate(all.len() - drawn / 2);
@@ -264,17 +270,17 @@ fn dense_with_rules(people: u16) -> Credentials {
 }
 
 /// A chain in which everybody has the club's friends as friends.
-fn shared(people: u16) -> Credentials {
+fn shared(people: Number) -> Credentials {
     let theirs = (1..=people).map(|number| contained(person(number), CLUB));
     filled(chain(people), theirs)
 }
 
 /// The club has three roles. In each are the friends of those in the next, and the
 /// first of a ring of people is in the one that the ring's last needs.
-fn three_roles(people: u16) -> Credentials {
+fn three_roles(people: Number) -> Credentials {
     let roles = [FRIEND, THIRD, FOURTH];
     let linked = |role: usize| [CLUB, roles[role], 3, roles[(role + 1) % 3], FRIEND, 0];
-    let needed = roles[usize::from(last(people) - 1) % 3];
+    let needed = roles[(last(people) - 1) as usize % 3];
     let mut all = vec![door(CLUB), [CLUB, needed, 1, person(1), 0, 0]];
     all.extend([0, 1, 2].map(linked));
     all.extend((1..=people).map(|number| names(person(number), person(next(number, people)))));
@@ -283,11 +289,11 @@ fn three_roles(people: u16) -> Credentials {
 
 /// Two clubs, each with a ring of half of the people, have each other's friends as
 /// friends, and from the first ring one leads to the second.
-fn two_clubs(people: u16) -> Credentials {
+fn two_clubs(people: Number) -> Credentials {
     let half = people / 2;
     let mut all = vec![door(CLUB)];
     for (club, other, before) in [(CLUB, OTHER, 0), (OTHER, CLUB, half)] {
-        let member = |number: u16| person(before + number);
+        let member = |number: Number| person(before + number);
         all.extend([
             recursive(club),
             contained(club, other),
@@ -301,8 +307,8 @@ fn two_clubs(people: u16) -> Credentials {
 
 /// There is no club. The people stand in a ring, each leads on to the next and to
 /// the one after, and has their friends as friends.
-fn links(people: u16) -> Credentials {
-    let leads = |number: u16, to: u16| [person(number), THIRD, 1, person(to), 0, 0];
+fn links(people: Number) -> Credentials {
+    let leads = |number: Number, to: Number| [person(number), THIRD, 1, person(to), 0, 0];
     let mut all = vec![door(person(1)), names(person(people), person(people))];
     for number in 1..=people {
         let to = next(number, people);
@@ -314,7 +320,7 @@ fn links(people: u16) -> Credentials {
 
 /// There is no club. The people stand in a ring and have the friends of the next as
 /// friends, and those of others at random while there is room.
-fn clique(people: u16) -> Credentials {
+fn clique(people: Number) -> Credentials {
     let friend = person(last(people));
     let mut all = vec![door(person(1)), names(friend, friend)];
     let around = 1..=people;

@@ -9,7 +9,7 @@ use reference::generate::claims::Claim;
 use reference::generate::wide;
 use reference::random::Random;
 use reference::records::{Head, Records};
-use reference::shop;
+use reference::{shop, Number};
 
 use super::{first_set, same, tables, ROUND};
 use crate::builds::{Build, Pair};
@@ -25,7 +25,7 @@ use crate::SEED;
 /// So many cells are lent for a record, enough for that of the longest ladder.
 const RECORD_CELLS: usize = 1 << 17;
 /// The levels of the records whose nodes are counted.
-const LEVELS: u16 = 9;
+const LEVELS: Number = 9;
 
 /// Prints all tables about both builds.
 pub fn time(form: Form, pairs: &[Pair]) {
@@ -169,7 +169,7 @@ fn time_nodes(form: Form, pairs: &[Pair]) {
 /// The table of the levels with so many automata, of which the first ones, so
 /// many, have fifteen edges each and are attached. The others have no edges, so
 /// they are dead, and are attached to nothing.
-fn with_automata(automata: usize, attached: u16) -> Records {
+fn with_automata(automata: usize, attached: Number) -> Records {
     let mut records = calls::constrained(wide::records(LEVELS), attached);
     records.automata.resize(automata, [0, 0, EVERY_WORD]);
     records
@@ -180,7 +180,7 @@ fn verdicts(pairs: &[Pair], what: &str, claims: Vec<Claim>) -> [f64; 2] {
     let claims = claims
         .into_iter()
         .map(|claim| (Listing::new(claim.table, claim.query), claim.record));
-    let claims: Vec<(Listing, Vec<u16>)> = claims.collect();
+    let claims: Vec<(Listing, Vec<Number>)> = claims.collect();
     let times = least(pairs, |pair| {
         for (listing, record) in &claims {
             let [before, after] = pair.each_ref().map(|build| build.verify(listing, record));
@@ -193,7 +193,7 @@ fn verdicts(pairs: &[Pair], what: &str, claims: Vec<Claim>) -> [f64; 2] {
 }
 
 /// How many of some records a build accepts.
-fn accepted(build: &Build, claims: &[(Listing, Vec<u16>)]) -> usize {
+fn accepted(build: &Build, claims: &[(Listing, Vec<Number>)]) -> usize {
     let verdicts = claims
         .iter()
         .map(|(listing, record)| build.verify(listing, record));

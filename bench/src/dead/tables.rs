@@ -10,13 +10,14 @@ use reference::generate::wallets::Wallet;
 use reference::query::DEEPEST;
 use reference::records::{CredentialRecord, EdgeRecord, Head};
 use reference::table::LAST_STATE;
+use reference::Number;
 
 use crate::writing::parts::{add_busy, chain};
 
 /// Who owns the roles on which the constraint dies.
-const OTHER: u16 = 2;
+const OTHER: Number = 2;
 /// The state that a twin never leaves. It accepts nothing.
-const TRAP: u16 = LAST_STATE;
+const TRAP: Number = LAST_STATE;
 /// The edge of the constraint by which nothing but the owner's roles are read.
 const OWN: EdgeRecord = [1, 0, 4, OWNER, 0, 0];
 
@@ -64,10 +65,14 @@ pub fn lists() -> Vec<Early> {
 
 /// Tables of one shape with so many levels: the constraint dies at the first, the
 /// second, a middle one, the last but one, or the last.
-fn at_each_place(what: &str, levels: u16, shape: impl Fn(u16, u16) -> Wallet) -> Vec<Early> {
+fn at_each_place(
+    what: &str,
+    levels: Number,
+    shape: impl Fn(Number, Number) -> Wallet,
+) -> Vec<Early> {
     let what = format!("{what}, levels {levels}");
     let places = [1, 2, levels / 2, levels - 1, levels];
-    let table = |dies: u16| Early::new(what.clone(), shape(levels, dies), dies.to_string());
+    let table = |dies: Number| Early::new(what.clone(), shape(levels, dies), dies.to_string());
     places.map(table).to_vec()
 }
 
@@ -77,7 +82,7 @@ pub fn writings() -> Vec<Early> {
 }
 
 /// Who owns the role of a level if the constraint dies at this one.
-fn owner(level: u16, dies: u16) -> u16 {
+fn owner(level: Number, dies: Number) -> Number {
     match level < dies {
         true => OWNER,
         false => OTHER,
@@ -86,7 +91,7 @@ fn owner(level: u16, dies: u16) -> u16 {
 
 /// The table with the constraint on the credential at an index, and with the role
 /// of the first level as the one that is asked about.
-fn constrained(mut wallet: Wallet, bearer: usize, dies: u16) -> Wallet {
+fn constrained(mut wallet: Wallet, bearer: usize, dies: Number) -> Wallet {
     wallet.records.credentials[bearer][5] = 1;
     wallet.records.automata.push([1, 1, EVERY_WORD]);
     wallet.records.edges.push(OWN);
@@ -97,8 +102,8 @@ fn constrained(mut wallet: Wallet, bearer: usize, dies: u16) -> Wallet {
 /// 3 to 10 levels, of which each but the last is defined twice: by the next, and
 /// by a chain of the next and one more role. The constraint is on the member's
 /// credential, the last level's.
-fn two_ways(levels: u16, dies: u16) -> Wallet {
-    const BESIDE: u16 = 40;
+fn two_ways(levels: Number, dies: Number) -> Wallet {
+    const BESIDE: Number = 40;
     let mut credentials = vec![
         [owner(levels, dies), levels, 1, MEMBER, 0, 0],
         [OWNER, BESIDE, 1, MEMBER, 0, 0],
@@ -106,7 +111,7 @@ fn two_ways(levels: u16, dies: u16) -> Wallet {
     let mut cells = Vec::new();
     for level in 1..levels {
         let (here, below) = (owner(level, dies), owner(level + 1, dies));
-        let cell = cells.len() as u16 + 1;
+        let cell = cells.len() as Number + 1;
         cells.extend([[below, level + 1, cell + 1], [OWNER, BESIDE, 0]]);
         credentials.push([here, level, 2, below, level + 1, 0]);
         credentials.push([here, level, 4, cell, 0, 0]);
@@ -121,11 +126,11 @@ fn two_ways(levels: u16, dies: u16) -> Wallet {
 /// level, and each of them vouches for all of these; so on each level each of
 /// them can be the middle. One level is a containment of the next, where the
 /// owner changes. The constraint is on the first level's only credential.
-fn linked(levels: u16, people: u16, dies: u16) -> Wallet {
-    const VOUCHED: u16 = 40;
+fn linked(levels: Number, people: Number, dies: Number) -> Wallet {
+    const VOUCHED: Number = 40;
     let people = MEMBER - people + 1..=MEMBER;
     let (last, change) = (owner(levels, dies), 1.max(dies - 1));
-    let definer = |level: u16| -> CredentialRecord {
+    let definer = |level: Number| -> CredentialRecord {
         let (here, below) = (owner(level, dies), owner(level + 1, dies));
         match level == change {
             true => [here, level, 2, below, level + 1, 0],
@@ -143,7 +148,7 @@ fn linked(levels: u16, people: u16, dies: u16) -> Wallet {
 
 /// Levels linked by four people, and beside the constraint seven more, each on a
 /// credential that every derivation uses. Those accept every word.
-fn beside_seven(dies: u16) -> Early {
+fn beside_seven(dies: Number) -> Early {
     let levels = 13;
     let mut wallet = linked(levels, 4, dies);
     let others = 2..=Head::LIMITS.automata;
@@ -176,8 +181,8 @@ fn ring() -> Early {
 /// Levels linked by three people, and beside them a way to the goal that has no
 /// constraint: its set is the only one, and the long way is searched again for
 /// each set that lacks it.
-fn beside_a_short_way(dies: u16) -> Early {
-    const SHORT: u16 = 50;
+fn beside_a_short_way(dies: Number) -> Early {
+    const SHORT: Number = 50;
     let levels = 12;
     let mut wallet = linked(levels, 3, dies);
     wallet.records.credentials.extend([
@@ -195,10 +200,10 @@ fn beside_a_short_way(dies: u16) -> Early {
 /// straight to the next, which comes first, or round by a role of another owner.
 /// Below the one only the owner's roles may come, below the other the two owners
 /// in turns: there the straight way dies as soon as it is taken.
-fn by_owners(choices: u16) -> Early {
-    const LEFT: u16 = 2;
-    const RIGHT: u16 = 3;
-    let (straight, round) = (|choice: u16| 10 + choice, |choice: u16| 30 + choice);
+fn by_owners(choices: Number) -> Early {
+    const LEFT: Number = 2;
+    const RIGHT: Number = 3;
+    let (straight, round) = (|choice: Number| 10 + choice, |choice: Number| 30 + choice);
     let mut credentials: Vec<CredentialRecord> = vec![[OWNER, GOAL, 4, 1, 0, 1]];
     credentials.extend([LEFT, RIGHT].map(|side| [OWNER, side, 2, OWNER, straight(1), 0]));
     for choice in 1..=choices {

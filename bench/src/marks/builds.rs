@@ -3,6 +3,8 @@
 
 use std::time::Duration;
 
+use reference::Number;
+
 use crate::builds::{ratio, summary, Pair, Side, Sides, Turns, LEAST};
 use crate::clubs::tables::{clubs, Constraint};
 use crate::dead::tables as dead;
@@ -16,7 +18,7 @@ const TURNS: Turns = Turns {
     long: Duration::from_millis(50),
 };
 /// How many people the clubs have.
-const PEOPLE: u16 = 6;
+const PEOPLE: Number = 6;
 /// What is within a tenth takes at most so many times as long as before.
 const TENTH: f64 = 1.1;
 
@@ -24,7 +26,7 @@ const TENTH: f64 = 1.1;
 struct Table {
     what: String,
     listing: Listing,
-    record: Option<(u32, Vec<u16>)>,
+    record: Option<(u32, Vec<Number>)>,
 }
 
 /// A call with what it is, which tells its time by each side if it can be made.
@@ -115,7 +117,7 @@ fn of_clubs() -> Vec<Named> {
 
 impl Table {
     /// A table with the record that the linked build writes, which has these cells.
-    fn new(what: String, listing: Listing, cells: &mut [u16]) -> Table {
+    fn new(what: String, listing: Listing, cells: &mut [Number]) -> Table {
         let sets = listing.library_list().expect("an accepted table");
         let record = sets.first().and_then(|&set| {
             let length = listing.write(set, cells).ok()?;
@@ -138,7 +140,7 @@ fn list(sides: &Sides, table: &Table) -> Option<Vec<f64>> {
 /// The time of writing the record by each side.
 fn write(sides: &Sides, table: &Table) -> Option<Vec<f64>> {
     let (set, record) = table.record.as_ref()?;
-    let write = |side: Side, cells: &mut Vec<u16>| side.write(&table.listing, *set, cells);
+    let write = |side: Side, cells: &mut Vec<Number>| side.write(&table.listing, *set, cells);
     Some(sides.times(TURNS, &table.what, &vec![0; record.len()], write))
 }
 

@@ -7,17 +7,18 @@ use reference::generate::clubs::clique;
 use reference::generate::shapes::{from_records, GOAL, OWNER};
 use reference::generate::wallets::Wallet;
 use reference::records::{CredentialRecord, Head, Records};
+use reference::Number;
 
 use crate::families::Named;
 
 /// So many automata there are.
-const AUTOMATA: u16 = Head::LIMITS.automata;
+const AUTOMATA: Number = Head::LIMITS.automata;
 /// The name of everybody's role, which is the one that is asked about.
-const FRIEND: u16 = GOAL;
+const FRIEND: Number = GOAL;
 /// Who is asked about in a ring.
-const ASKED: u16 = 3;
+const ASKED: Number = 3;
 /// The depth limit.
-const DEPTH: u16 = 8;
+const DEPTH: Number = 8;
 
 /// All clubs: with few counters and with many, and each of them with one that
 /// accepts nothing in the place of the first.
@@ -40,7 +41,7 @@ pub fn clubs() -> Vec<Named> {
 
 /// So many people in a ring, each of whom has the next as a friend, and the friends
 /// of friends as friends.
-fn ring(people: u16) -> Wallet {
+fn ring(people: Number) -> Wallet {
     let all = || OWNER..OWNER + people;
     let rules = all().map(|person| [person, FRIEND, 3, FRIEND, FRIEND, 0]);
     let names = all().map(|person| {
@@ -71,7 +72,7 @@ fn add_counter(records: &mut Records) {
     records.automata.push([1, 1, SOME_WORD]);
     let automaton = records.head().automata;
     let states = automaton + 1;
-    let around = |state: u16| [automaton, state, 2, 0, 0, (state + 1) % states];
+    let around = |state: Number| [automaton, state, 2, 0, 0, (state + 1) % states];
     records.edges.extend((0..states).map(around));
 }
 

@@ -5,19 +5,20 @@
 use bwlchareg::layout::SOME_WORD;
 use reference::generate::shapes::{self, from_records, Place, GOAL, MEMBER, OWNER};
 use reference::records::{CredentialRecord, Head, Records};
+use reference::Number;
 
 use crate::families::Named;
 use crate::writing::parts::chain;
 
 /// So many automata there are.
-const AUTOMATA: u16 = Head::LIMITS.automata;
+const AUTOMATA: Number = Head::LIMITS.automata;
 /// So many parts a chain has.
-const PARTS: u16 = 4;
+const PARTS: Number = 4;
 /// Who owns the roles through which words are demanded.
-const OTHER: u16 = 2;
+const OTHER: Number = 2;
 /// Which of the alternatives meet an automaton, counted from its own, which is the
 /// first: as many as are wanted.
-const MEETING: [u16; 3] = [0, 1, 3];
+const MEETING: [Number; 3] = [0, 1, 3];
 
 /// All tables.
 pub fn tables() -> Vec<Named> {
@@ -35,14 +36,14 @@ pub fn tables() -> Vec<Named> {
 /// four times the next. The last role has so many alternatives, of which a
 /// derivation can take several. All these credentials bear automata, and each
 /// automaton is met by so many of the alternatives.
-fn named_again(line: u16, levels: u16, alternatives: u16, meeting: usize) -> Named {
+fn named_again(line: Number, levels: Number, alternatives: Number, meeting: usize) -> Named {
     let last = GOAL + line + levels;
     let (mut credentials, mut cells) = (Vec::new(), Vec::new());
     for role in GOAL..last {
         credentials.push(match role < GOAL + line {
             true => [OWNER, role, 2, OWNER, role + 1, 0],
             false => {
-                let cell = cells.len() as u16 + 1;
+                let cell = cells.len() as Number + 1;
                 cells.extend(chain(cell, &[role + 1; PARTS as usize]));
                 [OWNER, role, 4, cell, 0, 0]
             }
@@ -62,7 +63,7 @@ fn named_again(line: u16, levels: u16, alternatives: u16, meeting: usize) -> Nam
 
 /// A chain of four roles, each of which has so many definers with the member. They
 /// bear all automata, of which each demands a word through one of the four roles.
-fn members(definers: u16) -> Named {
+fn members(definers: Number) -> Named {
     let mut wallet = shapes::choices(&[definers; PARTS as usize], Place::First);
     let records = &mut wallet.records;
     for automaton in 0..AUTOMATA {
@@ -75,11 +76,11 @@ fn members(definers: u16) -> Named {
 
 /// A chain of four roles, each of which has so many definers, which lead to
 /// alternatives. Two definers of different roles may lead to the same one.
-fn alternatives(definers: u16) -> Named {
+fn alternatives(definers: Number) -> Named {
     let room = Head::LIMITS.credentials - 1 - PARTS * definers;
     let alternatives = room.min(AUTOMATA);
-    let parts: Vec<u16> = (GOAL + 1..=GOAL + PARTS).collect();
-    let defined = parts.iter().flat_map(|&part| vec![part; definers.into()]);
+    let parts: Vec<Number> = (GOAL + 1..=GOAL + PARTS).collect();
+    let defined = parts.iter().flat_map(|&part| vec![part; definers as usize]);
     let others = (1..=alternatives).cycle();
     let mut credentials = vec![[OWNER, GOAL, 4, 1, 0, 0]];
     credentials.extend(
@@ -95,29 +96,29 @@ fn alternatives(definers: u16) -> Named {
 }
 
 /// Whoever is in this alternative is in the role with this name.
-fn leading(role: u16, alternative: u16) -> CredentialRecord {
+fn leading(role: Number, alternative: Number) -> CredentialRecord {
     [OWNER, role, 2, OTHER, alternative, 0]
 }
 
 /// The member is in this alternative.
-fn member(alternative: u16) -> CredentialRecord {
+fn member(alternative: Number) -> CredentialRecord {
     [OTHER, alternative, 1, MEMBER, 0, 0]
 }
 
 /// Adds eight automata, each of which is met by so many of the alternatives, and
 /// attaches them to all credentials but the members'.
-fn demand(records: &mut Records, alternatives: u16, meeting: usize) {
+fn demand(records: &mut Records, alternatives: Number, meeting: usize) {
     for automaton in 0..AUTOMATA {
         let meeting = MEETING[..meeting].iter();
         let roles = meeting.map(|further| (OTHER, (automaton + further) % alternatives + 1));
         through(records, &roles.collect::<Vec<_>>());
     }
-    let members = records.credentials.len() - usize::from(alternatives);
+    let members = records.credentials.len() - alternatives as usize;
     bear(&mut records.credentials[..members]);
 }
 
 /// Adds an automaton that demands a word through one of these roles.
-fn through(records: &mut Records, roles: &[(u16, u16)]) {
+fn through(records: &mut Records, roles: &[(Number, Number)]) {
     records.automata.push([1, 2, SOME_WORD]);
     let automaton = records.head().automata;
     let ways = roles
@@ -139,13 +140,14 @@ mod tests {
     use super::{tables, AUTOMATA};
     use crate::listing::Listing;
     use reference::records::Records;
+    use reference::Number;
     use std::collections::BTreeSet;
 
     /// How many automata the credentials of a set bear.
     fn borne(records: &Records, set: u32) -> usize {
         let credentials = records.credentials.iter().enumerate();
         let used = credentials.filter(|(index, _)| (set >> index) & 1 == 1);
-        let automata: BTreeSet<u16> = used.map(|(_, credential)| credential[5]).collect();
+        let automata: BTreeSet<Number> = used.map(|(_, credential)| credential[5]).collect();
         automata
             .into_iter()
             .filter(|automaton| *automaton > 0)
@@ -161,7 +163,7 @@ mod tests {
             let sets = Listing::of(&wallet).library_list().expect("a list");
             assert_eq!(sets.is_empty(), what == "levels 1, met by 1 of 8");
             for set in sets {
-                assert_eq!(borne(&wallet.records, set), AUTOMATA.into(), "{what}");
+                assert_eq!(borne(&wallet.records, set), AUTOMATA as usize, "{what}");
             }
         }
     }

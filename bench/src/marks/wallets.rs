@@ -149,7 +149,7 @@ mod tests {
                 let pairs = zeros.table.iter().zip(&other.table);
                 pairs.filter(|(one, other)| one != other).count()
             };
-            let automata = usize::from(zeros.table[2]);
+            let automata = zeros.table[2] as usize;
             assert_eq!(ways(ones), automata);
             assert_eq!(zeros.query, ones.query);
             (1..automata).contains(&ways(mixed))

@@ -7,7 +7,8 @@ use reference::generate::wallets::Wallet;
 use reference::random::Random;
 use reference::records::{EdgeRecord, Records};
 use reference::sorts::HIGHEST;
-use reference::table::LAST_STATE;
+use reference::table::{EVERY_STATE, LAST_STATE};
+use reference::Number;
 
 use crate::SEED;
 
@@ -48,14 +49,14 @@ impl Edges {
             Edges::Some => ([1, 2, EVERY_WORD], all_going_by_roles(wallet, &[8, 7])),
             Edges::Many => ([1, 2, EVERY_WORD], all_going_by_roles(wallet, &[15; 8])),
             Edges::Matching => (
-                [u16::MAX, u16::MAX, EVERY_WORD],
+                [EVERY_STATE, EVERY_STATE, EVERY_WORD],
                 all_matching(stranger(&wallet.records)),
             ),
         };
         Random::new(SEED).shuffle(&mut edges);
         let automata = edges.iter().map(|edge| edge[0]).max().unwrap_or(0);
         let records = &mut wallet.records;
-        records.automata = vec![automaton; automata.into()];
+        records.automata = vec![automaton; automata as usize];
         records.edges = edges;
         let mut automata = 1..=automata;
         for (index, credential) in records.credentials.iter_mut().enumerate() {
@@ -67,7 +68,7 @@ impl Edges {
 }
 
 /// The edges of automata that have so many each.
-fn all_going_by_roles(wallet: &Wallet, sizes: &[u16]) -> Vec<EdgeRecord> {
+fn all_going_by_roles(wallet: &Wallet, sizes: &[Number]) -> Vec<EdgeRecord> {
     let sized = (1..).zip(sizes);
     let edges = sized.flat_map(|(number, &size)| going_by_roles(wallet, number, size));
     edges.collect()
@@ -77,7 +78,7 @@ fn all_going_by_roles(wallet: &Wallet, sizes: &[u16]) -> Vec<EdgeRecord> {
 /// accepts the words that begin with the goal's role, in state 1. Nearly all of its
 /// edges go by one role, every other of them by one of the table's, and lead to
 /// other states.
-fn going_by_roles(wallet: &Wallet, number: u16, size: u16) -> Vec<EdgeRecord> {
+fn going_by_roles(wallet: &Wallet, number: Number, size: Number) -> Vec<EdgeRecord> {
     let goal = (wallet.query.owner, wallet.query.name);
     let roles = defined(&wallet.records);
     let exactly = |from, (owner, name): Role, to| [number, from, 1, owner, name, to];
@@ -89,7 +90,7 @@ fn going_by_roles(wallet: &Wallet, number: u16, size: u16) -> Vec<EdgeRecord> {
         let to = 2 + (number + 3 * edge) % (LAST_STATE - 1);
         match edge % 2 {
             0 => exactly(from, (HIGHEST - number, edge), to),
-            _ => exactly(from, roles[usize::from(number + edge) % roles.len()], to),
+            _ => exactly(from, roles[(number + edge) as usize % roles.len()], to),
         }
     });
     let first = [exactly(0, goal, 1), owned, stays];
@@ -100,7 +101,7 @@ fn going_by_roles(wallet: &Wallet, number: u16, size: u16) -> Vec<EdgeRecord> {
 /// leads to the next state.
 fn all_matching(stranger: Role) -> Vec<EdgeRecord> {
     let states = 0..=LAST_STATE;
-    let edge = |number: u16, state: u16| {
+    let edge = |number: Number, state: Number| {
         let [label, owner, name] = any(state, stranger);
         let next = (state + 1) % (LAST_STATE + 1);
         [number, state, label, owner, name, next]
@@ -111,7 +112,7 @@ fn all_matching(stranger: Role) -> Vec<EdgeRecord> {
 
 /// A label with its role that matches every role of a table: by turns every role,
 /// and every role but one that the table does not define.
-fn any(turn: u16, stranger: Role) -> [u16; 3] {
+fn any(turn: Number, stranger: Role) -> [Number; 3] {
     match turn % 2 {
         0 => [2, 0, 0],
         _ => [3, stranger.0, stranger.1],
@@ -131,7 +132,7 @@ mod tests {
     use super::Edges;
     use crate::families;
     use crate::listing::Listing;
-    use reference::shop;
+    use reference::{shop, Number};
 
     #[test]
     fn there_are_as_many_as_it_says() {
@@ -142,12 +143,12 @@ mod tests {
             let words = format!("{}, {}", head.automata, head.edges);
             assert!(edges.words().starts_with(&words), "{words}");
             let attached = wallet.records.credentials.iter().map(|record| record[5]);
-            let expected: Vec<u16> = match edges {
+            let expected: Vec<Number> = match edges {
                 Edges::None => vec![0; 4],
                 Edges::Some => vec![1, 2, 0, 0],
                 _ => vec![1, 2, 3, 0],
             };
-            assert_eq!(attached.collect::<Vec<u16>>(), expected);
+            assert_eq!(attached.collect::<Vec<Number>>(), expected);
         }
     }
 

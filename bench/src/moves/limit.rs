@@ -14,6 +14,7 @@ use std::ptr;
 
 use reference::records::{EdgeRecord, Head, Records};
 use reference::table::LAST_STATE;
+use reference::Number;
 
 use super::edges::Edges;
 use super::tables::Recorded;
@@ -23,12 +24,15 @@ use crate::listing::Listing;
 const AUTOMATA: usize = Head::LIMITS.automata as usize;
 const CREDENTIALS: usize = Head::LIMITS.credentials as usize;
 
+/// A set of states, as limit.c has it.
+type StateSet = u16;
+
 /// An automaton that is in a state of the first set goes to all of the second.
 #[repr(C)]
 #[derive(Clone, Copy, Debug, PartialEq, Eq)]
 struct Arc {
-    from: u16,
-    to: u16,
+    from: StateSet,
+    to: StateSet,
 }
 
 /// What is prepared of a credential, as limit.c has it.
@@ -44,8 +48,8 @@ struct Credential {
 #[repr(C)]
 #[derive(Default)]
 struct Sheet {
-    starting: [u16; AUTOMATA],
-    accepting: [u16; AUTOMATA],
+    starting: [StateSet; AUTOMATA],
+    accepting: [StateSet; AUTOMATA],
     credentials: [Credential; CREDENTIALS],
 }
 
@@ -71,8 +75,12 @@ pub struct Told {
     pub accepting: u32,
 }
 
-type Walk =
-    unsafe extern "C" fn(sheet: *const Sheet, record: *const u16, length: usize, told: *mut Told);
+type Walk = unsafe extern "C" fn(
+    sheet: *const Sheet,
+    record: *const Number,
+    length: usize,
+    told: *mut Told,
+);
 
 /// The loop, which stays loaded.
 pub struct Limit(Walk);
@@ -83,7 +91,7 @@ pub struct Prepared<'a> {
     sheet: Sheet,
     /// The arcs to which the sheet leads.
     _arcs: Vec<Vec<Arc>>,
-    record: &'a [u16],
+    record: &'a [Number],
 }
 
 impl Limit {
@@ -131,8 +139,8 @@ impl Prepared<'_> {
         let records = &table.wallet.records;
         let mut sheet = Sheet::default();
         for (index, &[starting, accepting, _]) in records.automata.iter().enumerate() {
-            sheet.starting[index] = starting;
-            sheet.accepting[index] = accepting;
+            sheet.starting[index] = starting as StateSet;
+            sheet.accepting[index] = accepting as StateSet;
         }
         let mut all = Vec::new();
         for (prepared, record) in sheet.credentials.iter_mut().zip(&records.credentials) {
@@ -155,8 +163,8 @@ impl Prepared<'_> {
 
 /// How many children a node has that is proved through a credential of this kind,
 /// with this first field.
-fn children(records: &Records, kind: u16, first: u16) -> u32 {
-    let next = |&cell: &u16| match records.cells[usize::from(cell) - 1][2] {
+fn children(records: &Records, kind: Number, first: Number) -> u32 {
+    let next = |&cell: &Number| match records.cells[cell as usize - 1][2] {
         0 => None,
         next => Some(next),
     };
@@ -168,14 +176,14 @@ fn children(records: &Records, kind: u16, first: u16) -> u32 {
 
 /// The arcs of an automaton on a role. From each state there is at most one, and
 /// states from which it goes to the same ones have it together.
-fn arcs_of(records: &Records, automaton: u16, role: (u16, u16)) -> Vec<Arc> {
+fn arcs_of(records: &Records, automaton: Number, role: (Number, Number)) -> Vec<Arc> {
     let edges = records
         .edges
         .iter()
         .filter(|edge| edge[0] == automaton && matches(edge, role));
     let mut reached = [0; LAST_STATE as usize + 1];
     for &[_, from, _, _, _, to] in edges {
-        reached[usize::from(from)] |= 1 << to;
+        reached[from as usize] |= 1 << to;
     }
     let mut arcs: Vec<Arc> = Vec::new();
     for (state, to) in reached.into_iter().enumerate().filter(|&(_, to)| to != 0) {
@@ -191,7 +199,7 @@ fn arcs_of(records: &Records, automaton: u16, role: (u16, u16)) -> Vec<Arc> {
 }
 
 /// Whether an edge matches a role.
-fn matches(&[_, _, label, owner, name, _]: &EdgeRecord, role: (u16, u16)) -> bool {
+fn matches(&[_, _, label, owner, name, _]: &EdgeRecord, role: (Number, Number)) -> bool {
     match label {
         1 => (owner, name) == role,
         3 => (owner, name) != role,
@@ -208,13 +216,13 @@ mod tests {
     use crate::moves::edges::Edges;
     use crate::moves::tables::{short, Recorded};
     use bwlchareg::layout::EVERY_WORD;
-    use reference::shop;
+    use reference::{shop, Number};
 
     #[test]
     fn labels_match_as_the_definition_says() {
         let edge = |label, owner, name| [1, 0, label, owner, name, 0];
         let roles = [(1, 1), (1, 2), (2, 1)];
-        let matched = |edge: [u16; 6]| roles.map(|role| matches(&edge, role));
+        let matched = |edge: [Number; 6]| roles.map(|role| matches(&edge, role));
         assert_eq!(matched(edge(1, 1, 1)), [true, false, false]);
         assert_eq!(matched(edge(2, 0, 0)), [true, true, true]);
         assert_eq!(matched(edge(3, 1, 1)), [false, true, true]);

@@ -4,6 +4,7 @@
 use reference::generate::shapes::{from_records, GOAL, OWNER};
 use reference::generate::wallets::Wallet;
 use reference::records::{CellRecord, CredentialRecord, Head};
+use reference::Number;
 
 use super::edges::Edges;
 use crate::listing::Listing;
@@ -20,7 +21,7 @@ enum Rule {
     /// Kind 3: the next level's twice, by way of its owner.
     Linked,
     /// Kind 4: a chain of so many times the next level's.
-    Chain(u16),
+    Chain(Number),
 }
 
 /// A table with the record of its first set.
@@ -33,7 +34,7 @@ pub struct Recorded {
     /// The first set.
     pub set: u32,
     /// Its record.
-    pub record: Vec<u16>,
+    pub record: Vec<Number>,
 }
 
 impl Recorded {
@@ -94,8 +95,8 @@ pub fn long() -> Vec<Recorded> {
 /// Tables whose record is short, from 1 node to 100. Each is there twice: with few
 /// credentials, and with twenty, of which the record uses as many as it can.
 pub fn short() -> Vec<Recorded> {
-    let line = |below: &[u16]| [&[1; 11], below].concat();
-    let few: [(u16, &[u16]); 5] = [
+    let line = |below: &[Number]| [&[1; 11], below].concat();
+    let few: [(Number, &[Number]); 5] = [
         (3, &[]),
         (3, &[1, 1]),
         (3, &[3, 2]),
@@ -119,7 +120,7 @@ pub fn short() -> Vec<Recorded> {
 
 /// The table of some levels, each but the last with so many children, and with
 /// credentials that define other roles until there are so many.
-fn filled(credentials: u16, children: &[u16]) -> Recorded {
+fn filled(credentials: Number, children: &[Number]) -> Recorded {
     let rules = children.iter().map(|&children| match children {
         1 => Rule::Contained,
         children => Rule::Chain(children),
@@ -139,24 +140,24 @@ fn levels(rules: &[Rule]) -> Wallet {
     let mut credentials: Vec<CredentialRecord> = Vec::new();
     let mut cells: Vec<CellRecord> = Vec::new();
     for (level, rule) in (GOAL..).zip(rules) {
-        let (next, cell) = (level + 1, cells.len() as u16 + 1);
+        let (next, cell) = (level + 1, cells.len() as Number + 1);
         credentials.push(match *rule {
             Rule::Contained => [OWNER, level, 2, OWNER, next, 0],
             Rule::Linked => [OWNER, level, 3, next, next, 0],
             Rule::Chain(times) => {
-                cells.extend(chain(cell, &vec![next; times.into()]));
+                cells.extend(chain(cell, &vec![next; times as usize]));
                 [OWNER, level, 4, cell, 0, 0]
             }
         });
     }
-    credentials.push(member(GOAL + rules.len() as u16));
+    credentials.push(member(GOAL + rules.len() as Number));
     let mut wallet = from_records(credentials, cells);
     wallet.query.principal = OWNER;
     wallet
 }
 
 /// The owner is in the role with this name.
-fn member(name: u16) -> CredentialRecord {
+fn member(name: Number) -> CredentialRecord {
     [OWNER, name, 1, OWNER, 0, 0]
 }
 
@@ -164,6 +165,7 @@ fn member(name: u16) -> CredentialRecord {
 mod tests {
     use super::{long, short, Edges, Recorded};
     use crate::listing::Listing;
+    use reference::Number;
 
     #[test]
     fn records_have_their_lengths() {
@@ -189,7 +191,7 @@ mod tests {
         let credentials = short()
             .into_iter()
             .map(|table| table.wallet.records.head().credentials);
-        let credentials: Vec<u16> = credentials.collect();
+        let credentials: Vec<Number> = credentials.collect();
         assert_eq!(credentials, [3, 3, 3, 5, 5, 20, 20, 20, 20, 20]);
     }
 }

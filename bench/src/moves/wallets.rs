@@ -5,7 +5,7 @@ use std::time::Duration;
 
 use reference::generate::wallets::Wallet;
 use reference::records::Records;
-use reference::shop;
+use reference::{shop, Number};
 
 use super::edges::Edges;
 use super::tables::short;
@@ -37,7 +37,7 @@ const SMALL: [&str; 11] = [
     "ladder of 14 of kind 2",
 ];
 /// How many people the clubs have.
-const PEOPLE: u16 = 6;
+const PEOPLE: Number = 6;
 /// So many grown wallets there are of each size.
 const EACH: usize = 5;
 
@@ -106,7 +106,7 @@ fn list(sides: &Sides, small: &Small, listing: &Listing) -> Vec<f64> {
 
 /// The time of writing the record of the first set by each side.
 fn write(sides: &Sides, small: &Small, listing: &Listing) -> Vec<f64> {
-    let write = |side: Side, cells: &mut [u16; RECORD_CELLS]| {
+    let write = |side: Side, cells: &mut [Number; RECORD_CELLS]| {
         let written = side.write(listing, small.set, cells);
         assert!(written.is_ok(), "{}", small.what);
         written
@@ -168,7 +168,7 @@ fn of_clubs() -> Vec<Named> {
 
 /// Of each size the first grown wallets that have a minimal set.
 fn grown() -> Vec<Small> {
-    let of_size = |size: u16| {
+    let of_size = |size: Number| {
         let named = (1..).zip(of_size(size)).map(move |(number, listing)| {
             let records = Records::read(&listing.table).expect("an accepted table");
             let query = listing.query;

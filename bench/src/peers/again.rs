@@ -8,6 +8,7 @@ use std::collections::BTreeSet;
 use reference::generate::growth::Policy;
 use reference::records::Records;
 use reference::sorts::{Goal, HIGHEST};
+use reference::Number;
 
 use crate::listing::Listing;
 
@@ -37,7 +38,7 @@ fn below(policy: &Policy, goal: Goal) -> BTreeSet<Goal> {
 /// The premises of all nodes that a goal can have.
 fn premises(policy: &Policy, goal: Goal) -> Vec<Goal> {
     let table = &policy.table;
-    let credentials = 1..=table.credentials.len() as u16;
+    let credentials = 1..=table.credentials.len() as Number;
     let nodes = credentials.flat_map(|number| (0..=HIGHEST).map(move |middle| (number, middle)));
     let premises = nodes.filter_map(|(number, middle)| table.premises(goal, number, middle));
     let can_be_derived = |goals: &Vec<Goal>| goals.iter().all(|&goal| policy.is_derivable(goal));
@@ -52,7 +53,7 @@ mod tests {
     use crate::peers::wallets::{of_size, sizes};
     use reference::generate::shapes::{containments, from_records};
     use reference::query::Query;
-    use reference::shop;
+    use reference::{shop, Number};
 
     /// The friends of 2's friends are 2's friends, and so many of the credentials
     /// behind that name one of these.
@@ -60,7 +61,7 @@ mod tests {
         let names = [[2, 2, 1, 4, 0, 0], [4, 2, 1, 5, 0, 0], [5, 2, 1, 6, 0, 0]];
         let credentials = [&[[2, 2, 3, 2, 2, 0]], &names[..friends]].concat();
         let mut wallet = from_records(credentials, Vec::new());
-        wallet.query = Query::from_numbers([3 + friends as u16, 2, 2, 16]);
+        wallet.query = Query::from_numbers([3 + friends as Number, 2, 2, 16]);
         Listing::of(&wallet)
     }
 

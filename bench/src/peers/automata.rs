@@ -5,12 +5,16 @@
 
 use reference::sorts::Role;
 use reference::table::Table;
+use reference::Number;
 
 /// So many automata a table has at most.
 const MOST: usize = 8;
 
+/// A set of states.
+type StateSet = u16;
+
 /// The states in which each automaton can be, automaton 1 first.
-pub type States = [u16; MOST];
+pub type States = [StateSet; MOST];
 
 /// The automata of a table.
 pub struct Automata<'a> {
@@ -26,7 +30,7 @@ impl<'a> Automata<'a> {
         loop {
             let before = hopeful;
             for edge in &table.edges {
-                let states = &mut hopeful[usize::from(edge.automaton) - 1];
+                let states = &mut hopeful[edge.automaton as usize - 1];
                 if (*states >> edge.to) & 1 == 1 {
                     *states |= 1 << edge.from;
                 }
@@ -46,7 +50,7 @@ impl<'a> Automata<'a> {
     pub fn after(&self, states: &States, role: Role) -> States {
         let mut after = [0; MOST];
         for edge in &self.table.edges {
-            let index = usize::from(edge.automaton) - 1;
+            let index = edge.automaton as usize - 1;
             if (states[index] >> edge.from) & 1 == 1 && edge.label.matches(role) {
                 after[index] |= 1 << edge.to;
             }
@@ -67,10 +71,10 @@ impl<'a> Automata<'a> {
 }
 
 /// A set of states for each automaton of a table.
-fn each(table: &Table, set: impl Fn(&reference::table::Automaton) -> u16) -> States {
+fn each(table: &Table, set: impl Fn(&reference::table::Automaton) -> Number) -> States {
     let mut sets = [0; MOST];
     for (place, automaton) in sets.iter_mut().zip(&table.automata) {
-        *place = set(automaton);
+        *place = set(automaton) as StateSet;
     }
     sets
 }

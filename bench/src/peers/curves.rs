@@ -1,6 +1,8 @@
 //! The curves of a comparison: the median and the worst of some ways against
 //! the number of credentials.
 
+use reference::Number;
+
 use super::tables::{figures, Figures};
 use super::{Comparison, Way};
 use crate::plot::{Curve, Plot};
@@ -38,7 +40,7 @@ fn curve(
     comparison: &Comparison,
     way: usize,
     figure: impl Fn(&Figures) -> Option<f64>,
-) -> Vec<(u16, Option<f64>)> {
+) -> Vec<(Number, Option<f64>)> {
     let groups = comparison.groups.iter();
     let points = groups.map(|group| (group.size, figure(&figures(&group.of_way(way)))));
     points.collect()
@@ -48,17 +50,18 @@ fn curve(
 mod tests {
     use super::plot;
     use crate::peers::{Comparison, Group};
+    use reference::Number;
     use std::time::Duration;
 
     #[test]
     fn every_way_but_the_reference_has_two_curves() {
         // Three wallets: each way takes its number times the size, then three
         // times as long, then too long.
-        let times = |factor: Option<u16>, size: u16| {
-            let time = |way: u16| factor.map(|factor| f64::from(factor * way * size));
+        let times = |factor: Option<Number>, size: Number| {
+            let time = |way: Number| factor.map(|factor| f64::from(factor * way * size));
             (1..=3).map(time).collect()
         };
-        let group = |size: u16| Group {
+        let group = |size: Number| Group {
             size,
             times: [Some(1), Some(3), None]
                 .map(|factor| times(factor, size))

@@ -8,7 +8,7 @@ use bwlchareg::layout::EVERY_WORD;
 use reference::generate::shapes;
 use reference::records::{CredentialRecord, Records};
 use reference::shop::{Q, T, U};
-use reference::Query;
+use reference::{Number, Query};
 
 use super::again::can_a_role_come;
 use super::samples;
@@ -28,7 +28,7 @@ fn solver() -> Option<Solver> {
 }
 
 /// The sets that the solver lists for a table and a query.
-fn listed(solver: &Solver, table: &[u16], query: Query) -> Vec<u32> {
+fn listed(solver: &Solver, table: &[Number], query: Query) -> Vec<u32> {
     let list = solver.minimal_sets(&Listing::new(table.to_vec(), query), LONG);
     list.expect("a list")
 }
@@ -49,7 +49,7 @@ fn the_rows_of_the_shop() {
 #[test]
 fn one_goal_in_two_places() {
     let Some(solver) = solver() else { return };
-    let on = |from: u16, name: u16, to: u16| [1, from, 1, 1, name, to];
+    let on = |from: Number, name: Number, to: Number| [1, from, 1, 1, name, to];
     let records = Records {
         credentials: vec![
             [1, 1, 4, 1, 0, 1],
@@ -97,7 +97,7 @@ fn all_roles_of_one_owner() {
 /// A derivation of three levels, whose middle one is proved through one of these
 /// credentials and whose lowest role has this name. Only words of three roles
 /// are accepted.
-fn three_levels(through: CredentialRecord, name: u16, fourth: CredentialRecord) -> Vec<u16> {
+fn three_levels(through: CredentialRecord, name: Number, fourth: CredentialRecord) -> Vec<Number> {
     let records = Records {
         credentials: vec![[1, name, 1, 9, 0, 1], [1, 1, 2, 1, 2, 0], through, fourth],
         cells: vec![[1, name, 2], [1, name, 0]],

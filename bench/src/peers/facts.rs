@@ -5,18 +5,19 @@ use std::fmt::Display;
 
 use reference::query::Query;
 use reference::records::Records;
+use reference::Number;
 
 /// The facts, one a line.
 pub fn facts(records: &Records, query: Query) -> String {
     let mut facts = String::new();
     add(&mut facts, "query", &query.numbers());
-    for (number, record) in (1u16..).zip(&records.credentials) {
+    for (number, record) in (1..).zip(&records.credentials) {
         add_numbered(&mut facts, "credential", number, record);
     }
-    for (number, record) in (1u16..).zip(&records.cells) {
+    for (number, record) in (1..).zip(&records.cells) {
         add_numbered(&mut facts, "cell", number, record);
     }
-    for (number, record) in (1u16..).zip(&records.automata) {
+    for (number, record) in (1..).zip(&records.automata) {
         add_numbered(&mut facts, "automaton", number, record);
     }
     for record in &records.edges {
@@ -26,7 +27,7 @@ pub fn facts(records: &Records, query: Query) -> String {
 }
 
 /// Adds a fact that begins with the record's number.
-fn add_numbered(facts: &mut String, predicate: &str, number: u16, record: &[u16]) {
+fn add_numbered(facts: &mut String, predicate: &str, number: Number, record: &[Number]) {
     add(facts, predicate, &[&[number], record].concat());
 }
 

@@ -28,6 +28,8 @@ pub mod wallets;
 
 use std::time::Duration;
 
+use reference::Number;
+
 use crate::families;
 use crate::listing::{steps_within, Listing};
 use crate::timing::alone;
@@ -113,7 +115,7 @@ pub type Times = Vec<Option<f64>>;
 /// The wallets of one size.
 pub struct Group {
     /// How many credentials each has.
-    pub size: u16,
+    pub size: Number,
     /// The times, wallet by wallet.
     pub times: Vec<Times>,
     /// How many minimal sets there are, wallet by wallet.
@@ -180,7 +182,7 @@ struct Trial {
 
 impl Trial {
     /// Times the wallets of one size.
-    fn group(&mut self, size: u16) -> Group {
+    fn group(&mut self, size: Number) -> Group {
         let mut group = Group {
             size,
             times: Vec::new(),

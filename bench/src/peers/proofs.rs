@@ -17,6 +17,7 @@ use std::time::Duration;
 use reference::query::Asked;
 use reference::sorts::{Goal, Name, Principal, Role};
 use reference::table::{Members, Table};
+use reference::Number;
 
 use super::automata::{Automata, States};
 use super::deadline::Deadline;
@@ -57,7 +58,7 @@ fn proofs(table: &Table, asked: Asked, limit: Duration) -> Option<(Store, Vec<Id
         table,
         nodes: nodes(table),
         automata,
-        depth: usize::from(asked.depth),
+        depth: asked.depth as usize,
         deadline: Deadline::within(limit),
         made: 0,
         store: Store::default(),
@@ -67,9 +68,9 @@ fn proofs(table: &Table, asked: Asked, limit: Duration) -> Option<(Store, Vec<Id
 }
 
 /// The numbers of the credentials that define each role.
-fn nodes(table: &Table) -> HashMap<Role, Vec<u16>> {
-    let mut nodes: HashMap<Role, Vec<u16>> = HashMap::new();
-    for (number, credential) in (1u16..).zip(&table.credentials) {
+fn nodes(table: &Table) -> HashMap<Role, Vec<Number>> {
+    let mut nodes: HashMap<Role, Vec<Number>> = HashMap::new();
+    for (number, credential) in (1..).zip(&table.credentials) {
         nodes.entry(credential.role).or_default().push(number);
     }
     nodes
@@ -78,7 +79,7 @@ fn nodes(table: &Table) -> HashMap<Role, Vec<u16>> {
 /// A construction of proofs that is under way.
 struct Construction<'a> {
     table: &'a Table,
-    nodes: HashMap<Role, Vec<u16>>,
+    nodes: HashMap<Role, Vec<Number>>,
     automata: Automata<'a>,
     /// The highest level that a node may have.
     depth: usize,
@@ -118,7 +119,7 @@ impl Construction<'_> {
     /// every combination of proofs of the premises.
     fn through(
         &mut self,
-        node: (u16, u16),
+        node: (Number, Number),
         premises: &[Goal],
         inside: Place,
         proofs: &mut Vec<Id>,
@@ -147,7 +148,7 @@ impl Construction<'_> {
     /// where there are none.
     fn proof(
         &mut self,
-        (credential, middle): (u16, u16),
+        (credential, middle): (Number, Number),
         subproofs: &[Id],
         inside: Place,
     ) -> Option<Proof> {
@@ -165,7 +166,7 @@ impl Construction<'_> {
     }
 
     /// The automaton of a credential, as a set of one or none.
-    fn constraint(&self, number: u16) -> u8 {
+    fn constraint(&self, number: Number) -> u8 {
         let credential = self.table.credential(number);
         let automaton = credential.and_then(|credential| credential.automaton);
         automaton.map_or(0, |automaton| 1 << (automaton - 1))
@@ -173,7 +174,7 @@ impl Construction<'_> {
 
     /// The middles that are tried for a credential: under kind 3 whoever owns
     /// a role with the second name that is defined. The others have none.
-    fn middles(&self, number: u16) -> Vec<u16> {
+    fn middles(&self, number: Number) -> Vec<Number> {
         let credential = self.table.credential(number);
         match credential.map(|credential| &credential.members) {
             Some(&Members::Linked(_, second)) => self.owners(second),
@@ -182,7 +183,7 @@ impl Construction<'_> {
     }
 
     /// The owners of roles with this name that are defined, ascending.
-    fn owners(&self, name: Name) -> Vec<u16> {
+    fn owners(&self, name: Name) -> Vec<Number> {
         let roles = self.nodes.keys().filter(|role| role.name == name);
         let mut owners: Vec<Principal> = roles.map(|role| role.owner).collect();
         owners.sort();
@@ -212,13 +213,13 @@ mod tests {
     use crate::listing::Listing;
     use crate::peers::samples;
     use reference::generate::shapes::{self, Place};
-    use reference::shop;
+    use reference::{shop, Number};
     use std::time::Duration;
 
     const LONG: Duration = Duration::from_secs(60);
 
     /// The records of all proofs with their used sets, ascending.
-    fn records(listing: &Listing) -> Vec<(Vec<u16>, u32)> {
+    fn records(listing: &Listing) -> Vec<(Vec<Number>, u32)> {
         let (table, asked) = listing.read();
         let (store, proofs) = proofs(&table, asked, LONG).expect("time enough");
         let record = |&proof: &u32| {
@@ -233,7 +234,7 @@ mod tests {
 
     #[test]
     fn the_proofs_of_the_shop() {
-        let with = |table: &[u16]| records(&Listing::of(&families::shop(table)));
+        let with = |table: &[Number]| records(&Listing::of(&families::shop(table)));
         assert_eq!(with(&shop::T), [(shop::R.to_vec(), 7), (vec![4, 0], 8)]);
         assert_eq!(with(&shop::U), [(vec![4, 0], 8)]);
     }

@@ -5,6 +5,7 @@ use reference::generate::listings::made_up;
 use reference::generate::marks::Marks;
 use reference::random::Random;
 use reference::records::Records;
+use reference::Number;
 
 use super::again::can_a_role_come;
 use crate::listing::Listing;
@@ -14,7 +15,7 @@ use crate::listing::Listing;
 /// go through.
 const CREDENTIALS: usize = 10;
 const CELLS: usize = 8;
-const DEPTH: u16 = 8;
+const DEPTH: Number = 8;
 
 /// So many made-up listings that both sides accept, the same in every run:
 /// grown wallets, tables with cycles, and queries of which nothing is known. Their
@@ -38,7 +39,7 @@ pub fn listings(count: usize) -> Vec<Listing> {
 
 /// The table with mark 0 everywhere: the ways of listing that are compared know no
 /// other demand.
-fn demanding_every_word(table: Vec<u16>) -> Vec<u16> {
+fn demanding_every_word(table: Vec<Number>) -> Vec<Number> {
     match Records::read(&table) {
         Ok(mut records) => {
             Marks::Zeros.give(&mut Random::new(0), &mut records);

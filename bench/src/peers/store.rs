@@ -3,6 +3,8 @@
 //! They stand one after the other and name their sub-proofs by number, so that
 //! millions of them take little room, and all of it is given back at once.
 
+use reference::Number;
+
 /// The number of a proof in its store.
 pub type Id = u32;
 
@@ -12,7 +14,7 @@ pub type Id = u32;
 pub struct Proof {
     /// The number of the credential, and the middle.
     #[cfg_attr(not(test), allow(dead_code, reason = "only tests write proofs down"))]
-    node: (u16, u16),
+    node: (Number, Number),
     /// Where the proofs of the premises are named, and how many they are.
     subproofs: (u32, u8),
     /// The used set: credential i counts 2^(i-1).
@@ -26,7 +28,7 @@ pub struct Proof {
 impl Proof {
     /// A proof that has no sub-proofs yet, with the automaton of its credential
     /// and the automata that reject its word, if it ends one.
-    pub fn new(credential: u16, middle: u16, constraints: u8, rejecting: u8) -> Proof {
+    pub fn new(credential: Number, middle: Number, constraints: u8, rejecting: u8) -> Proof {
         Proof {
             node: (credential, middle),
             subproofs: (0, 0),
@@ -68,7 +70,7 @@ impl Store {
 
     /// Adds the record of a proof to some numbers.
     #[cfg(test)]
-    pub fn write(&self, id: Id, record: &mut Vec<u16>) {
+    pub fn write(&self, id: Id, record: &mut Vec<Number>) {
         let Proof {
             node, subproofs, ..
         } = *self.proof(id);

@@ -5,6 +5,7 @@
 use reference::generate::marks::Marks;
 use reference::generate::wallets;
 use reference::random::Random;
+use reference::Number;
 
 use crate::listing::Listing;
 
@@ -14,19 +15,19 @@ const SEED: u64 = 2012;
 const EACH: usize = 100;
 
 /// The numbers of credentials that wallets have.
-pub fn sizes() -> impl Iterator<Item = u16> {
+pub fn sizes() -> impl Iterator<Item = Number> {
     (2..=20).step_by(2)
 }
 
 /// The wallets of this size, the same ones in every run.
-pub fn of_size(size: u16) -> Vec<Listing> {
+pub fn of_size(size: Number) -> Vec<Listing> {
     let mut random = Random::new(SEED + u64::from(size));
     (0..EACH).map(|_| constrained(&mut random, size)).collect()
 }
 
 /// A grown wallet of this size in which a third to all of the credentials bear
 /// on the query, and at least one has an automaton.
-fn constrained(random: &mut Random, size: u16) -> Listing {
+fn constrained(random: &mut Random, size: Number) -> Listing {
     loop {
         let mut wallet = wallets::of_size(random, size);
         Marks::Zeros.give(random, &mut wallet.records);

@@ -7,6 +7,7 @@ use reference::generate::shapes::{self, from_records as wallet, GOAL, MEMBER, OW
 use reference::generate::wallets::Wallet;
 use reference::query::Query;
 use reference::records::CredentialRecord;
+use reference::Number;
 
 use super::parts::{add_tree, chain, Tree};
 use crate::families::{growing, Named};
@@ -23,11 +24,11 @@ const LISTED: [&str; 6] = [
 ];
 
 /// Two roles that the goal's chain asks for, and one that both of them need.
-const LEFT: u16 = 2;
-const RIGHT: u16 = 3;
-const SHARED: u16 = 4;
+const LEFT: Number = 2;
+const RIGHT: Number = 3;
+const SHARED: Number = 4;
 /// Who is in the shared role, and has the member in a role of its own.
-const MIDDLE: u16 = 2;
+const MIDDLE: Number = 2;
 
 /// All tables.
 pub fn tables() -> Vec<Named> {
@@ -62,9 +63,9 @@ pub fn own() -> Vec<Named> {
 /// rung, of whom only the last leads on; and the other three are needed. The
 /// goal is a chain of three roles, each linked by the top rung's role, and for
 /// each another one of the three is the middle that leads on.
-fn middles(rungs: u16) -> Wallet {
-    const LAST: u16 = 4;
-    const ASKED: u16 = 20;
+fn middles(rungs: Number) -> Wallet {
+    const LAST: Number = 4;
+    const ASKED: Number = 20;
     let mut wallet = shapes::rungs(rungs, LAST);
     let (top, records) = (wallet.query.name, &mut wallet.records);
     for person in 1..LAST {
@@ -88,9 +89,9 @@ fn middles(rungs: u16) -> Wallet {
 /// a line either straight to the next, which comes first, or round by another.
 /// An automaton counts the roles, and lets pass nothing but the straight way
 /// below the one and the longest below the other.
-fn by_words(choices: u16) -> Wallet {
-    let (straight, round) = (|choice: u16| 10 + choice, |choice: u16| 30 + choice);
-    let contains = |name: u16, next: u16| [OWNER, name, 2, OWNER, next, 0];
+fn by_words(choices: Number) -> Wallet {
+    let (straight, round) = (|choice: Number| 10 + choice, |choice: Number| 30 + choice);
+    let contains = |name: Number, next: Number| [OWNER, name, 2, OWNER, next, 0];
     let mut credentials = vec![
         [OWNER, GOAL, 4, 1, 0, 1],
         contains(LEFT, straight(1)),
@@ -126,9 +127,9 @@ fn by_words(choices: u16) -> Wallet {
 /// and below the right one for the member. Each of its definers is a chain of a
 /// tree of 1 to 5 levels, and then of one of the two roles: so it fails below that
 /// role, when the tree is done.
-fn by_branch(levels: u16) -> Wallet {
-    const TREE: u16 = 10;
-    const LINKED: u16 = 40;
+fn by_branch(levels: Number) -> Wallet {
+    const TREE: Number = 10;
+    const LINKED: Number = 40;
     let mut credentials = vec![
         [OWNER, GOAL, 4, 1, 0, 0],
         [OWNER, SHARED, 4, 3, 0, 0],
@@ -156,10 +157,10 @@ fn by_branch(levels: u16) -> Wallet {
 /// is needed right below the goal for the member, and 2 to 6 levels further down
 /// for the middle. Its first definer leads down as many levels to both of them,
 /// which are too many where the role is deep already; its second has the middle.
-fn by_depth(levels: u16) -> Wallet {
-    const DOWN: u16 = 10;
-    const DEEP: u16 = 30;
-    let contains = |name: u16, next: u16| [OWNER, name, 2, OWNER, next, 0];
+fn by_depth(levels: Number) -> Wallet {
+    const DOWN: Number = 10;
+    const DEEP: Number = 30;
+    let contains = |name: Number, next: Number| [OWNER, name, 2, OWNER, next, 0];
     let mut credentials = vec![
         [OWNER, GOAL, 4, 1, 0, 0],
         contains(SHARED, DEEP),
@@ -179,7 +180,7 @@ fn by_depth(levels: u16) -> Wallet {
 
 /// A role whose members another one links: the member, who is in the middle's left
 /// role.
-fn linked(role: u16, by: u16) -> [CredentialRecord; 2] {
+fn linked(role: Number, by: Number) -> [CredentialRecord; 2] {
     [
         [OWNER, role, 3, by, LEFT, 0],
         [MIDDLE, LEFT, 1, MEMBER, 0, 0],

@@ -4,6 +4,7 @@
 use reference::generate::shapes::{self, from_records as wallet, Way, GOAL, MEMBER};
 use reference::generate::wallets::Wallet;
 use reference::records::Head;
+use reference::Number;
 
 use super::parts::{add_busy, add_tree, Tree};
 use crate::families::Named;
@@ -30,21 +31,21 @@ pub fn tables() -> Vec<Named> {
 
 /// So many credentials, each but the last of which contains the next one's
 /// role. A line of one is a membership.
-fn line(credentials: u16) -> Named {
+fn line(credentials: Number) -> Named {
     let what = format!("line of {credentials}");
     (what, shapes::ways(&[credentials], Way::Line))
 }
 
 /// A ladder on which there is nobody else to be tried as a middle than the one
 /// who leads on.
-fn ladder(rungs: u16) -> Named {
+fn ladder(rungs: Number) -> Named {
     let what = format!("ladder of {rungs} of kind 3, people 1");
     (what, shapes::rungs(rungs, 1))
 }
 
 /// A role on each of so many levels, of which each but the last is a chain of so
 /// many times the next.
-fn chains(times: usize, levels: u16) -> Named {
+fn chains(times: usize, levels: Number) -> Named {
     let what = format!("chains of one role {times} times, levels {levels}");
     let tree = Tree {
         levels,
@@ -56,7 +57,7 @@ fn chains(times: usize, levels: u16) -> Named {
 
 /// The goal, and two roles on each level below it; all but the last level's are
 /// chains of the next level's two roles, each named twice.
-fn twice(levels: u16) -> Named {
+fn twice(levels: Number) -> Named {
     let what = format!("chains of two roles twice, levels {levels}");
     let tree = Tree {
         levels,

@@ -2,7 +2,7 @@
 
 use std::time::Duration;
 
-use bwlchareg::Refusal;
+use bwlchareg::{Number, Refusal};
 
 use crate::listing::Listing;
 use crate::timing::in_turns;
@@ -15,7 +15,7 @@ pub const CELLS: usize = 1 << 18;
 pub struct Written {
     listing: Listing,
     set: u32,
-    record: Vec<u16>,
+    record: Vec<Number>,
 }
 
 impl Written {
@@ -28,7 +28,7 @@ impl Written {
     }
 
     /// The record of a set of the list. Only what is right is worth timing.
-    pub fn new(listing: &Listing, set: u32, cells: &mut [u16]) -> Written {
+    pub fn new(listing: &Listing, set: u32, cells: &mut [Number]) -> Written {
         let length = listing.write(set, cells).expect("a record that fits");
         let record = cells[..length].to_vec();
         assert_eq!(
@@ -49,12 +49,12 @@ impl Written {
     }
 
     /// As many cells as the record has.
-    pub fn cells(&self) -> Vec<u16> {
+    pub fn cells(&self) -> Vec<Number> {
         self.record.clone()
     }
 
     /// Writes the record again.
-    pub fn write(&self, cells: &mut [u16]) -> Result<usize, Refusal> {
+    pub fn write(&self, cells: &mut [Number]) -> Result<usize, Refusal> {
         self.listing.write(self.set, cells)
     }
 

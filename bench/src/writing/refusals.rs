@@ -1,7 +1,7 @@
 //! Times the two refusals of writing: 15, the set is not on the list, and 16,
 //! the buffer is shorter than the record.
 
-use bwlchareg::Refusal;
+use bwlchareg::{Number, Refusal};
 
 use super::wallets::{self, grown};
 use super::{spread, ROUND};
@@ -59,7 +59,7 @@ fn longer(listing: &Listing, cells: usize) -> f64 {
 
 /// The number with which writing is refused, or the length of the record if it
 /// is not.
-fn refusal(listing: &Listing, set: u32, cells: &mut [u16]) -> Result<u32, usize> {
+fn refusal(listing: &Listing, set: u32, cells: &mut [Number]) -> Result<u32, usize> {
     match listing.write(set, cells) {
         Err(refusal) => Ok(refusal.number),
         Ok(length) => Err(length),
@@ -68,7 +68,7 @@ fn refusal(listing: &Listing, set: u32, cells: &mut [u16]) -> Result<u32, usize>
 
 /// A set that is not on a list, of a wallet with so many credentials, if there is
 /// one of this sort.
-type Unlisted = fn(u16, &[u32]) -> Option<u32>;
+type Unlisted = fn(Number, &[u32]) -> Option<u32>;
 
 /// The sorts of sets that are timed.
 const UNLISTED: [(&str, Unlisted); 6] = [

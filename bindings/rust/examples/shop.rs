@@ -6,11 +6,12 @@
 use std::fmt::Debug;
 
 use bwlchareg::{
-    check, check_query, first_record, layout, minimal_sets, upgraded, verify, Query, Refusal,
+    check, check_query, first_record, layout, minimal_sets, upgraded, verify, Number, Query,
+    Refusal,
 };
 
 /// Principals Shop 1, School 2, Ann 4; names discount 1, student 2, accredited 3.
-const T: [u16; 28] = [
+const T: [Number; 28] = [
     4, 0, 0, 0, // four credentials, no part cells, no automata, no edges
     1, 1, 3, 3, 2, 0, // Shop.discount <- Shop.accredited.student
     1, 3, 1, 2, 0, 0, // Shop.accredited <- School
@@ -20,7 +21,7 @@ const T: [u16; 28] = [
 
 /// Table T with an automaton that rejects every word that begins with
 /// Shop.discount, attached to credential 3.
-const U: [u16; 43] = [
+const U: [Number; 43] = [
     4, 0, 1, 2, //
     1, 1, 3, 3, 2, 0, //
     1, 3, 1, 2, 0, 0, //
@@ -41,7 +42,7 @@ const Q: Query = Query {
 
 /// Ann is in Shop.discount by credential 1, since School, the middle, is in
 /// Shop.accredited by credential 2 and Ann in School.student by credential 3.
-const R: [u16; 6] = [1, 2, 2, 0, 3, 0];
+const R: [Number; 6] = [1, 2, 2, 0, 3, 0];
 
 /// The most numbers that a record is to have here.
 const MOST: usize = 1_000;

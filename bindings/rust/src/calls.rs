@@ -2,7 +2,7 @@
 
 #[cfg(doc)]
 use crate::Reason;
-use crate::{ffi, Query, Refusal};
+use crate::{ffi, Number, Query, Refusal};
 
 /// Checks a table of credentials, which [`layout`](crate::layout) describes.
 ///
@@ -37,7 +37,7 @@ use crate::{ffi, Query, Refusal};
 /// let refusal = check(&table[..15]).unwrap_err();
 /// assert_eq!(refusal.reason(), Some(Reason::WrongLength));
 /// ```
-pub fn check(table: &[u16]) -> Result<(), Refusal> {
+pub fn check(table: &[Number]) -> Result<(), Refusal> {
     ffi::check(table).told()
 }
 
@@ -67,7 +67,7 @@ pub fn check(table: &[u16]) -> Result<(), Refusal> {
 /// assert_eq!(refusal.reason(), Some(Reason::Query));
 /// assert_eq!(refusal.position, 3);
 /// ```
-pub fn check_query(table: &[u16], query: Query) -> Result<(), Refusal> {
+pub fn check_query(table: &[Number], query: Query) -> Result<(), Refusal> {
     ffi::check_query(table, query).told()
 }
 
@@ -115,7 +115,7 @@ pub fn check_query(table: &[u16], query: Query) -> Result<(), Refusal> {
 /// assert_eq!(refusal.position, 2);
 /// # Ok::<(), bwlchareg::Refusal>(())
 /// ```
-pub fn verify(table: &[u16], query: Query, record: &[u16]) -> Result<u32, Refusal> {
+pub fn verify(table: &[Number], query: Query, record: &[Number]) -> Result<u32, Refusal> {
     ffi::verify(table, query, record).used_set()
 }
 
@@ -154,7 +154,7 @@ pub fn verify(table: &[u16], query: Query, record: &[u16]) -> Result<u32, Refusa
 /// let refusal = list(&table, query, &mut cells[..1]).unwrap_err();
 /// assert_eq!(refusal.reason(), Some(Reason::LongerList));
 /// ```
-pub fn list(table: &[u16], query: Query, cells: &mut [u32]) -> Result<usize, Refusal> {
+pub fn list(table: &[Number], query: Query, cells: &mut [u32]) -> Result<usize, Refusal> {
     ffi::list(table, query, cells).count(cells.len())
 }
 
@@ -198,6 +198,11 @@ pub fn list(table: &[u16], query: Query, cells: &mut [u32]) -> Result<usize, Ref
 /// let refusal = write(&table, query, 0b111, &mut cells).unwrap_err();
 /// assert_eq!(refusal.reason(), Some(Reason::NotListed));
 /// ```
-pub fn write(table: &[u16], query: Query, set: u32, record: &mut [u16]) -> Result<usize, Refusal> {
+pub fn write(
+    table: &[Number],
+    query: Query,
+    set: u32,
+    record: &mut [Number],
+) -> Result<usize, Refusal> {
     ffi::write(table, query, set, record).count(record.len())
 }

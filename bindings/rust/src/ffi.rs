@@ -4,56 +4,56 @@
 #![allow(unsafe_code)]
 
 use crate::answer::Answer;
-use crate::Query;
+use crate::{Number, Query};
 
 extern "C" {
     fn bwlchareg_version() -> u32;
 
-    fn bwlchareg_check(table: *const u16, length: usize, position: *mut u64) -> u32;
+    fn bwlchareg_check(table: *const Number, length: usize, position: *mut u64) -> u32;
 
     fn bwlchareg_check_query(
-        table: *const u16,
+        table: *const Number,
         length: usize,
-        principal: u16,
-        owner: u16,
-        name: u16,
-        depth: u16,
+        principal: Number,
+        owner: Number,
+        name: Number,
+        depth: Number,
         position: *mut u64,
     ) -> u32;
 
     fn bwlchareg_verify(
-        table: *const u16,
+        table: *const Number,
         table_length: usize,
-        principal: u16,
-        owner: u16,
-        name: u16,
-        depth: u16,
-        record: *const u16,
+        principal: Number,
+        owner: Number,
+        name: Number,
+        depth: Number,
+        record: *const Number,
         record_length: usize,
         value: *mut u64,
     ) -> u32;
 
     fn bwlchareg_list(
-        table: *const u16,
+        table: *const Number,
         table_length: usize,
-        principal: u16,
-        owner: u16,
-        name: u16,
-        depth: u16,
+        principal: Number,
+        owner: Number,
+        name: Number,
+        depth: Number,
         sets: *mut u32,
         sets_length: usize,
         value: *mut u64,
     ) -> u32;
 
     fn bwlchareg_write(
-        table: *const u16,
+        table: *const Number,
         table_length: usize,
-        principal: u16,
-        owner: u16,
-        name: u16,
-        depth: u16,
+        principal: Number,
+        owner: Number,
+        name: Number,
+        depth: Number,
         set: u32,
-        record: *mut u16,
+        record: *mut Number,
         record_length: usize,
         value: *mut u64,
     ) -> u32;
@@ -64,14 +64,14 @@ pub fn version() -> u32 {
     unsafe { bwlchareg_version() }
 }
 
-pub fn check(table: &[u16]) -> Answer {
+pub fn check(table: &[Number]) -> Answer {
     // SAFETY: pointer and length come from one borrowed slice, which the
     // library only reads, and only during the call; the last parameter is a
     // variable of `Answer::of` that nothing else refers to.
     Answer::of(|position| unsafe { bwlchareg_check(table.as_ptr(), table.len(), position) })
 }
 
-pub fn check_query(table: &[u16], query: Query) -> Answer {
+pub fn check_query(table: &[Number], query: Query) -> Answer {
     // SAFETY: as for `check`; the query is passed by value.
     Answer::of(|position| unsafe {
         bwlchareg_check_query(
@@ -86,7 +86,7 @@ pub fn check_query(table: &[u16], query: Query) -> Answer {
     })
 }
 
-pub fn verify(table: &[u16], query: Query, record: &[u16]) -> Answer {
+pub fn verify(table: &[Number], query: Query, record: &[Number]) -> Answer {
     // SAFETY: as for `check_query`; the record is a second borrowed slice,
     // which the library only reads, and only during the call.
     Answer::of(|value| unsafe {
@@ -104,7 +104,7 @@ pub fn verify(table: &[u16], query: Query, record: &[u16]) -> Answer {
     })
 }
 
-pub fn list(table: &[u16], query: Query, cells: &mut [u32]) -> Answer {
+pub fn list(table: &[Number], query: Query, cells: &mut [u32]) -> Answer {
     // SAFETY: as for `check_query`; the cells are a slice that is borrowed for
     // this call alone, of which the library writes no more than its length.
     Answer::of(|value| unsafe {
@@ -122,7 +122,7 @@ pub fn list(table: &[u16], query: Query, cells: &mut [u32]) -> Answer {
     })
 }
 
-pub fn write(table: &[u16], query: Query, set: u32, record: &mut [u16]) -> Answer {
+pub fn write(table: &[Number], query: Query, set: u32, record: &mut [Number]) -> Answer {
     // SAFETY: as for `list`; the set is passed by value.
     Answer::of(|value| unsafe {
         bwlchareg_write(

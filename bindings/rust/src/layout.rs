@@ -20,6 +20,8 @@
 
 use core::ops::Range;
 
+use crate::Number;
+
 /// Numbers of the head, one for each sort of record.
 pub const HEAD: usize = 4;
 /// Numbers of a credential.
@@ -34,9 +36,9 @@ pub const EDGE: usize = 6;
 pub const NODE: usize = 2;
 
 /// The mark of an automaton that must accept every word of a record.
-pub const EVERY_WORD: u16 = 0;
+pub const EVERY_WORD: Number = 0;
 /// The mark of an automaton that must accept at least one word of a record.
-pub const SOME_WORD: u16 = 1;
+pub const SOME_WORD: Number = 1;
 
 /// The greatest counts that a head may have, in its order.
 pub const LIMITS: [usize; HEAD] = [20, 63, 8, 128];
@@ -50,43 +52,43 @@ const SIZES: [usize; HEAD] = [CREDENTIAL, CELL, AUTOMATON, EDGE];
 
 /// The head's counts: credentials, part cells, automata, edges. What a slice is
 /// too short for counts as 0.
-pub fn counts(table: &[u16]) -> [usize; HEAD] {
-    core::array::from_fn(|sort| table.get(sort).map_or(0, |&count| count.into()))
+pub fn counts(table: &[Number]) -> [usize; HEAD] {
+    core::array::from_fn(|sort| table.get(sort).map_or(0, |&count| count as usize))
 }
 
 /// How long the table must be by its head.
-pub fn length(table: &[u16]) -> usize {
+pub fn length(table: &[Number]) -> usize {
     base(table, HEAD)
 }
 
 /// Where the numbers of a credential lie, if the table is as long as its head
 /// says. Records count from 1, here and in the functions below.
-pub fn credential(table: &[u16], number: usize) -> Range<usize> {
+pub fn credential(table: &[Number], number: usize) -> Range<usize> {
     record(table, 0, number)
 }
 
 /// Where the numbers of a part cell lie.
-pub fn cell(table: &[u16], number: usize) -> Range<usize> {
+pub fn cell(table: &[Number], number: usize) -> Range<usize> {
     record(table, 1, number)
 }
 
 /// Where the numbers of an automaton lie.
-pub fn automaton(table: &[u16], number: usize) -> Range<usize> {
+pub fn automaton(table: &[Number], number: usize) -> Range<usize> {
     record(table, 2, number)
 }
 
 /// Where the numbers of an edge lie.
-pub fn edge(table: &[u16], number: usize) -> Range<usize> {
+pub fn edge(table: &[Number], number: usize) -> Range<usize> {
     record(table, 3, number)
 }
 
 /// Where the first record of a sort lies, or would.
-fn base(table: &[u16], sort: usize) -> usize {
+fn base(table: &[Number], sort: usize) -> usize {
     let before = counts(table).into_iter().zip(SIZES).take(sort);
     HEAD + before.map(|(count, size)| count * size).sum::<usize>()
 }
 
-fn record(table: &[u16], sort: usize, number: usize) -> Range<usize> {
+fn record(table: &[Number], sort: usize, number: usize) -> Range<usize> {
     let end = base(table, sort) + SIZES[sort] * number;
     end - SIZES[sort]..end
 }

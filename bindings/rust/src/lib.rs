@@ -12,10 +12,10 @@
 //! | [`first_record`], or [`write()`] into lent cells | which record does the holder show for a minimal set? |
 //! | [`verify`] | is this record a proof of it that keeps to every constraint it uses? |
 //!
-//! Everything is given as numbers; [`layout`] says what each of them means and
-//! where it lies. [`upgraded`] converts a table from before automata had marks.
-//! Every call takes any slices and any query. What is not accepted is answered
-//! with a [`Refusal`], which has a [`Reason`] and a position.
+//! Everything is given as numbers, each a [`Number`]; [`layout`] says what they
+//! mean and where they lie. [`upgraded`] converts a table from before automata
+//! had marks. Every call takes any slices and any query. What is not accepted is
+//! answered with a [`Refusal`], which has a [`Reason`] and a position.
 //!
 //! ```
 //! use bwlchareg::{first_record, minimal_sets, verify, Query};
@@ -104,3 +104,6 @@ pub use upgrade::upgraded;
 #[cfg(feature = "alloc")]
 pub use vectors::{first_record, minimal_sets};
 pub use version::{version, VERSION};
+
+/// A number of a table, a query or a record.
+pub type Number = u16;

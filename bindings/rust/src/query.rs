@@ -1,5 +1,7 @@
 //! Queries.
 
+use crate::Number;
+
 /// What is asked of a table: is the principal in the role `owner.name`, by a
 /// derivation of at most `depth` levels?
 ///
@@ -21,11 +23,11 @@
 #[derive(Clone, Copy, Debug, PartialEq, Eq, Hash)]
 pub struct Query {
     /// The principal, 1 to 64.
-    pub principal: u16,
+    pub principal: Number,
     /// The principal who owns the role, 1 to 64.
-    pub owner: u16,
+    pub owner: Number,
     /// The role's name, 1 to 64.
-    pub name: u16,
+    pub name: Number,
     /// The depth limit, 1 to 16. The goal itself is at level 1.
-    pub depth: u16,
+    pub depth: Number,
 }

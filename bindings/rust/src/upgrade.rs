@@ -3,7 +3,7 @@
 use alloc::vec::Vec;
 
 use crate::layout::{self, AUTOMATON, EVERY_WORD, HEAD, LIMITS};
-use crate::{Reason, Refusal};
+use crate::{Number, Reason, Refusal};
 
 /// Numbers of an automaton in the base layout: its two sets of states.
 const BASE_AUTOMATON: usize = AUTOMATON - 1;
@@ -41,7 +41,7 @@ const BASE_AUTOMATON: usize = AUTOMATON - 1;
 /// assert_eq!(refusal.reason(), Some(Reason::WrongLength));
 /// # Ok::<(), bwlchareg::Refusal>(())
 /// ```
-pub fn upgraded(table: &[u16]) -> Result<Vec<u16>, Refusal> {
+pub fn upgraded(table: &[Number]) -> Result<Vec<Number>, Refusal> {
     let refused = |reason: Reason| Refusal {
         number: reason.number(),
         position: 0,
@@ -61,7 +61,7 @@ pub fn upgraded(table: &[u16]) -> Result<Vec<u16>, Refusal> {
     let (before, rest) = table.split_at(layout::automaton(table, 1).start);
     let (sets, edges) = rest.split_at(BASE_AUTOMATON * automata);
     let marked = sets.chunks_exact(BASE_AUTOMATON);
-    let marked: Vec<u16> = marked
+    let marked: Vec<Number> = marked
         .flat_map(|own| [own[0], own[1], EVERY_WORD])
         .collect();
     Ok([before, &marked, edges].concat())
@@ -70,10 +70,10 @@ pub fn upgraded(table: &[u16]) -> Result<Vec<u16>, Refusal> {
 #[cfg(test)]
 mod tests {
     use super::upgraded;
-    use crate::{layout, Refusal};
+    use crate::{layout, Number, Refusal};
     use std::vec::Vec;
 
-    fn refused(number: u32) -> Result<Vec<u16>, Refusal> {
+    fn refused(number: u32) -> Result<Vec<Number>, Refusal> {
         Err(Refusal {
             number,
             position: 0,
@@ -81,7 +81,7 @@ mod tests {
     }
 
     /// Numbers that are all different, after a head.
-    fn distinct(head: [u16; 4], length: usize) -> Vec<u16> {
+    fn distinct(head: [Number; 4], length: usize) -> Vec<Number> {
         let rest = (1000..).take(length - head.len());
         head.into_iter().chain(rest).collect()
     }
@@ -89,7 +89,7 @@ mod tests {
     #[test]
     fn a_mark_of_0_is_put_after_each_automaton_and_nothing_else_moves() {
         for head in [[0, 0, 1, 0], [2, 3, 3, 2], [20, 63, 8, 128], [1, 0, 8, 0]] {
-            let [n, q, a, e] = head.map(usize::from);
+            let [n, q, a, e] = head.map(|count| count as usize);
             let base = distinct(head, 4 + 6 * n + 3 * q + 2 * a + 6 * e);
             let table = upgraded(&base).expect("the base layout");
             assert_eq!(table.len(), layout::length(&table));
@@ -116,7 +116,7 @@ mod tests {
             assert_eq!(upgraded(short), refused(1));
         }
         for head in [[21, 0, 0, 0], [0, 64, 0, 0], [0, 0, 9, 0], [0, 0, 0, 129]] {
-            let [n, q, a, e] = head.map(usize::from);
+            let [n, q, a, e] = head.map(|count| count as usize);
             let length = 4 + 6 * n + 3 * q + 2 * a + 6 * e;
             for length in [4, length] {
                 assert_eq!(upgraded(&distinct(head, length)), refused(2));
@@ -132,7 +132,7 @@ mod tests {
 
     #[test]
     fn the_counts_may_be_any_numbers() {
-        assert_eq!(upgraded(&[u16::MAX; 4]), refused(2));
-        assert_eq!(upgraded(&[u16::MAX; 2000]), refused(2));
+        assert_eq!(upgraded(&[Number::MAX; 4]), refused(2));
+        assert_eq!(upgraded(&[Number::MAX; 2000]), refused(2));
     }
 }

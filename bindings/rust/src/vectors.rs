@@ -4,7 +4,7 @@ use alloc::vec;
 use alloc::vec::Vec;
 
 use crate::layout::MAX_SETS;
-use crate::{list, write, Query, Reason, Refusal};
+use crate::{list, write, Number, Query, Reason, Refusal};
 
 /// How many cells a call is lent first, and how many times as many after each
 /// refusal. The search begins anew every time, so there should be few of them.
@@ -41,7 +41,7 @@ const GROWTH: usize = 16;
 /// assert_eq!(refusal.reason(), Some(Reason::NoMinimalSet));
 /// # Ok::<(), bwlchareg::Refusal>(())
 /// ```
-pub fn minimal_sets(table: &[u16], query: Query) -> Result<Vec<u32>, Refusal> {
+pub fn minimal_sets(table: &[Number], query: Query) -> Result<Vec<u32>, Refusal> {
     grown(MAX_SETS, Reason::LongerList, |cells| {
         list(table, query, cells)
     })
@@ -78,11 +78,11 @@ pub fn minimal_sets(table: &[u16], query: Query) -> Result<Vec<u32>, Refusal> {
 /// # Ok::<(), bwlchareg::Refusal>(())
 /// ```
 pub fn first_record(
-    table: &[u16],
+    table: &[Number],
     query: Query,
     set: u32,
     most: usize,
-) -> Result<Vec<u16>, Refusal> {
+) -> Result<Vec<Number>, Refusal> {
     grown(most, Reason::LongerRecord, |cells| {
         write(table, query, set, cells)
     })
@@ -114,7 +114,7 @@ fn grown<Cell: Clone + Default>(
 #[cfg(test)]
 mod tests {
     use super::grown;
-    use crate::{Reason, Refusal};
+    use crate::{Number, Reason, Refusal};
     use std::vec::Vec;
 
     const TOO_FEW: Reason = Reason::LongerRecord;
@@ -127,7 +127,7 @@ mod tests {
     /// that it was lent each time.
     fn answered(numbers: usize, most: usize) -> (Result<usize, Refusal>, Vec<usize>) {
         let mut lent = Vec::new();
-        let answer = grown(most, TOO_FEW, |cells: &mut [u16]| {
+        let answer = grown(most, TOO_FEW, |cells: &mut [Number]| {
             lent.push(cells.len());
             match numbers <= cells.len() {
                 true => Ok(numbers),
@@ -157,7 +157,7 @@ mod tests {
             position: 0,
         };
         let mut calls = 0;
-        let answer = grown(5000, TOO_FEW, |_: &mut [u16]| {
+        let answer = grown(5000, TOO_FEW, |_: &mut [Number]| {
             calls += 1;
             Err(other)
         });

@@ -8,8 +8,8 @@ mod drawn;
 use std::ops::Range;
 
 use bwlchareg::{
-    check, check_query, first_record, layout, list, minimal_sets, verify, write, Query, Reason,
-    Refusal,
+    check, check_query, first_record, layout, list, minimal_sets, verify, write, Number, Query,
+    Reason, Refusal,
 };
 use drawn::{Random, LONGEST};
 
@@ -19,9 +19,9 @@ const CASES: usize = 30_000;
 /// What is given to the calls: a table, a query, a record, a set, and how many
 /// cells there are for sets and for the numbers of a record.
 struct Input {
-    table: Vec<u16>,
+    table: Vec<Number>,
     query: Query,
-    record: Vec<u16>,
+    record: Vec<Number>,
     set: u32,
     cells: usize,
     room: usize,
@@ -36,7 +36,7 @@ struct Answers {
     list: Result<usize, Refusal>,
     cells: Vec<u32>,
     write: Result<usize, Refusal>,
-    written: Vec<u16>,
+    written: Vec<Number>,
 }
 
 fn drawn_input(random: &mut Random) -> Input {
@@ -53,10 +53,10 @@ fn drawn_input(random: &mut Random) -> Input {
 }
 
 /// A set: one of the list most of the time, if there is one, or any number.
-fn drawn_set(random: &mut Random, table: &[u16], query: Query) -> u32 {
+fn drawn_set(random: &mut Random, table: &[Number], query: Query) -> u32 {
     let sets = drawn::listed(table, query);
     match random.up_to(8) {
-        0 => u32::from(random.between(0, u16::MAX)) << random.up_to(16),
+        0 => u32::from(random.between(0, Number::MAX)) << random.up_to(16),
         1 | 2 => random.between(0, 255).into(),
         _ if sets.is_empty() => 0,
         _ => sets[random.up_to(sets.len() - 1)],
@@ -70,15 +70,15 @@ fn before(cell: usize) -> u32 {
 
 /// What a cell holds before a writing: no credential and no middle, and
 /// different in each cell.
-fn unwritten(cell: usize) -> u16 {
-    0xC000 + cell as u16
+fn unwritten(cell: usize) -> Number {
+    0xC000 + cell as Number
 }
 
 /// The answers to the slices as they are.
 fn answers(input: &Input) -> Answers {
     let mut cells: Vec<u32> = (0..input.cells).map(before).collect();
     let list = list(&input.table, input.query, &mut cells);
-    let mut written: Vec<u16> = (0..input.room).map(unwritten).collect();
+    let mut written: Vec<Number> = (0..input.room).map(unwritten).collect();
     let write = write(&input.table, input.query, input.set, &mut written);
     Answers {
         check: check(&input.table),
@@ -151,16 +151,16 @@ impl<Cell: Copy + PartialEq> Guarded<Cell> {
 }
 
 /// A slice with numbers before and after it, and where it begins.
-fn surrounded(slice: &[u16], random: &mut Random) -> (Vec<u16>, usize) {
+fn surrounded(slice: &[Number], random: &mut Random) -> (Vec<Number>, usize) {
     let front = random.up_to(5);
-    let mut larger: Vec<u16> = (0..front).map(|_| random.between(0, 5)).collect();
+    let mut larger: Vec<Number> = (0..front).map(|_| random.between(0, 5)).collect();
     larger.extend(slice);
     larger.extend((0..8).map(|_| random.between(0, 5)));
     (larger, front)
 }
 
 /// Whether docs/DEFINITION.md allows this position for a refusal of this number.
-fn is_place(refusal: Refusal, table: &[u16], nodes: usize) -> bool {
+fn is_place(refusal: Refusal, table: &[Number], nodes: usize) -> bool {
     let [credentials, cells, automata, edges] = layout::counts(table);
     let most = match refusal.number {
         1..=3 | 9 | 10 | 15 | 16 => return refusal.position == 0,
@@ -177,7 +177,7 @@ fn is_place(refusal: Refusal, table: &[u16], nodes: usize) -> bool {
 }
 
 /// The refusals of rows 1 to 3, by the head and the length alone.
-fn head_refusal(table: &[u16]) -> Option<u32> {
+fn head_refusal(table: &[Number]) -> Option<u32> {
     if table.len() < layout::HEAD {
         return Some(1);
     }
@@ -229,7 +229,7 @@ fn number<Value>(answer: Result<Value, Refusal>) -> u32 {
 }
 
 /// A verdict on a record, with an accepted table and a valid query.
-fn judge_verdict(verdict: Result<u32, Refusal>, table: &[u16], nodes: usize) {
+fn judge_verdict(verdict: Result<u32, Refusal>, table: &[Number], nodes: usize) {
     match verdict {
         Ok(used) => {
             assert!(used != 0 && used < 1 << layout::counts(table)[0]);
@@ -271,7 +271,7 @@ fn judge_written(answers: &Answers) {
 
 /// The cells after a listing: ascending sets, none a part of another, and
 /// beyond them what was there before.
-fn judge_cells(answers: &Answers, table: &[u16]) {
+fn judge_cells(answers: &Answers, table: &[Number]) {
     let written = match answers.list {
         Ok(count) => count,
         Err(refusal) if refusal.number == Refusal::LONGER => answers.cells.len(),
@@ -373,7 +373,7 @@ fn every_length_of_plain_slices_is_answered() {
     let query = drawn::query(&mut Random::new(SEED), &[]);
     let lengths = (0..=40).chain([1_105, 1_106, 65_535, 65_536, 65_537, LONGEST]);
     for length in lengths {
-        for filling in [0, 1, 20, u16::MAX] {
+        for filling in [0, 1, 20, Number::MAX] {
             let input = Input {
                 table: vec![filling; length],
                 query,
@@ -414,8 +414,8 @@ fn long_records_are_read_with_an_accepted_table() {
 
 /// Eight levels: whoever is four times in a role of one level is in the role of
 /// the level above. The record has every node there can be.
-fn full_tree() -> (Vec<u16>, Query, Vec<u16>) {
-    const LEVELS: u16 = 8;
+fn full_tree() -> (Vec<Number>, Query, Vec<Number>) {
+    const LEVELS: Number = 8;
     let mut table = vec![LEVELS, 4 * (LEVELS - 1), 0, 0];
     for level in 1..LEVELS {
         table.extend([1, level, 4, 4 * level - 3, 0, 0]);

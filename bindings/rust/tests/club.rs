@@ -1,10 +1,10 @@
 //! A club whose friends are the friends of its friends: a role that comes
 //! again on a branch, with another principal each time.
 
-use bwlchareg::{list, verify, write, Query, Refusal};
+use bwlchareg::{list, verify, write, Number, Query, Refusal};
 
 /// Club 1, Ann 2, Bob 3, Cleo 4; friend 1.
-const TABLE: [u16; 28] = [
+const TABLE: [Number; 28] = [
     4, 0, 0, 0, //
     1, 1, 3, 1, 1, 0, // 1: Club.friend <- Club.friend.friend
     1, 1, 1, 2, 0, 0, // 2: Club.friend <- Ann
@@ -21,7 +21,7 @@ const QUERY: Query = Query {
 };
 
 /// Cleo through Bob, and Bob through Ann.
-const RECORD: [u16; 10] = [1, 3, 1, 2, 2, 0, 3, 0, 4, 0];
+const RECORD: [Number; 10] = [1, 3, 1, 2, 2, 0, 3, 0, 4, 0];
 
 fn refused<Accepted>(number: u32, position: u64) -> Result<Accepted, Refusal> {
     Err(Refusal { number, position })
@@ -53,7 +53,7 @@ fn who_vouch_for_each_other_alone_are_no_friends() {
 }
 
 /// Principal 2 is a friend of the club, and each up to 17 one of the one before.
-fn row_of_friends() -> Vec<u16> {
+fn row_of_friends() -> Vec<Number> {
     let mut table = vec![17, 0, 0, 0, 1, 1, 3, 1, 1, 0, 1, 1, 1, 2, 0, 0];
     for friend in 3..=17 {
         table.extend([friend - 1, 1, 1, friend, 0, 0]);

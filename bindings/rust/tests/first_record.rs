@@ -5,7 +5,7 @@
 #[allow(dead_code)]
 mod drawn;
 
-use bwlchareg::{check_query, credentials, layout, verify, write, Query, Refusal};
+use bwlchareg::{check_query, credentials, layout, verify, write, Number, Query, Refusal};
 use drawn::crossing::{crossing, LAST_PRINCIPAL};
 use drawn::Random;
 
@@ -13,7 +13,7 @@ const SEED: u64 = 2026;
 
 /// The record of a set, in exactly as many cells as it needs. With fewer, down
 /// to none, it is refused and no cell changes.
-fn written(table: &[u16], query: Query, set: u32) -> Vec<u16> {
+fn written(table: &[Number], query: Query, set: u32) -> Vec<Number> {
     let mut cells = Vec::new();
     loop {
         let before = cells.clone();
@@ -27,7 +27,7 @@ fn written(table: &[u16], query: Query, set: u32) -> Vec<u16> {
                 assert_eq!(told, (Refusal::LONGER_RECORD, 0));
                 assert_eq!(cells, before);
                 // No credential and no middle is so great.
-                cells.push(0xC000 + cells.len() as u16);
+                cells.push(0xC000 + cells.len() as Number);
             }
         }
     }
@@ -35,7 +35,7 @@ fn written(table: &[u16], query: Query, set: u32) -> Vec<u16> {
 
 /// What may stand in a node of a drawn table's record, within a set, ascending.
 /// Drawn tables name no other principals as members.
-fn nodes(table: &[u16], set: u32) -> Vec<[u16; layout::NODE]> {
+fn nodes(table: &[Number], set: u32) -> Vec<[Number; layout::NODE]> {
     let mut nodes = Vec::new();
     for number in credentials(set) {
         let credential = &table[layout::credential(table, number as usize)];
@@ -43,7 +43,7 @@ fn nodes(table: &[u16], set: u32) -> Vec<[u16; layout::NODE]> {
             3 => 1..=LAST_PRINCIPAL,
             _ => 0..=0,
         };
-        nodes.extend(middles.map(|middle| [number as u16, middle]));
+        nodes.extend(middles.map(|middle| [number as Number, middle]));
     }
     nodes
 }
@@ -53,12 +53,12 @@ fn nodes(table: &[u16], set: u32) -> Vec<[u16; layout::NODE]> {
 /// alone: a beginning may go on exactly where its next node is told to be
 /// missing. There may be very many, so that no more than a few are looked for.
 fn accepted_records(
-    table: &[u16],
+    table: &[Number],
     query: Query,
-    nodes: &[[u16; layout::NODE]],
-    start: &[u16],
+    nodes: &[[Number; layout::NODE]],
+    start: &[Number],
     most: usize,
-) -> Vec<Vec<u16>> {
+) -> Vec<Vec<Number>> {
     let missing = (start.len() / layout::NODE) as u64 + 2;
     let mut found = Vec::new();
     for node in nodes {

@@ -3,14 +3,14 @@
 #[allow(dead_code)]
 mod drawn;
 
-use bwlchareg::{first_record, layout, minimal_sets, verify, Query, Refusal};
+use bwlchareg::{first_record, layout, minimal_sets, verify, Number, Query, Refusal};
 use drawn::Random;
 
 /// A role named twice in a chain, and two automata that each demand a word which
 /// goes another way: role 1.1 is 1.2 and 1.2, and 1.2 is 1.3 or 1.4. Automaton 1
 /// is attached to credential 1 and demands 1.3, automaton 2 to credential 4,
 /// which 1.3 uses, and demands 1.4.
-const TWICE: [u16; 82] = [
+const TWICE: [Number; 82] = [
     5, 2, 2, 6, //
     1, 1, 4, 1, 0, 1, //
     1, 2, 2, 1, 3, 0, //
@@ -42,7 +42,7 @@ fn refused<Accepted>(number: u32, position: u64) -> Result<Accepted, Refusal> {
 }
 
 /// The table with these marks.
-fn marked(table: &[u16], marks: &[u16]) -> Vec<u16> {
+fn marked(table: &[Number], marks: &[Number]) -> Vec<Number> {
     let mut table = table.to_vec();
     for (number, &mark) in (1..).zip(marks) {
         let place = layout::automaton(&table, number).end - 1;

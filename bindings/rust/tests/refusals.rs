@@ -3,10 +3,10 @@
 
 use std::fmt::Debug;
 
-use bwlchareg::{check, check_query, layout, list, verify, write, Query, Reason, Refusal};
+use bwlchareg::{check, check_query, layout, list, verify, write, Number, Query, Reason, Refusal};
 
 /// A table with a credential of each kind, an automaton and an edge.
-const TABLE: [u16; 49] = [
+const TABLE: [Number; 49] = [
     5, 2, 1, 1, //
     1, 1, 3, 3, 2, 0, // 1: whoever is in M.2, for some M in 1.3, is in 1.1
     1, 3, 1, 2, 0, 0, // 2: principal 2 is in 1.3
@@ -28,7 +28,7 @@ const QUERY: Query = Query {
 };
 
 /// A record that is accepted.
-const RECORD: [u16; 6] = [1, 2, 2, 0, 3, 0];
+const RECORD: [Number; 6] = [1, 2, 2, 0, 3, 0];
 
 /// Compares a refusal with its reason and position.
 #[track_caller]
@@ -39,7 +39,7 @@ fn told<Value: Debug>(answer: Result<Value, Refusal>, reason: Reason, position: 
 }
 
 /// The table with another number at a place.
-fn with(place: usize, number: u16) -> Vec<u16> {
+fn with(place: usize, number: Number) -> Vec<Number> {
     let mut table = TABLE.to_vec();
     table[place] = number;
     table
@@ -109,7 +109,7 @@ fn owners_and_names_of_edges() {
 fn marks() {
     let mark = layout::automaton(&TABLE, 1).end - 1;
     assert_eq!(check(&with(mark, layout::SOME_WORD)), Ok(()));
-    for number in [2, 3, u16::MAX] {
+    for number in [2, 3, Number::MAX] {
         let mut table = with(mark, number);
         told(check(&table), Reason::Mark, 1);
         // It is told before the query, the set and the record, by every call.
@@ -168,8 +168,8 @@ fn lists() {
 
 /// Asks for the record of a set, with so many cells; tells the answer, if it
 /// leaves every cell as it was.
-fn unwritten(table: &[u16], query: Query, set: u32, cells: usize) -> Result<usize, Refusal> {
-    let before: Vec<u16> = (0..cells).map(|cell| 0xC000 + cell as u16).collect();
+fn unwritten(table: &[Number], query: Query, set: u32, cells: usize) -> Result<usize, Refusal> {
+    let before: Vec<Number> = (0..cells).map(|cell| 0xC000 + cell as Number).collect();
     let mut after = before.clone();
     let answer = write(table, query, set, &mut after);
     assert_eq!(after, before);
@@ -239,7 +239,7 @@ fn records_that_end_too_soon_or_too_late() {
 fn nodes_that_do_not_fit_their_goals() {
     // Credentials that the table does not have, one that defines another role,
     // one that names another principal, and four middles.
-    let wrong: [&[u16]; 8] = [
+    let wrong: [&[Number]; 8] = [
         &[0, 0],
         &[6, 0],
         &[2, 0],

@@ -1,9 +1,9 @@
 //! The calls through the library, on the shop example of docs/DEFINITION.md, and
 //! what the cells hold afterwards.
 
-use bwlchareg::{list, verify, write, Query, Refusal};
+use bwlchareg::{list, verify, write, Number, Query, Refusal};
 
-const T: [u16; 28] = [
+const T: [Number; 28] = [
     4, 0, 0, 0, //
     1, 1, 3, 3, 2, 0, //
     1, 3, 1, 2, 0, 0, //
@@ -11,7 +11,7 @@ const T: [u16; 28] = [
     1, 1, 1, 4, 0, 0, //
 ];
 
-const U: [u16; 43] = [
+const U: [Number; 43] = [
     4, 0, 1, 2, //
     1, 1, 3, 3, 2, 0, //
     1, 3, 1, 2, 0, 0, //
@@ -22,7 +22,7 @@ const U: [u16; 43] = [
     1, 1, 2, 0, 0, 1, //
 ];
 
-const R: [u16; 6] = [1, 2, 2, 0, 3, 0];
+const R: [Number; 6] = [1, 2, 2, 0, 3, 0];
 
 const Q: Query = Query {
     principal: 4,
@@ -53,7 +53,7 @@ const BEFORE: u32 = u32::MAX;
 
 /// The answer with a buffer of `CELLS` cells, and the cells after the call.
 fn listed<const CELLS: usize>(
-    table: &[u16],
+    table: &[Number],
     query: Query,
 ) -> (Result<usize, Refusal>, [u32; CELLS]) {
     let mut cells = [BEFORE; CELLS];
@@ -88,14 +88,14 @@ fn a_refused_listing_leaves_the_cells_but_for_10() {
 }
 
 /// What a cell holds before a writing. No credential and no middle is so great.
-const UNWRITTEN: u16 = u16::MAX;
+const UNWRITTEN: Number = Number::MAX;
 
 /// The answer with room for `CELLS` numbers, and the cells after the call.
 fn written<const CELLS: usize>(
-    table: &[u16],
+    table: &[Number],
     query: Query,
     set: u32,
-) -> (Result<usize, Refusal>, [u16; CELLS]) {
+) -> (Result<usize, Refusal>, [Number; CELLS]) {
     let mut cells = [UNWRITTEN; CELLS];
     let answer = write(table, query, set, &mut cells);
     (answer, cells)

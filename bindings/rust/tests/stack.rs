@@ -5,7 +5,7 @@
 use std::thread;
 
 use bwlchareg::layout::{EVERY_WORD, SOME_WORD};
-use bwlchareg::{list, verify, write, Query, Refusal};
+use bwlchareg::{list, verify, write, Number, Query, Refusal};
 
 /// The stacks that the calls below must do with, in bytes; Rust gives a thread
 /// 2 MiB where nobody says otherwise.
@@ -26,15 +26,15 @@ const DEEP: Query = Query {
 };
 
 /// The table with these credentials and cells, and without automata.
-fn table(credentials: &[[u16; 6]], cells: &[[u16; 3]]) -> Vec<u16> {
-    let counts = [credentials.len() as u16, cells.len() as u16, 0, 0];
+fn table(credentials: &[[Number; 6]], cells: &[[Number; 3]]) -> Vec<Number> {
+    let counts = [credentials.len() as Number, cells.len() as Number, 0, 0];
     [&counts, &credentials.concat()[..], &cells.concat()].concat()
 }
 
 /// Roles 1.1 to 1.16, each but the last containing the next, and five equal
 /// credentials that put principal 1 into the last: twenty in all.
-fn deepest() -> Vec<u16> {
-    let mut credentials: Vec<[u16; 6]> = (1..16)
+fn deepest() -> Vec<Number> {
+    let mut credentials: Vec<[Number; 6]> = (1..16)
         .map(|level| [1, level, 2, 1, level + 1, 0])
         .collect();
     credentials.extend([[1, 16, 1, 1, 0, 0]; 5]);
@@ -43,11 +43,11 @@ fn deepest() -> Vec<u16> {
 
 /// The same with eight automata of a mark, on the first eight credentials, each
 /// of which accepts every word.
-fn constrained(mark: u16) -> Vec<u16> {
+fn constrained(mark: Number) -> Vec<Number> {
     let mut table = deepest();
     table[2..4].copy_from_slice(&[8, 8]);
     for automaton in 1..=8 {
-        table[6 * usize::from(automaton) + 3] = automaton;
+        table[6 * automaton as usize + 3] = automaton;
     }
     table.extend([1, 1, mark].repeat(8));
     table.extend((1..=8).flat_map(|automaton| [automaton, 0, 2, 0, 0, 0]));
@@ -56,23 +56,23 @@ fn constrained(mark: u16) -> Vec<u16> {
 
 /// Roles 1.1 to 1.16, each but the last a chain of four times the next, and
 /// five equal credentials that put principal 1 into the last.
-fn chained() -> Vec<u16> {
-    let mut credentials: Vec<[u16; 6]> = (1..16)
+fn chained() -> Vec<Number> {
+    let mut credentials: Vec<[Number; 6]> = (1..16)
         .map(|level| [1, level, 4, 4 * level - 3, 0, 0])
         .collect();
     credentials.extend([[1, 16, 1, 1, 0, 0]; 5]);
-    let chain = |level: u16| {
+    let chain = |level: Number| {
         let first = 4 * level - 3;
         [first + 1, first + 2, first + 3, 0].map(|next| [1, level + 1, next])
     };
-    let cells: Vec<[u16; 3]> = (1..16).flat_map(chain).collect();
+    let cells: Vec<[Number; 3]> = (1..16).flat_map(chain).collect();
     table(&credentials, &cells)
 }
 
 /// Roles 1.1 to 1.16, each but the last linked by the next to the next, and
 /// five equal credentials that put principal 1 into the last.
-fn linked() -> Vec<u16> {
-    let mut credentials: Vec<[u16; 6]> = (1..16)
+fn linked() -> Vec<Number> {
+    let mut credentials: Vec<[Number; 6]> = (1..16)
         .map(|level| [1, level, 3, level + 1, level + 1, 0])
         .collect();
     credentials.extend([[1, 16, 1, 1, 0, 0]; 5]);
@@ -81,7 +81,7 @@ fn linked() -> Vec<u16> {
 
 /// A ladder of kind 3: each of five principals owns two roles, each of which is
 /// linked to the other one's of the next two principals.
-fn ladder() -> Vec<u16> {
+fn ladder() -> Vec<Number> {
     let mut credentials = Vec::new();
     for principal in 1..=5 {
         let next = principal % 5 + 1;
@@ -96,7 +96,7 @@ fn ladder() -> Vec<u16> {
 }
 
 /// Four roles with 4, 5, 5 and 5 definers, and a chain of them for role 1.1.
-fn choices() -> Vec<u16> {
+fn choices() -> Vec<Number> {
     let mut credentials = Vec::new();
     for (name, definers) in [(2, 4), (3, 5), (4, 5), (5, 5)] {
         credentials.extend(vec![[1, name, 1, 1, 0, 0]; definers]);
@@ -107,11 +107,11 @@ fn choices() -> Vec<u16> {
 
 /// So many ways to role 1.1, each a line of so many credentials that no other
 /// way has.
-fn ways(ways: u16, each: u16) -> Vec<u16> {
+fn ways(ways: Number, each: Number) -> Vec<Number> {
     let mut credentials = Vec::new();
     for way in 0..ways {
         let mut role = 1;
-        for next in (way * (each - 1) + 2..).take(usize::from(each) - 1) {
+        for next in (way * (each - 1) + 2..).take(each as usize - 1) {
             credentials.push([1, role, 2, 1, next, 0]);
             role = next;
         }
@@ -131,14 +131,14 @@ fn in_a_stack_of<Answer: Send + 'static>(
 }
 
 /// What the listing call answers, and its cells.
-fn listed(table: &[u16]) -> (Result<usize, Refusal>, Vec<u32>) {
+fn listed(table: &[Number]) -> (Result<usize, Refusal>, Vec<u32>) {
     let mut cells = vec![0; CELLS];
     (list(table, DEEP, &mut cells), cells)
 }
 
 /// Tests that a list is the same with a small stack, and has so many sets.
 #[track_caller]
-fn needs_little_stack(table: Vec<u16>, sets: usize) {
+fn needs_little_stack(table: Vec<Number>, sets: usize) {
     let expected = listed(&table);
     assert_eq!(expected.0, Ok(sets));
     assert_eq!(in_a_stack_of(LISTING, move || listed(&table)), expected);
@@ -146,7 +146,7 @@ fn needs_little_stack(table: Vec<u16>, sets: usize) {
 
 #[test]
 fn a_record_of_sixteen_levels_needs_little_stack() {
-    let record: Vec<u16> = (1..=16).flat_map(|credential| [credential, 0]).collect();
+    let record: Vec<Number> = (1..=16).flat_map(|credential| [credential, 0]).collect();
     for table in [deepest(), constrained(EVERY_WORD), constrained(SOME_WORD)] {
         let record = record.clone();
         let verdict = in_a_stack_of(VERIFYING, move || verify(&table, DEEP, &record));
@@ -173,14 +173,14 @@ fn lists_of_many_ways_need_little_stack() {
 #[test]
 fn lists_of_ways_that_have_nothing_in_common_need_little_stack() {
     for (number, each) in [(20, 1), (10, 2), (6, 3), (5, 4)] {
-        needs_little_stack(ways(number, each), number.into());
+        needs_little_stack(ways(number, each), number as usize);
     }
 }
 
 /// Tests that the records of the listed sets are written with a small stack, so
 /// that the verifier accepts them; tells the longest.
 #[track_caller]
-fn writes_with_little_stack(table: Vec<u16>) -> usize {
+fn writes_with_little_stack(table: Vec<Number>) -> usize {
     let (count, sets) = listed(&table);
     let mut longest = 0;
     for set in sets.into_iter().take(count.expect("a list")) {

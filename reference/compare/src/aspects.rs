@@ -10,6 +10,7 @@ use reference::query::DEEPEST;
 use reference::records::Head;
 use reference::table::Table;
 use reference::words::Standing;
+use reference::Number;
 
 use crate::features::Uses;
 use crate::lists::patience;
@@ -23,7 +24,7 @@ const ROLES: usize = 16;
 #[derive(Clone, Copy, Debug, PartialEq, Eq, PartialOrd, Ord)]
 pub enum Aspect {
     /// A listed set has a credential of this kind.
-    Kind(u16),
+    Kind(Number),
     /// A listed set has a credential with an automaton.
     Automaton,
     /// A listed set has credentials with several automata.
@@ -138,7 +139,7 @@ fn roles(table: &Table) -> usize {
 
 /// Whether a table has as many edges as it may have.
 fn is_at_the_limit(table: &Table) -> bool {
-    table.edges.len() == usize::from(Head::LIMITS.edges)
+    table.edges.len() == Head::LIMITS.edges as usize
 }
 
 /// Whether an automaton is dead once it has read the goal's role.
@@ -197,12 +198,12 @@ impl Others {
 }
 
 /// The minimal sets of another table, with another depth limit.
-fn sets(listing: &Listing, table: &Table, depth: u16) -> Vec<u32> {
+fn sets(listing: &Listing, table: &Table, depth: Number) -> Vec<u32> {
     known_sets(listing, table, depth).unwrap_or_default()
 }
 
 /// The same, unless there is none by the limit, or it takes too long.
-fn known_sets(listing: &Listing, table: &Table, depth: u16) -> Option<Vec<u32>> {
+fn known_sets(listing: &Listing, table: &Table, depth: Number) -> Option<Vec<u32>> {
     let mut query = listing.query;
     query.depth = depth;
     let sets = minimal_sets_within(patience(), table, query.read().ok()?)?;
@@ -256,12 +257,13 @@ mod tests {
     use reference::generate::listings::{Listing, Source};
     use reference::listing::minimal_sets;
     use reference::table::Table;
+    use reference::Number;
 
     use super::Aspect;
     use crate::slips::Slip;
 
     /// The aspects of a full table with so many edges that have to do with that.
-    fn aspects(edges: u16) -> Vec<Aspect> {
+    fn aspects(edges: Number) -> Vec<Aspect> {
         let listing = Listing {
             table: full::records(edges).numbers(),
             query: full::ASKED,

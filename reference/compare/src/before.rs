@@ -128,7 +128,7 @@ impl Add for Before {
 pub fn minimal_sets(table: &Table, asked: Asked) -> Option<Vec<u32>> {
     let mut search = Search {
         table,
-        depth: usize::from(asked.depth),
+        depth: asked.depth as usize,
         middles: middles(table),
         done: HashMap::new(),
         patience: patience(),
@@ -218,13 +218,13 @@ impl Search<'_> {
 mod tests {
     use reference::query::Query;
     use reference::records::Records;
-    use reference::shop;
     use reference::table::Table;
+    use reference::{shop, Number};
 
     use super::minimal_sets;
 
     /// The old list.
-    fn old(table: &[u16], query: [u16; 4]) -> Vec<u32> {
+    fn old(table: &[Number], query: [Number; 4]) -> Vec<u32> {
         let table = Table::read(table).expect("an accepted table");
         let asked = Query::from_numbers(query).read().expect("a valid query");
         minimal_sets(&table, asked).expect("few steps")

@@ -4,6 +4,7 @@ use reference::derivation::{Derivation, NODE};
 use reference::query::Asked;
 use reference::sorts::Goal;
 use reference::table::Table;
+use reference::Number;
 
 /// A role that comes so often on a branch comes often.
 pub const OFTEN: usize = 6;
@@ -42,7 +43,7 @@ impl Again {
 
 /// The branch of a node of a record, from 1, both ends included. All nodes
 /// before it are right.
-pub fn branch(table: &Table, asked: Asked, record: &[u16], node: usize) -> Vec<Goal> {
+pub fn branch(table: &Table, asked: Asked, record: &[Number], node: usize) -> Vec<Goal> {
     let mut open = vec![vec![asked.goal]];
     for numbers in record.chunks_exact(NODE).take(node - 1) {
         let branch = open.pop().expect("a goal for every node");
@@ -61,6 +62,7 @@ mod tests {
     use reference::query::Query;
     use reference::records::Records;
     use reference::table::Table;
+    use reference::Number;
 
     use super::{branch, Again};
 
@@ -86,9 +88,9 @@ mod tests {
         let branches = [1, 2, 3, 4, 5].map(|node| branch(&club(), asked, &record, node));
         let people = branches.map(|goals| {
             let people = goals.iter().map(|goal| goal.principal.number());
-            people.collect::<Vec<u16>>()
+            people.collect::<Vec<Number>>()
         });
-        let expected: [Vec<u16>; 5] = [
+        let expected: [Vec<Number>; 5] = [
             vec![6],
             vec![6, 5],
             vec![6, 5, 4],

@@ -132,6 +132,7 @@ impl fmt::Display for Size {
 #[cfg(test)]
 mod tests {
     use super::Row;
+    use reference::Number;
 
     /// Whether no two of some cells hold the same, and none less than this.
     fn differ(mut cells: Vec<u32>, least: u32) -> bool {
@@ -144,7 +145,7 @@ mod tests {
     #[test]
     fn cells_differ_from_each_other_and_from_what_is_written() {
         assert!(differ(Row::<u32>::new(4_096).cells, 1 << 20));
-        let numbers = Row::<u16>::new(32_768 - 4).cells;
+        let numbers = Row::<Number>::new(32_768 - 4).cells;
         assert!(differ(numbers.into_iter().map(u32::from).collect(), 65));
     }
 

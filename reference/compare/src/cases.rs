@@ -5,13 +5,13 @@ use reference::generate::{noise, queries, valid, Place};
 use reference::query::Query;
 use reference::random::Random;
 use reference::records::{Head, Records};
-use reference::shop;
+use reference::{shop, Number};
 
 /// A table with a query, and where they were damaged: a place is there only
 /// if nothing else is wrong with the table, or with the query.
 pub struct Case {
     /// The table's numbers.
-    pub table: Vec<u16>,
+    pub table: Vec<Number>,
     /// Where the table was damaged.
     pub place: Option<Place>,
     /// The query.
@@ -22,7 +22,7 @@ pub struct Case {
 
 impl Case {
     /// A table with the shop's query.
-    fn with_shop_query(table: Vec<u16>, place: Option<Place>) -> Case {
+    fn with_shop_query(table: Vec<Number>, place: Option<Place>) -> Case {
         Case {
             table,
             place,
@@ -72,7 +72,7 @@ fn from_damaged(damaged: Damaged) -> Case {
 }
 
 /// Hands over a table with every damaged form of the shop's query.
-fn fixed_queries(table: &[u16], judge: &mut impl FnMut(Case)) {
+fn fixed_queries(table: &[Number], judge: &mut impl FnMut(Case)) {
     for (query, place) in queries::every_field(shop::Q) {
         judge(Case {
             table: table.to_vec(),
@@ -96,7 +96,7 @@ pub fn made_up(random: &mut Random) -> Case {
 }
 
 /// A table made up at random, and where it was damaged if at one place only.
-fn made_up_table(random: &mut Random) -> (Vec<u16>, Option<Place>) {
+fn made_up_table(random: &mut Random) -> (Vec<Number>, Option<Place>) {
     let head = valid::head(random);
     let records = valid::records(random, head);
     let damaged = match random.below(16) {

@@ -9,7 +9,7 @@ use reference::generate::wrongs::Wrong;
 use reference::generate::{every, full, policies, wide};
 use reference::random::Random;
 use reference::records::Head;
-use reference::shop;
+use reference::{shop, Number};
 
 /// So many small records are spoiled number by number.
 const BASES: usize = 60;
@@ -60,8 +60,8 @@ pub fn fixed(judge: &mut impl FnMut(Submitted)) {
 
 /// The claims that are spoiled number by number, and how deep they go: those
 /// of the shop, that of a club, those of a table of many edges, and small ones.
-fn bases(random: &mut Random) -> Vec<(Claim, u16)> {
-    let claim = |table: &[u16], record: &[u16]| Claim {
+fn bases(random: &mut Random) -> Vec<(Claim, Number)> {
+    let claim = |table: &[Number], record: &[Number]| Claim {
         table: table.to_vec(),
         query: shop::Q,
         record: record.to_vec(),
@@ -130,7 +130,7 @@ fn wide_claims(random: &mut Random, judge: &mut impl FnMut(Submitted)) {
 /// Hands over a record of more than a million nodes, as it is, with a number
 /// left over, and cut. Its leaves use an automaton that accepts every word.
 fn widest(judge: &mut impl FnMut(Submitted)) {
-    const LEVELS: u16 = 11;
+    const LEVELS: Number = 11;
     let mut records = wide::records(LEVELS);
     let leaf = (records.credentials[10][0], records.credentials[10][1]);
     let constraint = Constraint::last(leaf);

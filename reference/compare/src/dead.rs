@@ -7,6 +7,7 @@ use reference::derivation::{Derivation, NODE};
 use reference::query::Asked;
 use reference::table::Table;
 use reference::words::Standing;
+use reference::Number;
 
 /// The automata that are dead on some word of a derivation: automaton i counts
 /// 2^(i-1).
@@ -37,7 +38,7 @@ pub struct Begun {
 
 impl Begun {
     /// So many nodes at the front of a record, all of which are right.
-    pub fn of(table: &Table, asked: Asked, record: &[u16], nodes: usize) -> Begun {
+    pub fn of(table: &Table, asked: Asked, record: &[Number], nodes: usize) -> Begun {
         let mut begun = Begun::default();
         let mut open = vec![(asked.goal, Standing::start(table))];
         for node in record.chunks_exact(NODE).take(nodes) {
@@ -59,6 +60,7 @@ mod tests {
     use reference::records::Records;
     use reference::shop::{Q, R, T};
     use reference::table::Table;
+    use reference::Number;
 
     use super::{on_words, Begun};
 
@@ -76,7 +78,7 @@ mod tests {
     #[test]
     fn automata_are_dead_from_a_role_on_that_they_do_not_match() {
         let (table, asked) = (owners(), Q.read().expect("Q is valid"));
-        let dead = |record: &[u16]| {
+        let dead = |record: &[Number]| {
             let derivation = Derivation::read(&table, asked, record);
             on_words(&table, &derivation.expect("a right record"))
         };

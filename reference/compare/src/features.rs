@@ -10,6 +10,7 @@ use reference::query::DEEPEST;
 use reference::records::Head;
 use reference::table::{Members, Table};
 use reference::words::{comply, every_word};
+use reference::Number;
 
 use crate::branches::{Again, OFTEN};
 use crate::dead;
@@ -34,7 +35,7 @@ pub enum Feature {
     /// An automaton that is not used is dead on a word.
     DeadAutomaton,
     /// A credential of this kind is used.
-    Kind(u16),
+    Kind(Number),
     /// A role stands twice on a branch: before, the record was refused with 13.
     RoleTwice,
     /// So it does, and there is an automaton.
@@ -106,8 +107,8 @@ impl Feature {
             Feature::RoleTwiceAndAutomaton => again.role > 1 && !uses.automata.is_empty(),
             Feature::RoleOften => again.role >= OFTEN,
             Feature::PrincipalTwice => again.principal > 1,
-            Feature::AtTheLimit => shape.levels == usize::from(asked.depth),
-            Feature::SixteenLevels => shape.levels == usize::from(DEEPEST),
+            Feature::AtTheLimit => shape.levels == asked.depth as usize,
+            Feature::SixteenLevels => shape.levels == DEEPEST as usize,
             Feature::ManyNodes => claim.record.len() > NODE * usize::from(u16::MAX),
             Feature::ManyEdges => !uses.automata.is_empty() && has_many_edges(&table),
             Feature::Slip(slip) => slips.contains(&slip),
@@ -121,11 +122,11 @@ impl Feature {
 #[derive(Default)]
 pub struct Uses {
     /// The kinds of its credentials.
-    pub kinds: BTreeSet<u16>,
+    pub kinds: BTreeSet<Number>,
     /// The automata attached to its credentials.
-    pub automata: BTreeSet<u16>,
+    pub automata: BTreeSet<Number>,
     /// The automata attached only to other credentials.
-    pub other_automata: BTreeSet<u16>,
+    pub other_automata: BTreeSet<Number>,
 }
 
 impl Uses {
@@ -158,7 +159,7 @@ impl Uses {
 }
 
 /// The number of a credential's kind.
-fn kind(members: &Members) -> u16 {
+fn kind(members: &Members) -> Number {
     match members {
         Members::One(_) => 1,
         Members::AllOf(_) => 2,

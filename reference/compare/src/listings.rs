@@ -7,15 +7,15 @@ use reference::generate::{clubs, damage, full, queries, wide};
 use reference::query::Query;
 use reference::random::Random;
 use reference::records::{Head, Records};
-use reference::{shop, stored};
+use reference::{shop, stored, Number};
 
 /// So many wallets are listed with every buffer.
 const WALLETS: usize = 200;
 /// The most rungs of a ladder for which there is room.
-const MOST_RUNGS: u16 = 15;
+const MOST_RUNGS: Number = 15;
 
 /// A listing that is the same in every run.
-fn listing(table: &[u16], query: Query) -> Listing {
+fn listing(table: &[Number], query: Query) -> Listing {
     Listing {
         table: table.to_vec(),
         query,
@@ -71,7 +71,7 @@ fn fixed_edges(judge: &mut impl FnMut(Listing)) {
     for edges in [full::FEWEST, most / 2, most - 1, most] {
         let mut records = full::records(edges);
         for automaton in 1..=records.head().automata {
-            records.edges[usize::from(edges) - 1][0] = automaton;
+            records.edges[edges as usize - 1][0] = automaton;
             judge(listing(&records.numbers(), full::ASKED));
         }
     }
@@ -81,7 +81,7 @@ fn fixed_edges(judge: &mut impl FnMut(Listing)) {
 fn fixed_wallets(judge: &mut impl FnMut(Listing)) {
     let mut random = Random::new(0);
     for index in 0..WALLETS {
-        let bearing = 1 + (index % 20) as u16;
+        let bearing = 1 + (index % 20) as Number;
         let plan = Plan {
             bearing,
             others: random.between(0, 20 - bearing),
@@ -94,7 +94,7 @@ fn fixed_wallets(judge: &mut impl FnMut(Listing)) {
 
 /// Hands over wallets of every shape, up to the largest, but with at most so
 /// many rungs. Each rung doubles the record.
-pub fn fixed_shapes(most_rungs: u16, judge: &mut impl FnMut(Listing)) {
+pub fn fixed_shapes(most_rungs: Number, judge: &mut impl FnMut(Listing)) {
     let mut wallets: Vec<Wallet> = (2..=5).map(shapes::ladder).collect();
     wallets.extend((1..=most_rungs).map(|rungs| shapes::rungs(rungs, 2)));
     let rungs = most_rungs.min(10);

@@ -56,7 +56,7 @@ use lists::Lists;
 use mixed::Mixed;
 use reference::generate::{demands, listings as made_up};
 use reference::random::Random;
-use reference::Refusal;
+use reference::{Number, Refusal};
 use tally::{Call, Tally};
 use verdicts::Verdicts;
 use writings::Writings;
@@ -68,7 +68,7 @@ type Verdict = Result<u32, Refusal>;
 
 /// The record of a ladder with more rungs is not asked for: it is long in the
 /// writing.
-const WRITTEN_RUNGS: u16 = 10;
+const WRITTEN_RUNGS: Number = 10;
 /// How the program is called.
 const USAGE: &str =
     "compare [--seed N] [--count N] [--records N] [--lists N] [--writings N] [--mixed N]";

@@ -8,6 +8,7 @@ use reference::pairs::is_in;
 use reference::sorts::Role;
 use reference::table::{Demand, Table};
 use reference::words::{accepts, every_word};
+use reference::Number;
 
 use crate::features::Uses;
 use crate::Verdict;
@@ -52,7 +53,7 @@ impl Met {
         };
         let used = Uses::of(table, used_set).automata;
         let mut met = Vec::new();
-        for (number, automaton) in (1u16..).zip(&table.automata) {
+        for (number, automaton) in (1..).zip(&table.automata) {
             let accepts = |word: &[Role]| accepts(table, number, word);
             if automaton.demand == Demand::EveryWord || every_word(derivation, accepts) {
                 continue;
@@ -74,8 +75,8 @@ impl Met {
 
 /// Whether an automaton accepts a word that passes through a credential to which
 /// it is attached.
-fn accepts_through(table: &Table, number: u16, derivation: &Derivation) -> bool {
-    let numbered = (1u16..).zip(&table.credentials);
+fn accepts_through(table: &Table, number: Number, derivation: &Derivation) -> bool {
+    let numbered = (1 as Number..).zip(&table.credentials);
     let bearers = numbered.filter(|(_, credential)| credential.automaton == Some(number));
     let bearers = bearers.fold(0, |set, (credential, _)| set | 1 << (credential - 1));
     let accepted = |word: &[Role]| accepts(table, number, word);
@@ -121,14 +122,14 @@ mod tests {
     use reference::records::Records;
     use reference::shop::{Q, R, T};
     use reference::table::Table;
-    use reference::verify;
+    use reference::{verify, Number};
 
     use super::Met;
 
     /// What the verdict on a record of the shop owes to an automaton of this mark,
     /// attached to this credential, which accepts the words through
     /// Shop.accredited.
-    fn met(mark: u16, credential: usize, record: &[u16]) -> Vec<Met> {
+    fn met(mark: Number, credential: usize, record: &[Number]) -> Vec<Met> {
         let mut records = Records::read(&T).expect("T is accepted");
         records.credentials[credential - 1][5] = 1;
         records.automata.push([1, 2, mark]);

@@ -13,6 +13,7 @@ use reference::listing::Minimal;
 use reference::random::Random;
 use reference::upgraded;
 use reference::writing::First;
+use reference::Number;
 
 use crate::lists::together;
 use crate::met::Met;
@@ -274,7 +275,7 @@ fn with_marks(random: &mut Random, wallet: &Wallet, marks: Marks) -> Wallet {
 }
 
 /// A record that derives the query of a wallet, if one is found.
-fn grown_record(random: &mut Random, wallet: &Wallet) -> Option<Vec<u16>> {
+fn grown_record(random: &mut Random, wallet: &Wallet) -> Option<Vec<Number>> {
     let policy = Policy::new(wallet.records.clone());
     grown(random, &policy, wallet.query)
 }

@@ -4,6 +4,7 @@
 use std::ops::Add;
 
 use reference::table::{Edge, Label, Table};
+use reference::Number;
 
 /// One automaton in so many must have label 4 at the least.
 const SHARE: u64 = 4;
@@ -17,7 +18,7 @@ pub struct Automata {
 
 impl Automata {
     /// Counts the automata of a table, if it is accepted.
-    pub fn count(&mut self, table: &[u16]) {
+    pub fn count(&mut self, table: &[Number]) {
         if let Ok(table) = Table::read(table) {
             self.all += table.automata.len() as u64;
             self.by_owner += u64::from(by_owner(&table).count_ones());

@@ -5,6 +5,7 @@ use std::fmt;
 use reference::listing::Minimal;
 use reference::pairs::is_part;
 use reference::random::Random;
+use reference::Number;
 
 /// What a set is to the list.
 #[derive(Clone, Copy, Debug, PartialEq, Eq, PartialOrd, Ord)]
@@ -70,7 +71,7 @@ impl Relation {
         match self {
             Relation::Listed => listed,
             Relation::Zero => 0,
-            Relation::Above => (listed ^ some) | 1 << random.between(credentials as u16, 31),
+            Relation::Above => (listed ^ some) | 1 << random.between(credentials as Number, 31),
             Relation::Part => listed & !one_of(random, listed) & !some,
             Relation::Whole => listed | one_of(random, all & !listed) | some,
             Relation::NoList | Relation::Other => any,

@@ -2,6 +2,8 @@
 
 use std::ops::Add;
 
+use reference::Number;
+
 /// So many differences of a sort are printed; the others are only counted.
 pub const PRINTED: u64 = 10;
 /// So many numbers of a slice are printed: all, unless it is far too long.
@@ -48,9 +50,9 @@ pub fn outcome(number: u32) -> String {
 }
 
 /// A slice in words: how many numbers it has, and which.
-pub fn listed(numbers: &[u16]) -> String {
+pub fn listed(numbers: &[Number]) -> String {
     let length = numbers.len();
     let shown = &numbers[..length.min(NUMBERS_PRINTED)];
-    let shown: Vec<String> = shown.iter().map(u16::to_string).collect();
+    let shown: Vec<String> = shown.iter().map(Number::to_string).collect();
     format!("{length} numbers: {}", shown.join(" "))
 }

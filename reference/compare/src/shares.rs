@@ -16,6 +16,7 @@ use reference::sorts::{Goal, Principal};
 use reference::table::{Demand, Table};
 use reference::ways::{middles, ways, Way};
 use reference::words::Standing;
+use reference::Number;
 
 /// The order in which shares are tried.
 #[derive(Clone, Copy, Debug, PartialEq, Eq, PartialOrd, Ord)]
@@ -42,13 +43,19 @@ impl fmt::Display for Order {
 
 /// The record of a minimal set by shares in this order; nothing if it takes more
 /// than so many steps.
-pub fn record(steps: u64, table: &Table, asked: Asked, set: u32, order: Order) -> Option<Vec<u16>> {
+pub fn record(
+    steps: u64,
+    table: &Table,
+    asked: Asked,
+    set: u32,
+    order: Order,
+) -> Option<Vec<Number>> {
     let mut sharing = Sharing {
         table,
         set,
         order,
         every: used(table, set, Demand::EveryWord),
-        depth: usize::from(asked.depth),
+        depth: asked.depth as usize,
         middles: middles(table),
         patience: Patience::new(steps),
     };
@@ -59,10 +66,10 @@ pub fn record(steps: u64, table: &Table, asked: Asked, set: u32, order: Order) -
 /// The automata that demand so and are attached to credentials of a set:
 /// automaton i counts 2^(i-1).
 fn used(table: &Table, set: u32, demand: Demand) -> u32 {
-    let numbered = (1u16..).zip(&table.credentials);
+    let numbered = (1..).zip(&table.credentials);
     let used = numbered.filter(|(number, _)| is_in(*number, set));
     let automata = used.filter_map(|(_, credential)| credential.automaton);
-    let demands = |number: &u16| table.automata[usize::from(*number) - 1].demand == demand;
+    let demands = |number: &Number| table.automata[*number as usize - 1].demand == demand;
     let automata = automata.filter(demands);
     automata.fold(0, |all, number| all | 1 << (number - 1))
 }
@@ -88,7 +95,7 @@ impl Sharing<'_> {
         above: &[Goal],
         before: &Standing,
         owed: u32,
-    ) -> Option<Option<Vec<u16>>> {
+    ) -> Option<Option<Vec<Number>>> {
         self.patience.spend(1)?;
         if above.len() >= self.depth || above.contains(&goal) {
             return Some(None);
@@ -113,7 +120,7 @@ impl Sharing<'_> {
         branch: &[Goal],
         standing: &Standing,
         owed: u32,
-    ) -> Option<Option<Vec<u16>>> {
+    ) -> Option<Option<Vec<Number>>> {
         let node = [way.credential, way.middle];
         if way.premises.is_empty() {
             let breaks = standing.rejecting(self.table) & self.every != 0;
@@ -136,7 +143,7 @@ impl Sharing<'_> {
         branch: &[Goal],
         standing: &Standing,
         shares: &[u32],
-    ) -> Option<Option<Vec<u16>>> {
+    ) -> Option<Option<Vec<Number>>> {
         let mut record = Vec::new();
         for (&premise, &share) in way.premises.iter().zip(shares) {
             match self.goal(premise, branch, standing, share)? {

@@ -7,7 +7,7 @@ use reference::listing::Minimal;
 use reference::query::Query;
 use reference::table::Table;
 use reference::writing::First;
-use reference::{listing, writing, Refusal};
+use reference::{listing, writing, Number, Refusal};
 
 use crate::buffers::Row;
 use crate::lists::expected;
@@ -20,7 +20,7 @@ const SPARE: usize = 2;
 
 /// A table as the library is given it, and as the reference is; and a query.
 pub struct Sides {
-    library: Vec<u16>,
+    library: Vec<Number>,
     reference: Listing,
 }
 
@@ -29,7 +29,7 @@ pub type Same = Result<(), String>;
 
 impl Sides {
     /// These two tables, which should mean the same, with a query.
-    pub fn new(library: Vec<u16>, reference: Vec<u16>, query: Query) -> Sides {
+    pub fn new(library: Vec<Number>, reference: Vec<Number>, query: Query) -> Sides {
         let reference = Listing {
             table: reference,
             query,
@@ -71,7 +71,7 @@ impl Sides {
     /// Whether the library writes this record for a set.
     pub fn record(&self, set: u32, first: &First) -> Same {
         let cells = NODE * first.witness.nodes() as usize + SPARE;
-        let mut rows = [Row::<u16>::new(cells), Row::new(cells)];
+        let mut rows = [Row::<Number>::new(cells), Row::new(cells)];
         let query = library_query(self.reference.query);
         let library = bwlchareg::write(&self.library, query, set, rows[0].buffer());
         let reference = writing::write(Some(first), rows[1].buffer());
@@ -81,7 +81,7 @@ impl Sides {
 
     /// Whether the library has the reference's verdict on a record, and what that
     /// is.
-    pub fn verdict(&self, record: &[u16]) -> (Same, Verdict) {
+    pub fn verdict(&self, record: &[Number]) -> (Same, Verdict) {
         let query = library_query(self.reference.query);
         let library = bwlchareg::verify(&self.library, query, record).map_err(same_refusal);
         let verdict = reference::verify(&self.reference.table, self.reference.query, record);

@@ -88,7 +88,7 @@ impl Sign {
         if refusal.number == 13 {
             let node = refusal.position as usize;
             let branch = branch(&table, asked, &claim.record, node);
-            signs.extend(on_branch(&branch, usize::from(asked.depth)));
+            signs.extend(on_branch(&branch, asked.depth as usize));
         }
         signs
     }
@@ -178,7 +178,7 @@ mod tests {
     use reference::generate::{clubs, full};
     use reference::records::{EdgeRecord, Records};
     use reference::shop::{Q, R, T};
-    use reference::{verify, Query};
+    use reference::{verify, Number, Query};
 
     use super::Sign;
     use crate::slips::Slip;
@@ -190,7 +190,7 @@ mod tests {
 
     /// The signs of a record for the shop's table T with an automaton of these
     /// edges, attached to credential 1, which starts and accepts in state 0.
-    fn signs(edges: &[EdgeRecord], record: &[u16]) -> Vec<Sign> {
+    fn signs(edges: &[EdgeRecord], record: &[Number]) -> Vec<Sign> {
         let mut records = Records::read(&T).expect("T is accepted");
         records.credentials[0][5] = 1;
         records.automata.push([1, 1, 0]);
@@ -219,9 +219,9 @@ mod tests {
     #[test]
     fn a_record_rejected_among_many_edges_tells_by_which_slips_it_would_not_be() {
         // The second way goes by the last edge, which is another automaton's now.
-        let signs = |edges: u16| {
+        let signs = |edges: Number| {
             let mut records = full::records(edges);
-            records.edges[usize::from(edges) - 1][0] = 7;
+            records.edges[edges as usize - 1][0] = 7;
             let claim = Claim {
                 table: records.numbers(),
                 query: full::ASKED,
@@ -249,7 +249,7 @@ mod tests {
 
     /// The signs of a record for a club with the line 2, 3, 4 of friends, of whom
     /// the last is asked about, and within so many levels.
-    fn signs_in_club(depth: u16, record: &[u16]) -> Vec<Sign> {
+    fn signs_in_club(depth: Number, record: &[Number]) -> Vec<Sign> {
         let club = clubs::line(3, 1);
         let claim = Claim {
             table: club.records.numbers(),

@@ -6,6 +6,7 @@ use std::fmt;
 use reference::derivation::Derivation;
 use reference::table::{Edge, Label, Table};
 use reference::words::comply;
+use reference::Number;
 
 /// A table of so many edges has many.
 pub const MANY: usize = 100;
@@ -119,8 +120,8 @@ fn own(one: &Edge, other: &Edge) -> bool {
 
 /// The edges of a table, for every automaton.
 fn pooled(table: &Table) -> Vec<Edge> {
-    let automata = 1..=table.automata.len() as u16;
-    let of = |automaton: u16| {
+    let automata = 1..=table.automata.len() as Number;
+    let of = |automaton: Number| {
         let edges = table.edges.iter().cloned();
         edges.map(move |edge| Edge { automaton, ..edge })
     };
@@ -176,6 +177,7 @@ mod tests {
     use reference::generate::full;
     use reference::records::{EdgeRecord, Records};
     use reference::table::Table;
+    use reference::Number;
 
     use super::{rejecting, Slip};
 
@@ -234,7 +236,7 @@ mod tests {
 
     /// The slips by which the record of a way of a full table with so many edges
     /// would be rejected.
-    fn slips(edges: u16, way: usize) -> Vec<Slip> {
+    fn slips(edges: Number, way: usize) -> Vec<Slip> {
         let table = full::records(edges).numbers();
         let table = Table::read(&table).expect("an accepted table");
         let asked = full::ASKED.read().expect("a valid query");

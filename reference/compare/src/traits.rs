@@ -13,6 +13,7 @@ use reference::sorts::Goal;
 use reference::table::{Members, Table};
 use reference::ways::middles;
 use reference::writing::First;
+use reference::Number;
 
 use crate::branches::{Again, OFTEN};
 use crate::dead;
@@ -29,7 +30,7 @@ const STEPS: u64 = 10_000;
 #[derive(Clone, Copy, Debug, PartialEq, Eq, PartialOrd, Ord)]
 pub enum Trait {
     /// A credential of this kind is used.
-    Kind(u16),
+    Kind(Number),
     /// A used credential has an automaton.
     Automaton,
     /// It has one with label 4.
@@ -117,7 +118,7 @@ impl Trait {
             Trait::ByOwner => uses_owner,
             Trait::DeadAutomaton => uses.leaves_any_of(dead::on_words(&table, &derivation)),
             Trait::Deep => levels(&derivation) >= DEEP,
-            Trait::SixteenLevels => levels(&derivation) == usize::from(DEEPEST),
+            Trait::SixteenLevels => levels(&derivation) == DEEPEST as usize,
             Trait::Long => record.len() > usize::from(u16::MAX),
             Trait::Repeated => any_node(&derivation, &is_repeating),
             Trait::RoleTwice => again.role > 1,
@@ -148,7 +149,7 @@ struct View<'a> {
 impl View<'_> {
     /// The index of the first number in which the first record differs from
     /// the least that derives the goal from the set, if it is another.
-    fn parting(&self, record: &[u16], first: &First) -> Option<usize> {
+    fn parting(&self, record: &[Number], first: &First) -> Option<usize> {
         if first.passed == 0 {
             return None;
         }
@@ -239,14 +240,14 @@ mod tests {
     use reference::patience::Patience;
     use reference::query::Query;
     use reference::records::Records;
-    use reference::shop;
     use reference::table::Table;
     use reference::writing::first_within;
+    use reference::{shop, Number};
 
     use super::Trait;
 
     /// The traits of a minimal set's first record.
-    fn traits(table: &[u16], query: Query, set: u32) -> Vec<Trait> {
+    fn traits(table: &[Number], query: Query, set: u32) -> Vec<Trait> {
         let listing = Listing {
             table: table.to_vec(),
             query,

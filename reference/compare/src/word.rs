@@ -13,6 +13,7 @@ use reference::pairs::is_part;
 use reference::query::Query;
 use reference::random::Random;
 use reference::records::Records;
+use reference::Number;
 
 use crate::library_query;
 use crate::report::{listed, PRINTED};
@@ -68,7 +69,7 @@ impl Word {
     }
 
     /// Whether a record that is accepted uses all of a listed set.
-    fn ask_whether_listed(&mut self, listing: &Listing, sets: &[Minimal], record: &[u16]) {
+    fn ask_whether_listed(&mut self, listing: &Listing, sets: &[Minimal], record: &[Number]) {
         let Some(used) = verdict(listing, record) else {
             self.rejected += 1;
             return;
@@ -83,7 +84,7 @@ impl Word {
     }
 
     /// Counts a failure and prints it.
-    fn fail(&mut self, listing: &Listing, record: &[u16], used: Option<u32>, what: &str) {
+    fn fail(&mut self, listing: &Listing, record: &[Number], used: Option<u32>, what: &str) {
         self.failed += 1;
         if self.failed <= PRINTED {
             println!("the verifier's word, {what}:");
@@ -111,13 +112,13 @@ impl Add for Word {
 }
 
 /// The used set with which the library accepts a record, if it does.
-fn verdict(listing: &Listing, record: &[u16]) -> Option<u32> {
+fn verdict(listing: &Listing, record: &[Number]) -> Option<u32> {
     let query = library_query(listing.query);
     bwlchareg::verify(&listing.table, query, record).ok()
 }
 
 /// A record that derives the query, if one is found.
-pub fn grown(random: &mut Random, policy: &Policy, query: Query) -> Option<Vec<u16>> {
+pub fn grown(random: &mut Random, policy: &Policy, query: Query) -> Option<Vec<Number>> {
     let asked = query.read().expect("a valid query");
     let wish = Wish {
         depth: asked.depth,

@@ -10,7 +10,7 @@ use reference::random::Random;
 use reference::records::Records;
 use reference::table::Table;
 use reference::writing::{first_within, write, First};
-use reference::Refusal;
+use reference::{Number, Refusal};
 
 use crate::buffers::{Row, Size};
 use crate::lists::expected;
@@ -47,7 +47,7 @@ const LENT: [Size; 8] = [
 ];
 
 /// What a writing call gives back: its answer, and the cells after it.
-type Answered = (Result<usize, Refusal>, Row<u16>);
+type Answered = (Result<usize, Refusal>, Row<Number>);
 
 /// What a writing call is given, but for its buffer; and what the reference
 /// makes of it.
@@ -198,7 +198,7 @@ impl Writings {
     }
 
     /// Whether the verifier accepts a written record with just the set.
-    fn ask_verifier(&mut self, asked: &Asked, record: &[u16]) {
+    fn ask_verifier(&mut self, asked: &Asked, record: &[Number]) {
         let query = library_query(asked.listing.query);
         let verdict = bwlchareg::verify(&asked.listing.table, query, record);
         if verdict == Ok(asked.set) {

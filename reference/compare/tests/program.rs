@@ -13,14 +13,14 @@ use std::time::Duration;
 use reference::generate::wallets;
 use reference::query::Query;
 use reference::random::Random;
-use reference::shop;
+use reference::{shop, Number};
 
 /// Cells that the program has, and bytes that it reads.
 const CELLS: usize = 4096;
 const MOST_BYTES: usize = 4096;
 
 /// The query's four numbers and then the table, low byte first.
-fn bytes(table: &[u16], query: Query) -> Vec<u8> {
+fn bytes(table: &[Number], query: Query) -> Vec<u8> {
     let asked = [query.principal, query.owner, query.name, query.depth];
     let numbers = asked.iter().chain(table);
     numbers.flat_map(|number| number.to_le_bytes()).collect()
@@ -54,7 +54,7 @@ fn printed(pieces: &[&[u8]]) -> String {
 }
 
 /// What it should print.
-fn expected(table: &[u16], query: Query) -> String {
+fn expected(table: &[Number], query: Query) -> String {
     let mut cells = vec![0; CELLS];
     match reference::list(table, query, &mut cells) {
         Ok(count) => {

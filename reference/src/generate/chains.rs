@@ -2,6 +2,7 @@
 
 use crate::random::Random;
 use crate::records::{CellRecord, Records};
+use crate::Number;
 
 /// The number of cells in the chain that starts at each cell, cell 1 first.
 /// Every next must be 0 or a greater cell.
@@ -10,7 +11,7 @@ pub fn lengths(cells: &[CellRecord]) -> Vec<usize> {
     for (index, &[_, _, next]) in cells.iter().enumerate().rev() {
         let following = match next {
             0 => 0,
-            next => lengths[usize::from(next) - 1],
+            next => lengths[next as usize - 1],
         };
         lengths[index] = 1 + following;
     }
@@ -18,8 +19,8 @@ pub fn lengths(cells: &[CellRecord]) -> Vec<usize> {
 }
 
 /// The cells at which a chain of 2 to 4 cells starts.
-pub fn right_starts(cells: &[CellRecord]) -> Vec<u16> {
-    let numbered = (1u16..).zip(lengths(cells));
+pub fn right_starts(cells: &[CellRecord]) -> Vec<Number> {
+    let numbered = (1..).zip(lengths(cells));
     numbered
         .filter(|&(_, length)| (2..=4).contains(&length))
         .map(|(number, _)| number)
@@ -30,12 +31,12 @@ pub fn right_starts(cells: &[CellRecord]) -> Vec<u16> {
 /// chains that run through these cells change with them.
 ///
 /// There must be a credential, and at least `length` cells.
-pub fn with_chain(random: &mut Random, records: &Records, length: u16) -> Records {
+pub fn with_chain(random: &mut Random, records: &Records, length: Number) -> Records {
     let mut records = records.clone();
-    let cells = ascending(random, length, records.cells.len() as u16);
+    let cells = ascending(random, length, records.cells.len() as Number);
     let followers = cells.iter().skip(1).copied().chain([0]);
     for (&cell, next) in cells.iter().zip(followers) {
-        records.cells[usize::from(cell) - 1][2] = next;
+        records.cells[cell as usize - 1][2] = next;
     }
     let chosen = random.below(records.credentials.len());
     let [_, _, kind, first, second, _] = &mut records.credentials[chosen];
@@ -45,11 +46,11 @@ pub fn with_chain(random: &mut Random, records: &Records, length: u16) -> Record
 
 /// So many numbers out of 1 to `limit`, ascending: each number is taken with
 /// the chance that leaves all choices equal.
-fn ascending(random: &mut Random, count: u16, limit: u16) -> Vec<u16> {
-    let mut missing = usize::from(count);
+fn ascending(random: &mut Random, count: Number, limit: Number) -> Vec<Number> {
+    let mut missing = count as usize;
     let mut numbers = Vec::new();
     for number in 1..=limit {
-        let left = usize::from(limit - number) + 1;
+        let left = (limit - number) as usize + 1;
         if random.below(left) < missing {
             numbers.push(number);
             missing -= 1;

@@ -8,17 +8,17 @@ use crate::query::{Query, DEEPEST};
 use crate::random::Random;
 use crate::records::{Head, Records};
 use crate::sorts::Goal;
-use crate::verify;
+use crate::{verify, Number};
 
 /// What a verifying call is given.
 #[derive(Clone, Debug, PartialEq, Eq)]
 pub struct Claim {
     /// The table's numbers.
-    pub table: Vec<u16>,
+    pub table: Vec<Number>,
     /// The query.
     pub query: Query,
     /// The record's numbers.
-    pub record: Vec<u16>,
+    pub record: Vec<Number>,
 }
 
 /// A record that derives its query. Its words may be rejected all the same.
@@ -68,13 +68,13 @@ impl<'a> Grown<'a> {
     }
 
     /// How deep the derivation is.
-    pub fn levels(&self) -> u16 {
+    pub fn levels(&self) -> Number {
         levels(&self.nodes)
     }
 
     /// The kind of a node's credential.
-    pub fn kind(&self, node: &Node) -> u16 {
-        self.records.credentials[usize::from(node.credential) - 1][2]
+    pub fn kind(&self, node: &Node) -> Number {
+        self.records.credentials[node.credential as usize - 1][2]
     }
 
     /// The same record, with an automaton attached to one of its credentials
@@ -104,12 +104,12 @@ impl<'a> Grown<'a> {
     pub fn constrained(
         &self,
         random: &mut Random,
-        credential: u16,
+        credential: Number,
         constraint: &Constraint,
     ) -> Option<Grown<'a>> {
         let mut grown = self.clone();
         let number = constraints::add(random, &mut grown.records, constraint)?;
-        grown.records.credentials[usize::from(credential) - 1][5] = number;
+        grown.records.credentials[credential as usize - 1][5] = number;
         Some(grown)
     }
 }
@@ -129,7 +129,7 @@ pub fn table(random: &mut Random) -> Records {
 }
 
 /// A goal that can be derived, and its height: the highest one of a few.
-fn high_goal(random: &mut Random, policy: &Policy) -> Option<(Goal, u16)> {
+fn high_goal(random: &mut Random, policy: &Policy) -> Option<(Goal, Number)> {
     let goals = policy.goals();
     if goals.is_empty() {
         return None;
@@ -139,7 +139,7 @@ fn high_goal(random: &mut Random, policy: &Policy) -> Option<(Goal, u16)> {
 }
 
 /// The query for a goal.
-pub fn query(goal: Goal, depth: u16) -> Query {
+pub fn query(goal: Goal, depth: Number) -> Query {
     let (owner, name) = written(goal);
     Query {
         principal: goal.principal.number(),
@@ -155,13 +155,13 @@ pub fn written(goal: Goal) -> Role {
 }
 
 /// How deep a derivation with these nodes is.
-pub fn levels(nodes: &[Node]) -> u16 {
+pub fn levels(nodes: &[Node]) -> Number {
     let levels = nodes.iter().map(|node| node.level);
     levels.max().unwrap_or(0)
 }
 
 /// The record with these nodes.
-pub fn numbers(nodes: &[Node]) -> Vec<u16> {
+pub fn numbers(nodes: &[Node]) -> Vec<Number> {
     let nodes = nodes.iter();
     nodes
         .flat_map(|node| [node.credential, node.middle])

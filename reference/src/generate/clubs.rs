@@ -15,6 +15,7 @@ use crate::generate::wallets::Wallet;
 use crate::query::DEEPEST;
 use crate::random::Random;
 use crate::records::{CellRecord, CredentialRecord, Records};
+use crate::Number;
 
 /// What leads back to a role.
 #[derive(Clone, Copy, Debug, PartialEq, Eq, PartialOrd, Ord)]
@@ -63,11 +64,11 @@ impl Circle {
 
 /// The name of what a person's friends are in. The goal's role has the same one
 /// in a club.
-const FRIEND: u16 = GOAL;
+const FRIEND: Number = GOAL;
 
 /// A wallet with such a circle, of at most so many credentials, 8 to 20; half of
 /// the time with constraints.
-pub fn made_up(random: &mut Random, circle: Circle, most: u16) -> Wallet {
+pub fn made_up(random: &mut Random, circle: Circle, most: Number) -> Wallet {
     let size = random.between((most / 2).max(6), most);
     let mut wallet = match circle {
         Circle::Club => club(random, size),
@@ -94,45 +95,50 @@ pub fn made_up(random: &mut Random, circle: Circle, most: u16) -> Wallet {
 }
 
 /// Somebody's friends' friends are their friends.
-fn friends_of_friends(owner: u16) -> CredentialRecord {
+fn friends_of_friends(owner: Number) -> CredentialRecord {
     [owner, FRIEND, 3, FRIEND, FRIEND, 0]
 }
 
 /// Somebody is in a role.
-fn member(owner: u16, name: u16, person: u16) -> CredentialRecord {
+fn member(owner: Number, name: Number, person: Number) -> CredentialRecord {
     [owner, name, 1, person, 0, 0]
 }
 
 /// A wallet with these credentials, and a query for a person.
-fn asking(person: u16, credentials: Vec<CredentialRecord>, cells: Vec<CellRecord>) -> Wallet {
+fn asking(person: Number, credentials: Vec<CredentialRecord>, cells: Vec<CellRecord>) -> Wallet {
     let mut wallet = from_records(credentials, cells);
     wallet.query.principal = person;
     wallet
 }
 
 /// Somebody who is likely to be far from where it begins.
-fn far(random: &mut Random, first: u16, last: u16) -> u16 {
+fn far(random: &mut Random, first: Number, last: Number) -> Number {
     let [one, other] = [0; 2].map(|_| random.between(first, last));
     one.max(other)
 }
 
 /// Friendships up to so many credentials. From the first of these people on each
 /// has the next as a friend; further ones are between any two.
-fn befriend(random: &mut Random, people: u16, size: u16, credentials: &mut Vec<CredentialRecord>) {
+fn befriend(
+    random: &mut Random,
+    people: Number,
+    size: Number,
+    credentials: &mut Vec<CredentialRecord>,
+) {
     credentials.extend((OWNER..people).map(|person| member(person, FRIEND, person + 1)));
-    while credentials.len() < size.into() {
+    while credentials.len() < size as usize {
         let [one, other] = [0; 2].map(|_| random.between(OWNER, people));
         credentials.push(member(one, FRIEND, other));
     }
 }
 
 /// A club and its friends' friends; seldom the credential is there twice.
-fn club(random: &mut Random, size: u16) -> Wallet {
+fn club(random: &mut Random, size: Number) -> Wallet {
     let mut credentials = vec![friends_of_friends(OWNER)];
     if random.one_in(8) {
         credentials.push(friends_of_friends(OWNER));
     }
-    let room = size - credentials.len() as u16;
+    let room = size - credentials.len() as Number;
     let most = *random.pick(&[room + 1, 6, 4]);
     let people = random.between(3, most.min(room + 1));
     befriend(random, people, size, &mut credentials);
@@ -140,10 +146,10 @@ fn club(random: &mut Random, size: u16) -> Wallet {
 }
 
 /// A few people, most of whom say that of their friends.
-fn friends(random: &mut Random, size: u16) -> Wallet {
+fn friends(random: &mut Random, size: Number) -> Wallet {
     let people = random.between(3, 6.min(size / 2));
     let others = (OWNER + 1..=people).filter(|_| !random.one_in(4));
-    let owners: Vec<u16> = [OWNER].into_iter().chain(others).collect();
+    let owners: Vec<Number> = [OWNER].into_iter().chain(others).collect();
     let mut credentials: Vec<CredentialRecord> =
         owners.into_iter().map(friends_of_friends).collect();
     befriend(random, people, size, &mut credentials);
@@ -152,7 +158,7 @@ fn friends(random: &mut Random, size: u16) -> Wallet {
 
 /// Roles in a ring of kind 2, often with ways across, and half of the time a
 /// role of the ring whose members' friends are in it.
-fn ring(random: &mut Random, size: u16) -> Wallet {
+fn ring(random: &mut Random, size: Number) -> Wallet {
     let roles = random.between(2, (size / 3).min(5));
     let people = random.between(2, 4);
     let mut credentials: Vec<CredentialRecord> = Vec::new();
@@ -163,7 +169,7 @@ fn ring(random: &mut Random, size: u16) -> Wallet {
         let [back, from] = [0; 2].map(|_| random.between(1, roles));
         credentials.push([OWNER, back, 3, from, FRIEND, 0]);
     }
-    while credentials.len() < size.into() {
+    while credentials.len() < size as usize {
         let [role, other] = [0; 2].map(|_| random.between(1, roles));
         let [person, friend] = [0; 2].map(|_| 1 + random.between(1, people));
         credentials.push(match random.below(3) {
@@ -176,8 +182,8 @@ fn ring(random: &mut Random, size: u16) -> Wallet {
 }
 
 /// Roles in a ring of kind 3: whoever is a friend of somebody in the next one.
-fn linked_ring(random: &mut Random, size: u16) -> Wallet {
-    const LINKED: u16 = 9;
+fn linked_ring(random: &mut Random, size: Number) -> Wallet {
+    const LINKED: Number = 9;
     let roles = random.between(1, (size / 3).min(4));
     let people = random.between(3, 6);
     let mut credentials: Vec<CredentialRecord> = Vec::new();
@@ -186,21 +192,21 @@ fn linked_ring(random: &mut Random, size: u16) -> Wallet {
     }
     credentials.push(member(OWNER, random.between(1, roles), 2));
     credentials.extend((2..=people).map(|person| member(person, LINKED, person + 1)));
-    while credentials.len() < size.into() {
+    while credentials.len() < size as usize {
         let person = 1 + random.between(1, people);
         credentials.push(match random.below(3) {
             0 => member(OWNER, random.between(1, roles), person),
             _ => member(person, LINKED, 1 + random.between(1, people)),
         });
     }
-    credentials.truncate(size.into());
+    credentials.truncate(size as usize);
     asking(far(random, 2, people + 1), credentials, Vec::new())
 }
 
 /// A chain of two or three parts; the first part, and perhaps the others, are
 /// for the friends of those who are in the role that the chain defines.
-fn parts(random: &mut Random, size: u16) -> Wallet {
-    const LINKED: u16 = 9;
+fn parts(random: &mut Random, size: Number) -> Wallet {
+    const LINKED: Number = 9;
     let parts = random.between(2, 3);
     let people = random.between(3, 5);
     let nexts = (2..=parts).chain([0]);
@@ -216,14 +222,14 @@ fn parts(random: &mut Random, size: u16) -> Wallet {
         });
     }
     credentials.extend((2..people).map(|person| member(person, LINKED, person + 1)));
-    while credentials.len() < size.into() {
+    while credentials.len() < size as usize {
         let [person, friend] = [0; 2].map(|_| random.between(2, people));
         credentials.push(match random.below(3) {
             0 => member(OWNER, GOAL + random.between(0, parts), person),
             _ => member(person, LINKED, friend),
         });
     }
-    credentials.truncate(size.into());
+    credentials.truncate(size as usize);
     asking(far(random, 2, people), credentials, cells.collect())
 }
 
@@ -232,8 +238,8 @@ fn parts(random: &mut Random, size: u16) -> Wallet {
 /// the second part the third role may not end a word, so that its members have to
 /// be there by way of the first role; under the first part they may, but if a
 /// role may come again they need not. Some friendships are added.
-fn spared(random: &mut Random, size: u16) -> Wallet {
-    const LINKED: u16 = 9;
+fn spared(random: &mut Random, size: Number) -> Wallet {
+    const LINKED: Number = 9;
     let [first, second, third] = [2, 3, 4];
     let [head, middle, last] = [2, 3, 4];
     let mut credentials = vec![
@@ -263,7 +269,7 @@ fn spared(random: &mut Random, size: u16) -> Wallet {
 
 /// Credentials of every kind over a few people and names, so that all roles lead
 /// to each other.
-fn mixture(random: &mut Random, size: u16) -> Wallet {
+fn mixture(random: &mut Random, size: Number) -> Wallet {
     let (people, names) = (random.between(2, 4), random.between(1, 3));
     let cells: Vec<CellRecord> = (1..=4)
         .map(|cell| {
@@ -272,7 +278,7 @@ fn mixture(random: &mut Random, size: u16) -> Wallet {
         })
         .collect();
     let mut credentials = vec![friends_of_friends(OWNER)];
-    while credentials.len() < size.into() {
+    while credentials.len() < size as usize {
         let [owner, person] = [0; 2].map(|_| random.between(1, people));
         let [name, first, second] = [0; 3].map(|_| random.between(1, names));
         credentials.push(match random.below(8) {
@@ -310,8 +316,8 @@ fn constraint(random: &mut Random, roles: &[constraints::Role]) -> Constraint {
 }
 
 /// That a word has no role of an owner, said by naming all the other owners.
-fn never_through(owner: u16, roles: &[constraints::Role]) -> Constraint {
-    let mut owners: Vec<u16> = roles.iter().map(|role| role.0).collect();
+fn never_through(owner: Number, roles: &[constraints::Role]) -> Constraint {
+    let mut owners: Vec<Number> = roles.iter().map(|role| role.0).collect();
     owners.sort();
     owners.dedup();
     owners.retain(|&other| other != owner);
@@ -321,7 +327,7 @@ fn never_through(owner: u16, roles: &[constraints::Role]) -> Constraint {
 /// A club at the head of a line of so many people, each the next one's friend.
 /// So many of the first, the club included, say that their friends' friends are
 /// their friends; 20 with the people at most. The last one is asked about.
-pub fn line(people: u16, sayers: u16) -> Wallet {
+pub fn line(people: Number, sayers: Number) -> Wallet {
     let said = (OWNER..OWNER + sayers).map(friends_of_friends);
     let friendships = (OWNER..OWNER + people).map(|person| member(person, FRIEND, person + 1));
     asking(
@@ -333,8 +339,8 @@ pub fn line(people: u16, sayers: u16) -> Wallet {
 
 /// So many people, 2 to 4, each of whom has all the others as friends, and is
 /// one of the club's.
-pub fn clique(people: u16) -> Wallet {
-    let others = |person: u16| {
+pub fn clique(people: Number) -> Wallet {
+    let others = |person: Number| {
         (1..=people)
             .map(|other| OWNER + other)
             .filter(move |&o| o != person)

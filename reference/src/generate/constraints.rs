@@ -4,23 +4,24 @@
 use crate::generate::{marks, valid};
 use crate::random::Random;
 use crate::records::{EdgeRecord, Head, Records};
-use crate::table::LAST_STATE;
+use crate::table::{EVERY_STATE, LAST_STATE};
+use crate::Number;
 
 /// A role's owner and name, as written.
-pub type Role = (u16, u16);
+pub type Role = (Number, Number);
 
 /// An automaton with its edges: from, label, owner, name, to. Its mark is 0 if
 /// nothing else is said.
 #[derive(Clone, Debug, PartialEq, Eq)]
 pub struct Constraint {
-    starting: u16,
-    accepting: u16,
-    mark: u16,
-    edges: Vec<[u16; 5]>,
+    starting: Number,
+    accepting: Number,
+    mark: Number,
+    edges: Vec<[Number; 5]>,
 }
 
 /// What an edge matches, as written: label, owner, name.
-pub type Matched = [u16; 3];
+pub type Matched = [Number; 3];
 
 /// Every role.
 pub const EVERY: Matched = [2, 0, 0];
@@ -36,36 +37,36 @@ pub fn but((owner, name): Role) -> Matched {
 }
 
 /// Every role of an owner.
-pub fn owned(owner: u16) -> Matched {
+pub fn owned(owner: Number) -> Matched {
     [4, owner, 0]
 }
 
 /// An edge on what it matches.
-fn on(from: u16, [label, owner, name]: Matched, to: u16) -> [u16; 5] {
+fn on(from: Number, [label, owner, name]: Matched, to: Number) -> [Number; 5] {
     [from, label, owner, name, to]
 }
 
 /// An edge on every role, on one role, on every role but one, on any of an
 /// owner.
-fn every(from: u16, to: u16) -> [u16; 5] {
+fn every(from: Number, to: Number) -> [Number; 5] {
     on(from, EVERY, to)
 }
 
-fn exactly(from: u16, role: Role, to: u16) -> [u16; 5] {
+fn exactly(from: Number, role: Role, to: Number) -> [Number; 5] {
     on(from, one(role), to)
 }
 
-fn all_but(from: u16, role: Role, to: u16) -> [u16; 5] {
+fn all_but(from: Number, role: Role, to: Number) -> [Number; 5] {
     on(from, but(role), to)
 }
 
-fn any_of(from: u16, owner: u16, to: u16) -> [u16; 5] {
+fn any_of(from: Number, owner: Number, to: Number) -> [Number; 5] {
     on(from, owned(owner), to)
 }
 
 impl Constraint {
     /// An automaton that starts in state 0.
-    fn new(accepting: u16, edges: Vec<[u16; 5]>) -> Constraint {
+    fn new(accepting: Number, edges: Vec<[Number; 5]>) -> Constraint {
         Constraint {
             starting: 1,
             accepting,
@@ -75,7 +76,7 @@ impl Constraint {
     }
 
     /// The same with this mark.
-    pub fn marked(self, mark: u16) -> Constraint {
+    pub fn marked(self, mark: Number) -> Constraint {
         Constraint { mark, ..self }
     }
 
@@ -140,32 +141,32 @@ impl Constraint {
     }
 
     /// The word has roles of these owners alone.
-    pub fn owned_by(owners: &[u16]) -> Constraint {
+    pub fn owned_by(owners: &[Number]) -> Constraint {
         let edges = owners.iter().map(|&owner| any_of(0, owner, 0));
         Constraint::new(1, edges.collect())
     }
 
     /// The word has roles of an owner, and from some place on those of another
     /// alone; there may be none of either.
-    pub fn handed_over(owner: u16, next: u16) -> Constraint {
+    pub fn handed_over(owner: Number, next: Number) -> Constraint {
         let edges = [any_of(0, owner, 0), any_of(0, next, 1), any_of(1, next, 1)];
         Constraint::new(1 + 2, edges.to_vec())
     }
 
     /// The word begins with a role of an owner.
-    pub fn first_of(owner: u16) -> Constraint {
+    pub fn first_of(owner: Number) -> Constraint {
         Constraint::new(2, vec![any_of(0, owner, 1), every(1, 1)])
     }
 
     /// The word ends with a role of an owner.
-    pub fn last_of(owner: u16) -> Constraint {
+    pub fn last_of(owner: Number) -> Constraint {
         Constraint::new(2, vec![every(0, 0), any_of(0, owner, 1)])
     }
 
     /// The word has at most so many roles, 15 at the very most.
-    pub fn at_most(roles: u16) -> Constraint {
+    pub fn at_most(roles: Number) -> Constraint {
         let edges = (0..roles).map(|state| every(state, state + 1));
-        Constraint::new(u16::MAX, edges.collect())
+        Constraint::new(EVERY_STATE, edges.collect())
     }
 
     /// The word has an even number of roles, or an odd one.
@@ -242,10 +243,10 @@ impl Constraint {
 
     /// The same automaton with other states in the place of its own.
     fn renamed(&self, random: &mut Random) -> Constraint {
-        let mut names: Vec<u16> = (0..=LAST_STATE).collect();
+        let mut names: Vec<Number> = (0..=LAST_STATE).collect();
         random.shuffle(&mut names);
-        let name = |state: u16| names[usize::from(state)];
-        let set = |states: u16| {
+        let name = |state: Number| names[state as usize];
+        let set = |states: Number| {
             let named = (0..=LAST_STATE).filter(|state| (states >> state) & 1 == 1);
             named.map(|state| 1 << name(state)).sum()
         };
@@ -263,15 +264,15 @@ impl Constraint {
 
 /// Adds an automaton to a table and tells its number, if there is room. Its
 /// edges come to stand among those of the others.
-pub fn add(random: &mut Random, records: &mut Records, constraint: &Constraint) -> Option<u16> {
+pub fn add(random: &mut Random, records: &mut Records, constraint: &Constraint) -> Option<Number> {
     let edges = records.edges.len() + constraint.edges.len();
     let limits = Head::LIMITS;
-    if records.head().automata >= limits.automata || edges > usize::from(limits.edges) {
+    if records.head().automata >= limits.automata || edges > limits.edges as usize {
         return None;
     }
     let automaton = [constraint.starting, constraint.accepting, constraint.mark];
     records.automata.push(automaton);
-    let number = records.automata.len() as u16;
+    let number = records.automata.len() as Number;
     for &[from, label, owner, name, to] in &constraint.edges {
         let edge: EdgeRecord = [number, from, label, owner, name, to];
         let place = random.below(records.edges.len() + 1);
@@ -314,7 +315,7 @@ pub fn attach(random: &mut Random, records: &mut Records) {
 
 /// Adds edges between any two states until there are so many. Most of them
 /// are never taken, but they give the others higher numbers.
-fn fill(random: &mut Random, records: &mut Records, roles: &[Role], edges: u16) {
+fn fill(random: &mut Random, records: &mut Records, roles: &[Role], edges: Number) {
     let automata = records.head().automata;
     while records.head().edges < edges {
         let automaton = random.between(1, automata);

@@ -11,6 +11,7 @@ use crate::generate::{marks, policies, valid};
 use crate::query::{Query, DEEPEST};
 use crate::random::Random;
 use crate::records::{CredentialRecord, Head, Records};
+use crate::Number;
 
 /// A wallet of this kind, with one automaton or two.
 pub fn made_up(random: &mut Random) -> Wallet {
@@ -18,7 +19,7 @@ pub fn made_up(random: &mut Random) -> Wallet {
     let parts = random.between(2, 4);
     let names = policies::distinct(random, parts + 1);
     let (name, parts) = names.split_first().expect("a name for the goal");
-    let nexts = (2..=parts.len() as u16).chain([0]);
+    let nexts = (2..=parts.len() as Number).chain([0]);
     let cells = parts.iter().zip(nexts);
     let mut records = Records {
         credentials: credentials(random, principal, owner, *name, parts),
@@ -44,10 +45,10 @@ pub fn made_up(random: &mut Random) -> Wallet {
 /// in any order.
 fn credentials(
     random: &mut Random,
-    principal: u16,
-    owner: u16,
-    name: u16,
-    parts: &[u16],
+    principal: Number,
+    owner: Number,
+    name: Number,
+    parts: &[Number],
 ) -> Vec<CredentialRecord> {
     let mut credentials = vec![[owner, name, 4, 1, 0, 0]];
     for &part in parts {
@@ -58,7 +59,7 @@ fn credentials(
             }
         }
     }
-    credentials.truncate(usize::from(Head::LIMITS.credentials));
+    credentials.truncate(Head::LIMITS.credentials as usize);
     random.shuffle(&mut credentials);
     credentials
 }

@@ -7,12 +7,13 @@ use crate::generate::places::{fields, Field, Place};
 use crate::random::Random;
 use crate::records::{Head, Records};
 use crate::sorts::HIGHEST;
+use crate::Number;
 
 /// A table, and the one place where it was damaged.
 #[derive(Clone, Debug, PartialEq, Eq)]
 pub struct Damaged {
     /// The numbers of the table.
-    pub table: Vec<u16>,
+    pub table: Vec<Number>,
     /// Where it was damaged.
     pub place: Place,
 }
@@ -21,8 +22,8 @@ pub struct Damaged {
 /// beyond, its own value and its neighbours, its own value with a high bit
 /// added, for a cell's next also the numbers about its own, and where only 0 is
 /// allowed also the highest principal or name.
-pub fn values(field: Field, own: u16) -> Vec<u16> {
-    let mut values = vec![0, 1, field.limit, u16::MAX];
+pub fn values(field: Field, own: Number) -> Vec<Number> {
+    let mut values = vec![0, 1, field.limit, Number::MAX];
     values.push(field.limit.saturating_add(1));
     values.extend([own.saturating_sub(1), own.saturating_add(1)]);
     values.extend([own ^ 256, own ^ 0x8000]);
@@ -50,7 +51,7 @@ pub fn every_field(records: &Records) -> impl Iterator<Item = Damaged> + '_ {
 }
 
 /// The table with one field changed.
-fn with_value(whole: &[u16], field: Field, value: u16) -> Damaged {
+fn with_value(whole: &[Number], field: Field, value: Number) -> Damaged {
     let mut table = whole.to_vec();
     table[field.index] = value;
     Damaged {
@@ -73,16 +74,14 @@ pub fn every_length(records: &Records) -> impl Iterator<Item = Damaged> {
 
 /// The table cut, or lengthened with numbers of its own from the front on, to
 /// this length.
-fn resized(whole: &[u16], length: usize) -> Vec<u16> {
+fn resized(whole: &[Number], length: usize) -> Vec<Number> {
     whole.iter().cycle().take(length).copied().collect()
 }
 
 /// For each count of the head, the table with more such records than allowed,
 /// and a length that fits them. There must be a record of each sort.
 pub fn overfull(records: &Records, more: usize) -> Vec<Damaged> {
-    let counts = Head::LIMITS
-        .numbers()
-        .map(|limit| usize::from(limit) + more);
+    let counts = Head::LIMITS.numbers().map(|limit| limit as usize + more);
     let mut tables = vec![records.clone(); 4];
     grow(&mut tables[0].credentials, counts[0]);
     grow(&mut tables[1].cells, counts[1]);
@@ -176,8 +175,8 @@ pub fn marks(random: &mut Random, records: &Records) -> Option<Damaged> {
         return None;
     }
     for _ in 0..random.between(1, 3) {
-        let wrong = random.between(2, u16::MAX);
-        let mark = *random.pick(&[2, 256, u16::MAX, wrong]);
+        let wrong = random.between(2, Number::MAX);
+        let mark = *random.pick(&[2, 256, Number::MAX, wrong]);
         records.automata[random.below(automata)][2] = mark;
     }
     Some(Damaged {
@@ -188,7 +187,7 @@ pub fn marks(random: &mut Random, records: &Records) -> Option<Damaged> {
 
 /// A table made of these records by any of the damages here, or noise in its
 /// place. Some damages leave a table accepted.
-pub fn any(random: &mut Random, records: &Records) -> Vec<u16> {
+pub fn any(random: &mut Random, records: &Records) -> Vec<Number> {
     match random.below(16) {
         0 => noise::table(random),
         1 => noise::stump(random),
@@ -209,7 +208,7 @@ pub fn any(random: &mut Random, records: &Records) -> Vec<u16> {
 
 /// The records with several fields, anywhere behind the head, given one of
 /// their values each.
-pub fn scattered(random: &mut Random, records: &Records) -> Vec<u16> {
+pub fn scattered(random: &mut Random, records: &Records) -> Vec<Number> {
     let mut table = records.numbers();
     let fields = fields(records).split_off(4);
     for field in fields {
@@ -223,7 +222,7 @@ pub fn scattered(random: &mut Random, records: &Records) -> Vec<u16> {
 /// A table with two things wrong, and the refusals of each of them, the lower
 /// first. Since checks go row by row, and that for 17 comes last, the table is
 /// refused with the lower.
-pub fn pair(random: &mut Random, records: &Records) -> (Vec<u16>, [u32; 2]) {
+pub fn pair(random: &mut Random, records: &Records) -> (Vec<Number>, [u32; 2]) {
     let mut rows = possible_rows(records);
     let one = rows.swap_remove(random.below(rows.len()));
     let other = rows.swap_remove(random.below(rows.len()));
@@ -250,7 +249,7 @@ fn possible_rows(records: &Records) -> Vec<u32> {
 
 /// The table with a damage for each of these refusals. Chains come first,
 /// since they are linked anew; the length comes last, since it moves nothing.
-fn with_rows(random: &mut Random, records: &Records, rows: &[u32]) -> Vec<u16> {
+fn with_rows(random: &mut Random, records: &Records, rows: &[u32]) -> Vec<Number> {
     let mut records = records.clone();
     if rows.contains(&6) {
         let length = wrong_chain_length(random, records.head().cells);
@@ -265,7 +264,7 @@ fn with_rows(random: &mut Random, records: &Records, rows: &[u32]) -> Vec<u16> {
 }
 
 /// 1, or 5 to 8 if there are so many cells.
-fn wrong_chain_length(random: &mut Random, cells: u16) -> u16 {
+fn wrong_chain_length(random: &mut Random, cells: Number) -> Number {
     let length = *random.pick(&[1, 5, 6, 7, 8]);
     if length <= cells {
         length
@@ -276,7 +275,7 @@ fn wrong_chain_length(random: &mut Random, cells: u16) -> u16 {
 
 /// Gives a value out of range to a field whose damage leads to this refusal.
 /// Refusals 1, 3 and 6 come from no single value: nothing is done for them.
-fn out_of_range(random: &mut Random, records: &Records, row: u32, table: &mut [u16]) {
+fn out_of_range(random: &mut Random, records: &Records, row: u32, table: &mut [Number]) {
     let there: Vec<Field> = fields(records)
         .into_iter()
         .filter(|field| field.place.refusals().first() == Some(&row))
@@ -285,7 +284,7 @@ fn out_of_range(random: &mut Random, records: &Records, row: u32, table: &mut [u
         return;
     }
     let field = random_field(random, &there);
-    table[field.index] = *random.pick(&[field.limit + 1, u16::MAX]);
+    table[field.index] = *random.pick(&[field.limit + 1, Number::MAX]);
 }
 
 /// A length that leads to the first or third refusal if it is asked for, or

@@ -16,18 +16,19 @@ use crate::generate::wallets::Wallet;
 use crate::query::DEEPEST;
 use crate::random::Random;
 use crate::records::{CellRecord, CredentialRecord, Head, Records};
+use crate::Number;
 
 /// The names of the roles on which the goal rests, and of those in which the ways
 /// end. All of them are the owner's, but for linked ones.
-const PARTS: [u16; 3] = [2, 3, 4];
-const ENDS: [u16; 4] = [5, 6, 7, 8];
+const PARTS: [Number; 3] = [2, 3, 4];
+const ENDS: [Number; 4] = [5, 6, 7, 8];
 /// The name of the role of those who are middles, and of their linked roles.
-const LINKING: u16 = 9;
-const LINKED: u16 = 10;
+const LINKING: Number = 9;
+const LINKED: Number = 10;
 /// The principals who are middles.
-const MIDDLES: [u16; 2] = [2, 3];
+const MIDDLES: [Number; 2] = [2, 3];
 /// There are so many ways from the parts, at the least and at the most.
-const WAYS: [u16; 2] = [2, 7];
+const WAYS: [Number; 2] = [2, 7];
 
 /// A wallet of this kind. At least one automaton of each mark is attached to a
 /// credential.
@@ -98,13 +99,13 @@ struct Draft {
     credentials: Vec<CredentialRecord>,
     cells: Vec<CellRecord>,
     /// The names of the roles on which something rests so far.
-    asked: Vec<u16>,
+    asked: Vec<Number>,
 }
 
 impl Draft {
     /// The goal rests on two to four parts, and now and then on one by itself.
     fn goal(&mut self, random: &mut Random) {
-        let parts: Vec<u16> = (0..random.between(2, 4))
+        let parts: Vec<Number> = (0..random.between(2, 4))
             .map(|_| *random.pick(&PARTS))
             .collect();
         self.in_every(GOAL, &parts);
@@ -117,7 +118,7 @@ impl Draft {
     /// A way from a part that has been asked for: to an end, to two of them, to
     /// another part, by a middle; or the member is there.
     fn way(&mut self, random: &mut Random) {
-        let parts: Vec<u16> = self.asked_among(&PARTS);
+        let parts: Vec<Number> = self.asked_among(&PARTS);
         let part = *random.pick(&parts);
         let [end, other] = [0; 2].map(|_| *random.pick(&ENDS));
         match random.below(10) {
@@ -130,7 +131,7 @@ impl Draft {
     }
 
     /// Kind 3, by one or both middles.
-    fn linked(&mut self, random: &mut Random, part: u16) {
+    fn linked(&mut self, random: &mut Random, part: Number) {
         self.credentials.push([OWNER, part, 3, LINKING, LINKED, 0]);
         let one = *random.pick(&MIDDLES);
         for middle in MIDDLES {
@@ -160,31 +161,31 @@ impl Draft {
 
     /// The wallet, without automata.
     fn finish(mut self) -> Wallet {
-        self.credentials.truncate(Head::LIMITS.credentials.into());
+        self.credentials.truncate(Head::LIMITS.credentials as usize);
         from_records(self.credentials, self.cells)
     }
 
     /// Those of some names that have been asked for.
-    fn asked_among(&self, names: &[u16]) -> Vec<u16> {
+    fn asked_among(&self, names: &[Number]) -> Vec<Number> {
         let names = names.iter().copied();
         names.filter(|name| self.asked.contains(name)).collect()
     }
 
     /// Kind 1.
-    fn member(&mut self, owner: u16, name: u16, member: u16) {
+    fn member(&mut self, owner: Number, name: Number, member: Number) {
         self.credentials.push([owner, name, 1, member, 0, 0]);
     }
 
     /// Kind 2.
-    fn one_of(&mut self, name: u16, other: u16) {
+    fn one_of(&mut self, name: Number, other: Number) {
         self.credentials.push([OWNER, name, 2, OWNER, other, 0]);
         self.asked.push(other);
     }
 
     /// Kind 4.
-    fn in_every(&mut self, name: u16, parts: &[u16]) {
-        let first = self.cells.len() as u16 + 1;
-        let last = self.cells.len() as u16 + parts.len() as u16;
+    fn in_every(&mut self, name: Number, parts: &[Number]) {
+        let first = self.cells.len() as Number + 1;
+        let last = self.cells.len() as Number + parts.len() as Number;
         self.credentials.push([OWNER, name, 4, first, 0, 0]);
         let nexts = (first + 1..=last).chain([0]);
         let cells = parts.iter().zip(nexts);
@@ -218,7 +219,7 @@ fn attach(random: &mut Random, wallet: &mut Wallet, mut constraints: Vec<Demande
         };
         constraints.push((credential, constraint(random, &roles).marked(mark)));
     }
-    constraints.truncate(Head::LIMITS.automata.into());
+    constraints.truncate(Head::LIMITS.automata as usize);
     random.shuffle(&mut constraints);
     for (credential, constraint) in constraints {
         let number = constraints::add(random, &mut wallet.records, &constraint);
@@ -231,13 +232,13 @@ fn attach(random: &mut Random, wallet: &mut Wallet, mut constraints: Vec<Demande
 /// credentials, with the constraints.
 fn around(random: &mut Random, records: &Records) -> Vec<Demanded> {
     let numbered = records.credentials.iter().enumerate();
-    let is_end = |name: u16| ENDS.contains(&name);
+    let is_end = |name: Number| ENDS.contains(&name);
     let ends = numbered.filter(|(_, &[_, name, ..])| is_end(name));
     let mut ends: Vec<(usize, Role)> = ends
         .map(|(index, &[owner, name, ..])| (index, (owner, name)))
         .collect();
     random.shuffle(&mut ends);
-    ends.truncate(random.between(2, 3).into());
+    ends.truncate(random.between(2, 3) as usize);
     let next = ends.iter().cycle().skip(1);
     let pairs = ends.iter().zip(next);
     pairs

@@ -14,22 +14,23 @@ use crate::generate::wallets::Wallet;
 use crate::query::{Query, DEEPEST};
 use crate::random::Random;
 use crate::records::{CellRecord, CredentialRecord, Head, Records};
+use crate::Number;
 
 /// The names of the owner's roles: the goal, the roles that it rests on, the
 /// fork, the role of the middles; and what a middle calls its own role.
-const GOAL: u16 = 1;
-const PARTS: u16 = 2;
-const FORK: u16 = 6;
-const LINKING: u16 = 7;
-const LINKED: u16 = 8;
+const GOAL: Number = 1;
+const PARTS: Number = 2;
+const FORK: Number = 6;
+const LINKING: Number = 7;
+const LINKED: Number = 8;
 /// The name of the first role to which a credential of the fork leads.
-const ENDS: u16 = 9;
+const ENDS: Number = 9;
 /// The first middle's number. No other principal but the owner and the member
 /// is there.
-const MIDDLES: u16 = 2;
+const MIDDLES: Number = 2;
 
 /// How many levels a derivation has: the goal, a part, the fork, an end.
-const LEVELS: u16 = 4;
+const LEVELS: Number = 4;
 
 /// A wallet of this kind. Seldom the constraint demands no more than some word.
 pub fn made_up(random: &mut Random) -> Wallet {
@@ -77,13 +78,13 @@ fn is_by_middle(end: &Role) -> bool {
 }
 
 /// The names of the parts.
-fn names(parts: u16) -> impl Iterator<Item = u16> {
+fn names(parts: Number) -> impl Iterator<Item = Number> {
     PARTS..PARTS + parts
 }
 
 /// The goal's credential, those of the parts, those of the ways, and the
 /// member in every end.
-fn credentials(parts: u16, ends: &[Role]) -> Vec<CredentialRecord> {
+fn credentials(parts: Number, ends: &[Role]) -> Vec<CredentialRecord> {
     let mut credentials = vec![[OWNER, GOAL, 4, 1, 0, 0]];
     credentials.extend(names(parts).map(|part| [OWNER, part, 2, OWNER, FORK, 0]));
     if ends.iter().any(is_by_middle) {
@@ -101,13 +102,13 @@ fn credentials(parts: u16, ends: &[Role]) -> Vec<CredentialRecord> {
 
 /// The goal's chain: every part, and if there is room, now and then one of them
 /// once more.
-fn cells(random: &mut Random, parts: u16) -> Vec<CellRecord> {
-    let mut names: Vec<u16> = names(parts).collect();
+fn cells(random: &mut Random, parts: Number) -> Vec<CellRecord> {
+    let mut names: Vec<Number> = names(parts).collect();
     if parts < 4 && random.one_in(2) {
         names.push(*random.pick(&names));
     }
     random.shuffle(&mut names);
-    let nexts = (2..=names.len() as u16).chain([0]);
+    let nexts = (2..=names.len() as Number).chain([0]);
     let cells = names.into_iter().zip(nexts);
     cells.map(|(name, next)| [OWNER, name, next]).collect()
 }
@@ -116,7 +117,7 @@ fn cells(random: &mut Random, parts: u16) -> Vec<CellRecord> {
 /// uses. A middle's branch ends in the linking role, which is right everywhere.
 /// Half of the time the constraint goes by owners: a middle owns one role alone,
 /// and all others are the owner's, so it says the same.
-fn constrain(random: &mut Random, records: &mut Records, parts: u16, ends: &[Role]) {
+fn constrain(random: &mut Random, records: &mut Records, parts: Number, ends: &[Role]) {
     let by_owner = random.one_in(2);
     let matched = |end: &Role| match by_owner && is_by_middle(end) {
         true => owned(end.0),
@@ -132,6 +133,6 @@ fn constrain(random: &mut Random, records: &mut Records, parts: u16, ends: &[Rol
     let between = if by_owner { owned(OWNER) } else { EVERY };
     let constraint = Constraint::last_by_second(between, &ways);
     let number = constraints::add(random, records, &constraint);
-    let used = random.below(1 + usize::from(parts));
+    let used = random.below(1 + parts as usize);
     records.credentials[used][5] = number.expect("there is room for an automaton");
 }

@@ -4,6 +4,7 @@ use crate::derivation::NODE;
 use crate::generate::claims::Claim;
 use crate::generate::wrongs::{Part, Value, Wrong};
 use crate::sorts::HIGHEST;
+use crate::Number;
 
 /// Every number in turn with every value that is worth trying.
 pub fn change(claim: &Claim) -> impl Iterator<Item = (Claim, Wrong)> + '_ {
@@ -25,11 +26,11 @@ pub fn change(claim: &Claim) -> impl Iterator<Item = (Claim, Wrong)> + '_ {
 /// The values that a number is given: the ends of the ranges and what lies
 /// beyond, its neighbours, itself with a high bit changed, and every number
 /// that a credential can have.
-fn values(own: u16) -> Vec<(u16, Value)> {
+fn values(own: Number) -> Vec<(Number, Value)> {
     let mut values = vec![(0, Value::Zero)];
     let neighbours = [own.wrapping_sub(1), own.wrapping_add(1)];
     values.extend(neighbours.map(|number| (number, Value::Neighbour)));
-    let numbers = [HIGHEST, HIGHEST + 1, u16::MAX];
+    let numbers = [HIGHEST, HIGHEST + 1, Number::MAX];
     values.extend(numbers.map(|number| (number, Value::Number(number))));
     values.extend([own ^ 256, own ^ 0x8000].map(|number| (number, Value::Any)));
     values.extend((1..=20).map(|number| (number, Value::Any)));
@@ -57,7 +58,7 @@ pub fn longer(claim: &Claim) -> impl Iterator<Item = (Claim, Wrong)> + '_ {
     more.into_iter().flat_map(move |more| {
         let length = claim.record.len() + more;
         let again = claim.record.iter().cycle().take(length).copied();
-        let again: Vec<u16> = again.collect();
+        let again: Vec<Number> = again.collect();
         let mut zeros = claim.record.clone();
         zeros.resize(length, 0);
         let wrong = match more {
@@ -75,7 +76,7 @@ pub fn longer(claim: &Claim) -> impl Iterator<Item = (Claim, Wrong)> + '_ {
 }
 
 /// Every depth limit that is too low for a derivation of so many levels.
-pub fn too_deep(claim: &Claim, levels: u16) -> impl Iterator<Item = (Claim, Wrong)> + '_ {
+pub fn too_deep(claim: &Claim, levels: Number) -> impl Iterator<Item = (Claim, Wrong)> + '_ {
     (1..levels).map(|depth| {
         let mut claim = claim.clone();
         claim.query.depth = depth;

@@ -15,6 +15,7 @@ use crate::query::DEEPEST;
 use crate::random::Random;
 use crate::records::{Head, Records};
 use crate::sorts::HIGHEST;
+use crate::Number;
 
 /// A family of wallets.
 #[derive(Clone, Copy, Debug, PartialEq, Eq, PartialOrd, Ord)]
@@ -58,7 +59,7 @@ impl Family {
 }
 
 /// A wallet of a family with at most so many credentials, 8 to 20.
-pub fn made_up(random: &mut Random, family: Family, most: u16) -> Wallet {
+pub fn made_up(random: &mut Random, family: Family, most: Number) -> Wallet {
     let mut wallet = match family {
         Family::Barred => barred(random, most),
         Family::Constrained => constrained(random, most),
@@ -75,7 +76,7 @@ pub fn made_up(random: &mut Random, family: Family, most: u16) -> Wallet {
 }
 
 /// A wallet of a family that has no constraints.
-fn free(random: &mut Random, family: Family, most: u16) -> Wallet {
+fn free(random: &mut Random, family: Family, most: Number) -> Wallet {
     match family {
         Family::Ladder => shapes::ladder(random.between(2, most / 4)),
         Family::Rungs => {
@@ -86,13 +87,13 @@ fn free(random: &mut Random, family: Family, most: u16) -> Wallet {
         Family::EqualChoices => {
             let parts = random.between(2, 4);
             let each = random.between(1, ((most - 1) / parts).min(5));
-            shapes::choices(&vec![each; parts.into()], *random.pick(&Place::ALL))
+            shapes::choices(&vec![each; parts as usize], *random.pick(&Place::ALL))
         }
         Family::Choices => shapes::choices(&definers(random, most), *random.pick(&Place::ALL)),
         Family::Layers => {
             let mut wallet = shapes::layers(random.between(1, (most - 1) / 4));
             // What is left out are credentials that are there twice.
-            wallet.records.credentials.truncate(most.into());
+            wallet.records.credentials.truncate(most as usize);
             wallet
         }
         _ => shapes::ways(&ways(random, most), *random.pick(&Way::ALL)),
@@ -101,9 +102,9 @@ fn free(random: &mut Random, family: Family, most: u16) -> Wallet {
 
 /// How many definers each of some roles has, 1 to 5, so many in all at most
 /// with the chain's credential.
-fn definers(random: &mut Random, most: u16) -> Vec<u16> {
-    let mut definers = vec![1; random.between(2, 4).into()];
-    let room = most - 1 - definers.len() as u16;
+fn definers(random: &mut Random, most: Number) -> Vec<Number> {
+    let mut definers = vec![1; random.between(2, 4) as usize];
+    let room = most - 1 - definers.len() as Number;
     for _ in 0..random.between(0, room) {
         let definers = random.pick_mut(&mut definers);
         *definers = (*definers + 1).min(5);
@@ -112,7 +113,7 @@ fn definers(random: &mut Random, most: u16) -> Vec<u16> {
 }
 
 /// How many credentials each of some ways has: equally many, or any numbers.
-fn ways(random: &mut Random, most: u16) -> Vec<u16> {
+fn ways(random: &mut Random, most: Number) -> Vec<Number> {
     let each = random.between(1, 5);
     let equal = random.one_in(2);
     let room = match random.one_in(2) {
@@ -122,7 +123,7 @@ fn ways(random: &mut Random, most: u16) -> Vec<u16> {
     let mut ways = vec![each];
     loop {
         let next = if equal { each } else { random.between(1, 5) };
-        if ways.iter().sum::<u16>() + next > room {
+        if ways.iter().sum::<Number>() + next > room {
             return ways;
         }
         ways.push(next);
@@ -131,7 +132,7 @@ fn ways(random: &mut Random, most: u16) -> Vec<u16> {
 
 /// A wallet of another family in which constraints that accept nothing are
 /// attached to some credentials.
-fn barred(random: &mut Random, most: u16) -> Wallet {
+fn barred(random: &mut Random, most: Number) -> Wallet {
     let family = Family::ALL[random.below(Family::FREE)];
     let mut wallet = free(random, family, most);
     for _ in 0..random.between(1, 3) {
@@ -146,20 +147,20 @@ fn barred(random: &mut Random, most: u16) -> Wallet {
 
 /// Ways to the goal, of which some have a constraint on one of their
 /// credentials.
-fn constrained(random: &mut Random, most: u16) -> Wallet {
+fn constrained(random: &mut Random, most: Number) -> Wallet {
     let ways = ways(random, most);
     let mut wallet = shapes::ways(&ways, *random.pick(&Way::ALL));
     let roles = constraints::defined(&wallet.records);
     let mut first = 0;
-    for &each in ways.iter().take(Head::LIMITS.automata.into()) {
+    for &each in ways.iter().take(Head::LIMITS.automata as usize) {
         // The first way has one in any case.
         if first == 0 || random.one_in(2) {
             let constraint = Constraint::any(random, &roles);
             let number = constraints::add(random, &mut wallet.records, &constraint);
-            let credential = first + random.below(each.into());
+            let credential = first + random.below(each as usize);
             wallet.records.credentials[credential][5] = number.unwrap_or(0);
         }
-        first += usize::from(each);
+        first += each as usize;
     }
     marks::draw(random, &mut wallet.records);
     wallet
@@ -168,12 +169,12 @@ fn constrained(random: &mut Random, most: u16) -> Wallet {
 /// Gives the principals of a wallet other numbers, and its names too.
 pub fn rename(random: &mut Random, wallet: &mut Wallet) {
     let [principals, names] = [0; 2].map(|_| {
-        let mut numbers: Vec<u16> = (1..=HIGHEST).collect();
+        let mut numbers: Vec<Number> = (1..=HIGHEST).collect();
         random.shuffle(&mut numbers);
         numbers
     });
-    let principal = |number: &mut u16| *number = principals[usize::from(*number) - 1];
-    let name = |number: &mut u16| *number = names[usize::from(*number) - 1];
+    let principal = |number: &mut Number| *number = principals[*number as usize - 1];
+    let name = |number: &mut Number| *number = names[*number as usize - 1];
     rename_records(&mut wallet.records, &principal, &name);
     principal(&mut wallet.query.principal);
     principal(&mut wallet.query.owner);
@@ -181,7 +182,11 @@ pub fn rename(random: &mut Random, wallet: &mut Wallet) {
 }
 
 /// Gives other numbers to all principals and names of a table.
-fn rename_records(records: &mut Records, principal: &impl Fn(&mut u16), name: &impl Fn(&mut u16)) {
+fn rename_records(
+    records: &mut Records,
+    principal: &impl Fn(&mut Number),
+    name: &impl Fn(&mut Number),
+) {
     for [owner, role, kind, first, second, _] in &mut records.credentials {
         principal(owner);
         name(role);

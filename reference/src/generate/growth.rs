@@ -8,6 +8,7 @@ use crate::random::Random;
 use crate::records::Records;
 use crate::sorts::{Goal, Principal, Role};
 use crate::table::{Members, Table};
+use crate::Number;
 
 /// A table, and what can be derived in it.
 #[derive(Clone, Debug)]
@@ -22,13 +23,13 @@ pub struct Policy {
     /// The fewest levels in which a goal can be derived. A derivation of so few
     /// levels has no goal twice on a branch: what lies between the two could be
     /// left out. Other goals cannot be derived.
-    heights: BTreeMap<Goal, u16>,
+    heights: BTreeMap<Goal, Number>,
 }
 
 /// A way of proving a goal.
 struct Way {
-    credential: u16,
-    middle: u16,
+    credential: Number,
+    middle: Number,
     premises: Vec<Goal>,
 }
 
@@ -36,20 +37,20 @@ struct Way {
 #[derive(Clone, Copy, Debug, PartialEq, Eq)]
 pub struct Node {
     /// The number of the credential.
-    pub credential: u16,
+    pub credential: Number,
     /// The middle.
-    pub middle: u16,
+    pub middle: Number,
     /// What is derived at the node.
     pub goal: Goal,
     /// The node's level.
-    pub level: u16,
+    pub level: Number,
 }
 
 /// How a derivation is to grow.
 #[derive(Clone, Copy, Debug, PartialEq, Eq)]
 pub struct Wish {
     /// The depth limit.
-    pub depth: u16,
+    pub depth: Number,
     /// Once there are so many nodes, the lowest way of proving each further
     /// goal is preferred.
     pub nodes: usize,
@@ -83,7 +84,7 @@ impl Policy {
     }
 
     /// Every goal that can be derived, and the fewest levels that it takes.
-    pub fn goals(&self) -> Vec<(Goal, u16)> {
+    pub fn goals(&self) -> Vec<(Goal, Number)> {
         self.heights
             .iter()
             .map(|(&goal, &height)| (goal, height))
@@ -96,7 +97,7 @@ impl Policy {
     }
 
     /// The goals that can be derived in so many levels but not in fewer.
-    fn derivable(&self, levels: u16) -> Vec<Goal> {
+    fn derivable(&self, levels: Number) -> Vec<Goal> {
         let credentials = self.table.credentials.iter();
         let roles: BTreeSet<Role> = credentials.map(|credential| credential.role).collect();
         let mut goals = Vec::new();
@@ -113,9 +114,9 @@ impl Policy {
 
     /// The ways of proving a goal whose premises can all be derived, each in
     /// one level less than these.
-    fn ways(&self, goal: Goal, levels: u16) -> Vec<Way> {
+    fn ways(&self, goal: Goal, levels: Number) -> Vec<Way> {
         let mut ways = Vec::new();
-        for (number, credential) in (1u16..).zip(&self.table.credentials) {
+        for (number, credential) in (1..).zip(&self.table.credentials) {
             if credential.role != goal.role {
                 continue;
             }
@@ -135,7 +136,7 @@ impl Policy {
     }
 
     /// The middles worth trying with a credential.
-    fn middles(&self, kind: &Members) -> Vec<u16> {
+    fn middles(&self, kind: &Members) -> Vec<Number> {
         match kind {
             Members::Linked(..) => self.members.iter().map(|member| member.number()).collect(),
             _ => vec![0],
@@ -143,7 +144,7 @@ impl Policy {
     }
 
     /// The fewest levels in which a goal can be derived.
-    fn height(&self, goal: Goal) -> Option<u16> {
+    fn height(&self, goal: Goal) -> Option<Number> {
         self.heights.get(&goal).copied()
     }
 
@@ -188,7 +189,7 @@ impl Growth<'_> {
     /// if none is found.
     fn goal(&mut self, random: &mut Random, goal: Goal, above: &mut Vec<Goal>) -> bool {
         let repeated = above.contains(&goal) && !self.wish.repeats;
-        let level = above.len() as u16 + 1;
+        let level = above.len() as Number + 1;
         if repeated || level > self.wish.depth || self.trials == 0 {
             return false;
         }
@@ -215,7 +216,7 @@ impl Growth<'_> {
     }
 
     /// The ways of proving a goal at a level, the preferred ones first.
-    fn ways(&self, random: &mut Random, goal: Goal, level: u16) -> Vec<Way> {
+    fn ways(&self, random: &mut Random, goal: Goal, level: Number) -> Vec<Way> {
         let levels = self.wish.depth - level + 1;
         let mut ways = self.policy.ways(goal, levels);
         random.shuffle(&mut ways);

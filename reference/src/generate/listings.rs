@@ -12,12 +12,13 @@ use crate::generate::{queries, valid, wallets};
 use crate::query::{Query, DEEPEST};
 use crate::random::Random;
 use crate::records::{Head, Records};
+use crate::Number;
 
 /// What a listing call is given, but for its buffer.
 #[derive(Clone, Debug, PartialEq, Eq)]
 pub struct Listing {
     /// The table's numbers.
-    pub table: Vec<u16>,
+    pub table: Vec<Number>,
     /// The query.
     pub query: Query,
     /// Where they come from.
@@ -160,7 +161,7 @@ fn role_of_any(random: &mut Random) -> (Records, Query) {
         [query.owner, query.name, ..] = *random.pick(&records.credentials);
     }
     let members = records.credentials.iter().filter(|record| record[2] == 1);
-    let members: Vec<u16> = members.map(|record| record[3]).collect();
+    let members: Vec<Number> = members.map(|record| record[3]).collect();
     if !members.is_empty() {
         query.principal = *random.pick(&members);
     }

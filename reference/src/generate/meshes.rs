@@ -20,11 +20,12 @@ use crate::records::{AutomatonRecord, EdgeRecord, Head, Records};
 use crate::sorts::{self, HIGHEST};
 use crate::table::{Table, LAST_STATE};
 use crate::words::{comply, words};
+use crate::Number;
 
 /// So many derivations of the query are grown.
 const DERIVATIONS: usize = 6;
 /// How many automata there are.
-const AUTOMATA: u16 = Head::LIMITS.automata;
+const AUTOMATA: Number = Head::LIMITS.automata;
 
 /// Gives eight automata to a wallet that has none, attached to some of its
 /// credentials. The first derivation that is grown complies, if there is room for
@@ -34,7 +35,7 @@ pub fn attach(random: &mut Random, wallet: &mut Wallet) {
     let records = &mut wallet.records;
     records.automata = (0..AUTOMATA).map(|_| mesh.automaton(random)).collect();
     marks::draw_one_in(2, random, records);
-    let seldom = random.between(1, 3).into();
+    let seldom = random.between(1, 3) as usize;
     for credential in &mut records.credentials {
         if random.one_in(seldom) {
             credential[5] = random.between(1, AUTOMATA);
@@ -85,9 +86,9 @@ fn written_words(derivation: &Derivation) -> Vec<Vec<Role>> {
 /// Automata in the making.
 struct Mesh {
     /// The states on paths, and those in which all paths begin and end.
-    states: Vec<u16>,
-    first: u16,
-    last: u16,
+    states: Vec<Number>,
+    first: Number,
+    last: Number,
     /// The roles of the table.
     roles: Vec<Role>,
     /// Whether each automaton may have label 4.
@@ -102,9 +103,9 @@ struct Mesh {
 impl Mesh {
     /// No edges yet.
     fn new(random: &mut Random, records: &Records) -> Mesh {
-        let mut states: Vec<u16> = (0..=LAST_STATE).collect();
+        let mut states: Vec<Number> = (0..=LAST_STATE).collect();
         random.shuffle(&mut states);
-        states.truncate(random.between(3, LAST_STATE + 1).into());
+        states.truncate(random.between(3, LAST_STATE + 1) as usize);
         let most = Head::LIMITS.edges;
         let size = match random.below(4) {
             0 => random.between(16, most),
@@ -117,7 +118,7 @@ impl Mesh {
             states,
             roles: constraints::defined(records),
             may_have_4: (0..AUTOMATA).map(|_| random.one_in(2)).collect(),
-            size: size.into(),
+            size: size as usize,
             edges: Vec::new(),
             paths: Vec::new(),
         }
@@ -125,7 +126,7 @@ impl Mesh {
 
     /// An automaton of mark 0: paths are accepted, and perhaps their ends.
     fn automaton(&self, random: &mut Random) -> AutomatonRecord {
-        let mut set = |state: u16| {
+        let mut set = |state: Number| {
             let more = match random.below(3) {
                 0 => 1 << *random.pick(&self.states),
                 _ => 0,
@@ -143,8 +144,8 @@ impl Mesh {
     }
 
     /// What an edge of an automaton on a role may have.
-    fn matched(&self, random: &mut Random, automaton: u16, role: Role) -> Matched {
-        let may_have_4 = self.may_have_4[usize::from(automaton) - 1];
+    fn matched(&self, random: &mut Random, automaton: Number, role: Role) -> Matched {
+        let may_have_4 = self.may_have_4[automaton as usize - 1];
         match random.below(12) {
             0 => EVERY,
             1 | 2 => but(self.similar(random, role)),
@@ -166,7 +167,7 @@ impl Mesh {
     }
 
     /// Gives an automaton a path along a word.
-    fn path(&mut self, random: &mut Random, automaton: u16, word: &[Role]) {
+    fn path(&mut self, random: &mut Random, automaton: Number, word: &[Role]) {
         let mut path = Vec::new();
         let mut from = self.first;
         for (left, &role) in (0..word.len()).rev().zip(word) {
@@ -181,8 +182,8 @@ impl Mesh {
 
     /// An edge of an automaton from a state on a role, by which the path may
     /// end. Half of the time it is one that is there, if there is one.
-    fn edge(&self, random: &mut Random, of: [u16; 2], role: Role, ends: bool) -> EdgeRecord {
-        let leads_on = |to: u16| !ends || to == self.last;
+    fn edge(&self, random: &mut Random, of: [Number; 2], role: Role, ends: bool) -> EdgeRecord {
+        let leads_on = |to: Number| !ends || to == self.last;
         let fits =
             |edge: &&EdgeRecord| edge[..2] == of && edge[2..5] == one(role) && leads_on(edge[5]);
         let there = self.edges.iter().find(fits);
@@ -200,7 +201,7 @@ impl Mesh {
 
     /// Gives an automaton a path that there is, or half of the time all of it
     /// but an edge.
-    fn lend(&mut self, random: &mut Random, automaton: u16) {
+    fn lend(&mut self, random: &mut Random, automaton: Number) {
         let mut path = random.pick(&self.paths).clone();
         if random.one_in(2) {
             path.remove(random.below(path.len()));
@@ -212,7 +213,7 @@ impl Mesh {
     }
 
     /// Gives an automaton an edge between any two states.
-    fn stray(&mut self, random: &mut Random, automaton: u16) {
+    fn stray(&mut self, random: &mut Random, automaton: Number) {
         let role = *random.pick(&self.roles);
         let [label, owner, name] = self.matched(random, automaton, role);
         let [from, to] = [0; 2].map(|_| random.between(0, LAST_STATE));
@@ -222,9 +223,9 @@ impl Mesh {
     /// Gives a path along each word of a derivation to every automaton that it
     /// uses.
     fn accept(&mut self, random: &mut Random, records: &Records, derivation: &Derivation) {
-        let numbered = (1u16..).zip(&records.credentials);
+        let numbered = (1..).zip(&records.credentials);
         let used = numbered.filter(|(number, _)| is_in(*number, derivation.used_set()));
-        let automata: BTreeSet<u16> = used.map(|(_, credential)| credential[5]).collect();
+        let automata: BTreeSet<Number> = used.map(|(_, credential)| credential[5]).collect();
         let words = written_words(derivation);
         for &automaton in automata.range(1..) {
             for word in &words {

@@ -11,6 +11,7 @@ use crate::query::DEEPEST;
 use crate::random::Random;
 use crate::records::CredentialRecord;
 use crate::sorts::{Goal, Principal, HIGHEST};
+use crate::Number;
 
 /// So many nodes at most are searched for two branches that differ.
 const SEARCHED: usize = 2_000;
@@ -40,7 +41,7 @@ pub fn repeated(random: &mut Random, grown: &Grown) -> Option<(Claim, usize)> {
 fn first_repeated(nodes: &[Node]) -> Option<usize> {
     let mut above = Vec::new();
     for (index, node) in nodes.iter().enumerate() {
-        above.truncate(usize::from(node.level) - 1);
+        above.truncate(node.level as usize - 1);
         if above.contains(&node.goal) {
             return Some(index);
         }
@@ -78,8 +79,8 @@ fn credential(
     random: &mut Random,
     grown: &Grown,
     wanted: impl Fn(&CredentialRecord) -> bool,
-) -> Option<u16> {
-    let numbered = (1u16..).zip(&grown.records.credentials);
+) -> Option<Number> {
+    let numbered = (1..).zip(&grown.records.credentials);
     let there = numbered.filter(|&(_, credential)| wanted(credential));
     one(random, there.map(|(number, _)| number).collect())
 }
@@ -94,13 +95,13 @@ fn one<Value: Copy>(random: &mut Random, values: Vec<Value>) -> Option<Value> {
 }
 
 /// A middle that the kind of its credential does not allow.
-pub fn middle_of_kind(random: &mut Random, grown: &Grown, kind: u16) -> Option<Claim> {
+pub fn middle_of_kind(random: &mut Random, grown: &Grown, kind: Number) -> Option<Claim> {
     let index = node(random, grown, |node| grown.kind(node) == kind)?;
     let Node { middle, goal, .. } = grown.nodes[index];
     let mut claim = grown.claim();
     claim.record[NODE * index + 1] = match kind {
-        3 => *random.pick(&[0, HIGHEST + 1, middle + 256, u16::MAX]),
-        _ => *random.pick(&[1, goal.principal.number(), HIGHEST, 256, u16::MAX]),
+        3 => *random.pick(&[0, HIGHEST + 1, middle + 256, Number::MAX]),
+        _ => *random.pick(&[1, goal.principal.number(), HIGHEST, 256, Number::MAX]),
     };
     Some(claim)
 }
@@ -131,7 +132,7 @@ pub fn other_role(random: &mut Random, grown: &Grown) -> Option<Claim> {
     let near = |c: &CredentialRecord| (c[0] == owner) != (c[1] == name);
     let far = |c: &CredentialRecord| c[0] != owner && c[1] != name;
     let number = credential(random, grown, near).or(credential(random, grown, far))?;
-    let kind = grown.records.credentials[usize::from(number) - 1][2];
+    let kind = grown.records.credentials[number as usize - 1][2];
     let mut claim = grown.claim();
     claim.record[NODE * index] = number;
     claim.record[NODE * index + 1] = match kind {
@@ -171,14 +172,14 @@ pub fn other_goal(random: &mut Random, grown: &Grown) -> Option<Claim> {
 }
 
 /// A branch: its roles and credentials from the goal down to a kind 1 node.
-type Branch = Vec<(Role, u16)>;
+type Branch = Vec<(Role, Number)>;
 
 /// Every branch of the derivation, from left to right.
 fn branches(grown: &Grown) -> Vec<Branch> {
     let mut branches = Vec::new();
     let mut branch = Branch::new();
     for node in &grown.nodes {
-        branch.truncate(usize::from(node.level) - 1);
+        branch.truncate(node.level as usize - 1);
         branch.push((written(node.goal), node.credential));
         if grown.kind(node) == 1 {
             branches.push(branch.clone());
@@ -242,9 +243,9 @@ pub fn broken_everywhere<'a>(random: &mut Random, grown: &Grown<'a>) -> Option<G
 /// a word of others.
 fn by_owner(through: &[Branch], others: &[Branch]) -> Option<Constraint> {
     let roles = through.iter().flatten();
-    let owners: BTreeSet<u16> = roles.map(|(role, _)| role.0).collect();
+    let owners: BTreeSet<Number> = roles.map(|(role, _)| role.0).collect();
     let mut other_roles = others.iter().flatten();
     let rejects = other_roles.any(|(role, _)| !owners.contains(&role.0));
-    let owners: Vec<u16> = owners.into_iter().collect();
+    let owners: Vec<Number> = owners.into_iter().collect();
     rejects.then(|| Constraint::owned_by(&owners))
 }

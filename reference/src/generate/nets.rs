@@ -12,12 +12,13 @@ use crate::generate::wallets::Wallet;
 use crate::query::{Query, DEEPEST};
 use crate::random::Random;
 use crate::records::{CellRecord, CredentialRecord, Head, Records};
+use crate::Number;
 
 /// A role rests on some of so many that come next.
 const NEAR: usize = 4;
 
 /// A net of at most so many credentials, 8 to 20.
-pub fn made_up(random: &mut Random, most: u16) -> Wallet {
+pub fn made_up(random: &mut Random, most: Number) -> Wallet {
     let size = random.between(most / 2, most);
     let mut wallet = Draft::new(random, size).finish(random);
     meshes::attach(random, &mut wallet);
@@ -28,7 +29,7 @@ pub fn made_up(random: &mut Random, most: u16) -> Wallet {
 /// A net in the making.
 struct Draft {
     /// Who is asked about.
-    member: u16,
+    member: Number,
     /// The roles, the goal's first.
     roles: Vec<Role>,
     /// How many credentials there are to be.
@@ -39,12 +40,12 @@ struct Draft {
 
 impl Draft {
     /// Every role with its credentials.
-    fn new(random: &mut Random, size: u16) -> Draft {
+    fn new(random: &mut Random, size: Number) -> Draft {
         let roles = roles(random, size);
         let mut draft = Draft {
             member: distinct(random, 1)[0],
             roles,
-            size: size.into(),
+            size: size as usize,
             credentials: Vec::new(),
             cells: Vec::new(),
         };
@@ -81,7 +82,7 @@ impl Draft {
     }
 
     /// Adds a credential without an automaton.
-    fn credential(&mut self, role: Role, kind: u16, first: u16, second: u16) {
+    fn credential(&mut self, role: Role, kind: Number, first: Number, second: Number) {
         let credential = [role.0, role.1, kind, first, second, 0];
         self.credentials.push(credential);
     }
@@ -90,7 +91,7 @@ impl Draft {
     /// 1.
     fn in_every(&mut self, random: &mut Random, role: Role, near: &[Role]) {
         let parts = random.between(2, 3);
-        let first = self.cells.len() as u16 + 1;
+        let first = self.cells.len() as Number + 1;
         if first + parts > Head::LIMITS.cells {
             return self.credential(role, 1, self.member, 0);
         }
@@ -139,15 +140,15 @@ impl Draft {
 }
 
 /// So many different roles at most, in any order.
-fn roles(random: &mut Random, most: u16) -> Vec<Role> {
+fn roles(random: &mut Random, most: Number) -> Vec<Role> {
     let [owners, names] = [0; 2].map(|_| {
         let count = *random.pick(&[2, 3, 4, 5, 5]);
         distinct(random, count)
     });
-    let of = |owner: u16| names.iter().map(move |&name| (owner, name));
+    let of = |owner: Number| names.iter().map(move |&name| (owner, name));
     let mut roles: Vec<Role> = owners.iter().flat_map(|&owner| of(owner)).collect();
     random.shuffle(&mut roles);
     let count = *random.pick(&[4, most / 2, most]);
-    roles.truncate(random.between(count, most).into());
+    roles.truncate(random.between(count, most) as usize);
     roles
 }

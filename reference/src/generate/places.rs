@@ -4,7 +4,8 @@ use std::fmt;
 
 use crate::records::{CredentialRecord, EdgeRecord, Head, Records};
 use crate::sorts::HIGHEST;
-use crate::table::LAST_STATE;
+use crate::table::{EVERY_STATE, LAST_STATE};
+use crate::Number;
 
 /// A kind of field, or another thing that can be wrong with an input.
 #[derive(Clone, Copy, Debug, PartialEq, Eq, PartialOrd, Ord)]
@@ -26,9 +27,9 @@ pub enum Place {
     /// A credential's kind.
     CredentialKind,
     /// The first field of a credential of this kind.
-    CredentialFirst(u16),
+    CredentialFirst(Number),
     /// The second field of a credential of this kind.
-    CredentialSecond(u16),
+    CredentialSecond(Number),
     /// A credential's automaton.
     CredentialAutomaton,
     /// A part cell's principal.
@@ -52,9 +53,9 @@ pub enum Place {
     /// An edge's label.
     EdgeLabel,
     /// The owner of an edge with this label.
-    EdgeOwner(u16),
+    EdgeOwner(Number),
     /// The name of an edge with this label.
-    EdgeName(u16),
+    EdgeName(Number),
     /// The state that an edge enters.
     EdgeTo,
     /// The query's principal.
@@ -172,15 +173,15 @@ pub struct Field {
     /// What it is.
     pub place: Place,
     /// The greatest value that it may have, whatever the others are.
-    pub limit: u16,
+    pub limit: Number,
     /// The number of its record; 0 in the head.
-    pub record: u16,
+    pub record: Number,
 }
 
 /// Every number of the table with these records, in order.
 pub fn fields(records: &Records) -> Vec<Field> {
     let head = records.head();
-    let places: Vec<Vec<(Place, u16)>> = [head_places()]
+    let places: Vec<Vec<(Place, Number)>> = [head_places()]
         .into_iter()
         .chain(
             records
@@ -208,19 +209,19 @@ pub fn fields(records: &Records) -> Vec<Field> {
 
 /// The numbers of the records in the order in which they are written; the
 /// head, which comes first, has 0.
-fn record_numbers(head: Head) -> impl Iterator<Item = u16> {
+fn record_numbers(head: Head) -> impl Iterator<Item = Number> {
     let counts = head.numbers().into_iter();
     [0].into_iter().chain(counts.flat_map(|count| 1..=count))
 }
 
 /// The places and limits of the head's counts.
-fn head_places() -> Vec<(Place, u16)> {
+fn head_places() -> Vec<(Place, Number)> {
     let limits = Head::LIMITS.numbers();
     Place::HEAD.into_iter().zip(limits).collect()
 }
 
 /// The places and limits of a credential's fields.
-fn credential_places(record: &CredentialRecord, head: Head) -> Vec<(Place, u16)> {
+fn credential_places(record: &CredentialRecord, head: Head) -> Vec<(Place, Number)> {
     let kind = record[2];
     let first = if kind == 4 { head.cells } else { HIGHEST };
     let second = if kind == 2 || kind == 3 { HIGHEST } else { 0 };
@@ -235,7 +236,7 @@ fn credential_places(record: &CredentialRecord, head: Head) -> Vec<(Place, u16)>
 }
 
 /// The places and limits of a part cell's fields.
-fn cell_places(head: Head) -> Vec<(Place, u16)> {
+fn cell_places(head: Head) -> Vec<(Place, Number)> {
     vec![
         (Place::CellPrincipal, HIGHEST),
         (Place::CellName, HIGHEST),
@@ -244,16 +245,16 @@ fn cell_places(head: Head) -> Vec<(Place, u16)> {
 }
 
 /// The places and limits of an automaton's numbers.
-fn automaton_places() -> Vec<(Place, u16)> {
+fn automaton_places() -> Vec<(Place, Number)> {
     vec![
-        (Place::AutomatonStarting, u16::MAX),
-        (Place::AutomatonAccepting, u16::MAX),
+        (Place::AutomatonStarting, EVERY_STATE),
+        (Place::AutomatonAccepting, EVERY_STATE),
         (Place::AutomatonMark, 1),
     ]
 }
 
 /// The places and limits of an edge's fields.
-fn edge_places(record: &EdgeRecord, head: Head) -> Vec<(Place, u16)> {
+fn edge_places(record: &EdgeRecord, head: Head) -> Vec<(Place, Number)> {
     let label = record[2];
     let owner = if label == 2 { 0 } else { HIGHEST };
     let name = if label == 2 || label == 4 { 0 } else { HIGHEST };

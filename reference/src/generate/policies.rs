@@ -8,6 +8,7 @@
 use crate::generate::{constraints, valid};
 use crate::random::Random;
 use crate::records::{CellRecord, CredentialRecord, Head, Records};
+use crate::Number;
 
 /// A table in which goals can be derived, often with automata.
 pub fn records(random: &mut Random) -> Records {
@@ -28,13 +29,13 @@ pub fn unconstrained(random: &mut Random) -> Records {
 }
 
 /// A role's owner and name, as written.
-type Role = (u16, u16);
+type Role = (Number, Number);
 
 /// A table in the making.
 struct Draft {
     /// The principals and names from which roles are made.
-    principals: Vec<u16>,
-    names: Vec<u16>,
+    principals: Vec<Number>,
+    names: Vec<Number>,
     /// Whether each role mostly rests on the one made just before, so that
     /// derivations become deep.
     tall: bool,
@@ -43,7 +44,7 @@ struct Draft {
     /// known by its number in this order, so that its next is already there.
     cells: Vec<CellRecord>,
     /// Who is known to be in which role.
-    known: Vec<(u16, Role)>,
+    known: Vec<(Number, Role)>,
 }
 
 impl Draft {
@@ -104,7 +105,7 @@ impl Draft {
     fn add_linked(&mut self, random: &mut Random) {
         let (middle, linking) = self.premise(random);
         let owned = self.known.iter().filter(|(_, role)| role.0 == middle);
-        let owned: Vec<(u16, Role)> = owned.copied().collect();
+        let owned: Vec<(Number, Role)> = owned.copied().collect();
         if owned.is_empty() {
             return self.add_all_of(random);
         }
@@ -121,19 +122,19 @@ impl Draft {
     /// Kind 4: two to four roles of one principal, often with the end of a
     /// chain that is there already. If there is no room for cells, kind 1.
     fn add_in_every(&mut self, random: &mut Random) {
-        if self.cells.len() + 4 > usize::from(Head::LIMITS.cells) {
+        if self.cells.len() + 4 > Head::LIMITS.cells as usize {
             return self.add_one(random);
         }
         let (member, _) = self.premise(random);
         let tail = self.tail(random, member);
         let mut parts = self.chain(tail);
-        let most = 4 - parts.len() as u16;
+        let most = 4 - parts.len() as Number;
         let least = most.saturating_sub(2);
         let mut first = tail;
         for _ in 0..random.between(least, most) {
             let part = self.role_of(random, member);
             self.cells.push([part.0, part.1, first]);
-            first = self.cells.len() as u16;
+            first = self.cells.len() as Number;
             parts.push(part);
         }
         let role = self.role(random);
@@ -157,20 +158,20 @@ impl Draft {
     }
 
     /// Adds a credential without an automaton.
-    fn credential(&mut self, role: Role, kind: u16, first: u16, second: u16) {
+    fn credential(&mut self, role: Role, kind: Number, first: Number, second: Number) {
         let credential = [role.0, role.1, kind, first, second, 0];
         self.credentials.push(credential);
     }
 
     /// Notes that a principal is in a role.
-    fn learn(&mut self, principal: u16, role: Role) {
+    fn learn(&mut self, principal: Number, role: Role) {
         if !self.known.contains(&(principal, role)) {
             self.known.push((principal, role));
         }
     }
 
     /// Who is known to be in a role.
-    fn members(&self, role: Role) -> Vec<u16> {
+    fn members(&self, role: Role) -> Vec<Number> {
         let known = self.known.iter().filter(|&&(_, other)| other == role);
         known.map(|&(principal, _)| principal).collect()
     }
@@ -188,7 +189,7 @@ impl Draft {
 
     /// Somebody in a role, on which a new credential is to rest. In a tall
     /// table it is mostly what was noted last.
-    fn premise(&mut self, random: &mut Random) -> (u16, Role) {
+    fn premise(&mut self, random: &mut Random) -> (Number, Role) {
         if self.tall && !random.one_in(8) {
             self.known[self.known.len() - 1]
         } else {
@@ -197,7 +198,7 @@ impl Draft {
     }
 
     /// One of the roles of a principal, who has some.
-    fn role_of(&mut self, random: &mut Random, principal: u16) -> Role {
+    fn role_of(&mut self, random: &mut Random, principal: Number) -> Role {
         let known = self
             .known
             .iter()
@@ -211,11 +212,11 @@ impl Draft {
     }
 
     /// The roles of the chain that begins at a cell; none at 0.
-    fn chain(&self, cell: u16) -> Vec<Role> {
+    fn chain(&self, cell: Number) -> Vec<Role> {
         let mut roles = Vec::new();
         let mut next = cell;
         while next != 0 {
-            let [principal, name, following] = self.cells[usize::from(next) - 1];
+            let [principal, name, following] = self.cells[next as usize - 1];
             roles.push((principal, name));
             next = following;
         }
@@ -224,10 +225,10 @@ impl Draft {
 
     /// A cell whose chain a new chain may end with, since the principal is in
     /// all its roles; 0 if there is none, and half of the time.
-    fn tail(&self, random: &mut Random, member: u16) -> u16 {
+    fn tail(&self, random: &mut Random, member: Number) -> Number {
         let is_in = |part: Role| self.known.contains(&(member, part));
-        let fits = |&cell: &u16| self.chain(cell).into_iter().all(is_in);
-        let cells: Vec<u16> = (1..=self.cells.len() as u16).filter(fits).collect();
+        let fits = |&cell: &Number| self.chain(cell).into_iter().all(is_in);
+        let cells: Vec<Number> = (1..=self.cells.len() as Number).filter(fits).collect();
         if cells.is_empty() || random.one_in(2) {
             0
         } else {
@@ -239,9 +240,9 @@ impl Draft {
     /// its credentials in any order.
     fn finish(mut self, random: &mut Random) -> Records {
         self.add_unused_cells(random);
-        let count = self.cells.len() as u16;
+        let count = self.cells.len() as Number;
         // The last cell, which was the first one made, has the number `count`.
-        let number = |made: u16| count + 1 - made;
+        let number = |made: Number| count + 1 - made;
         let in_order = self.cells.iter().rev();
         let cells = in_order.map(|&[principal, name, next]| match next {
             0 => [principal, name, 0],
@@ -265,9 +266,9 @@ impl Draft {
     /// Adds up to three cells that no chain has, if there is room.
     fn add_unused_cells(&mut self, random: &mut Random) {
         for _ in 0..random.below(4) {
-            if self.cells.len() < usize::from(Head::LIMITS.cells) {
+            if self.cells.len() < Head::LIMITS.cells as usize {
                 let [owner, name, ..] = *random.pick(&self.credentials);
-                let next = random.between(0, self.cells.len() as u16);
+                let next = random.between(0, self.cells.len() as Number);
                 self.cells.push([owner, name, next]);
             }
         }
@@ -277,9 +278,9 @@ impl Draft {
 /// So many principals or names, no two the same. The ends of the range and
 /// small numbers come often, so that a principal and a name, or a number of
 /// another sort, are easily the same number.
-pub fn distinct(random: &mut Random, count: u16) -> Vec<u16> {
+pub fn distinct(random: &mut Random, count: Number) -> Vec<Number> {
     let mut numbers = Vec::new();
-    while numbers.len() < usize::from(count) {
+    while numbers.len() < count as usize {
         let number = valid::one_to_highest(random);
         if !numbers.contains(&number) {
             numbers.push(number);

@@ -3,6 +3,7 @@
 use crate::generate::places::Place;
 use crate::query::Query;
 use crate::random::Random;
+use crate::Number;
 
 /// A valid query.
 pub fn valid(random: &mut Random) -> Query {
@@ -10,8 +11,8 @@ pub fn valid(random: &mut Random) -> Query {
 }
 
 /// The values that a field with this limit is given in turn.
-pub fn values(limit: u16) -> [u16; 6] {
-    [0, 1, limit, limit + 1, limit + 256, u16::MAX]
+pub fn values(limit: Number) -> [Number; 6] {
+    [0, 1, limit, limit + 1, limit + 256, Number::MAX]
 }
 
 /// A query with one field in turn given each such value, and the field.
@@ -48,13 +49,13 @@ pub fn spoiled(random: &mut Random, query: Query) -> Query {
 pub fn several(random: &mut Random) -> Query {
     let numbers = Query::LIMITS.map(|limit| match random.below(2) {
         0 => random.between(1, limit),
-        _ => *random.pick(&[0, limit + 1, u16::MAX]),
+        _ => *random.pick(&[0, limit + 1, Number::MAX]),
     });
     Query::from_numbers(numbers)
 }
 
 /// The query with the field at this index, from 0, changed.
-fn with_value(query: Query, index: usize, value: u16) -> Query {
+fn with_value(query: Query, index: usize, value: Number) -> Query {
     let mut numbers = query.numbers();
     numbers[index] = value;
     Query::from_numbers(numbers)

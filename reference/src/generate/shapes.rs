@@ -9,13 +9,14 @@ use crate::generate::wallets::Wallet;
 use crate::query::{Query, DEEPEST};
 use crate::records::{CellRecord, CredentialRecord, Head, Records};
 use crate::sorts::HIGHEST;
+use crate::Number;
 
 /// Who is asked about.
-pub const MEMBER: u16 = HIGHEST;
+pub const MEMBER: Number = HIGHEST;
 /// Who owns the role that is asked about.
-pub const OWNER: u16 = 1;
+pub const OWNER: Number = 1;
 /// The name of that role.
-pub const GOAL: u16 = 1;
+pub const GOAL: Number = 1;
 
 /// Where the chain's credential stands among those that define its parts.
 #[derive(Clone, Copy, Debug, PartialEq, Eq)]
@@ -51,10 +52,10 @@ impl Way {
 /// two roles each, which are the two sides. Whoever is in a role on one side is
 /// in the role on the other side of each principal from whom the way leads
 /// there, and ways lead to the next principal and to the one after.
-pub fn ladder(principals: u16) -> Wallet {
-    const LEFT: u16 = GOAL;
-    const RIGHT: u16 = 2;
-    const WAY: u16 = 3;
+pub fn ladder(principals: Number) -> Wallet {
+    const LEFT: Number = GOAL;
+    const RIGHT: Number = 2;
+    const WAY: Number = 3;
     let mut credentials = Vec::new();
     for principal in 1..=principals {
         credentials.push([principal, LEFT, 3, WAY, RIGHT, 0]);
@@ -76,7 +77,7 @@ pub fn ladder(principals: u16) -> Wallet {
 /// about. Each rung's role is linked by the next one's to the next one's, and
 /// all people are in the last. So whoever is tried as a middle on a rung is found
 /// on all rungs below, and only the owner, who comes last, leads on.
-pub fn rungs(rungs: u16, people: u16) -> Wallet {
+pub fn rungs(rungs: Number, people: Number) -> Wallet {
     let linked = (1..=rungs).map(|rung| [people, rung, 3, rung + 1, rung + 1, 0]);
     let members = (1..=people).map(|person| [people, rungs + 1, 1, person, 0, 0]);
     let mut wallet = from_records(linked.chain(members).collect(), Vec::new());
@@ -87,7 +88,7 @@ pub fn rungs(rungs: u16, people: u16) -> Wallet {
 
 /// A ladder of kind 2: 3 to 9 roles in a ring, each of which contains the next
 /// and the one after. The member is in the last but one.
-pub fn containments(roles: u16) -> Wallet {
+pub fn containments(roles: Number) -> Wallet {
     let mut credentials = Vec::new();
     for role in 1..=roles {
         let next = role % roles + 1;
@@ -100,8 +101,8 @@ pub fn containments(roles: u16) -> Wallet {
 
 /// A chain of 2 to 4 roles, each of which so many credentials define: a set for
 /// each choice of one definer for every role.
-pub fn choices(definers: &[u16], place: Place) -> Wallet {
-    let parts = definers.len() as u16;
+pub fn choices(definers: &[Number], place: Place) -> Wallet {
+    let parts = definers.len() as Number;
     let mut credentials = Vec::new();
     for (name, &count) in (GOAL + 1..).zip(definers) {
         credentials.extend((0..count).map(|_| [OWNER, name, 1, MEMBER, 0, 0]));
@@ -118,9 +119,9 @@ pub fn choices(definers: &[u16], place: Place) -> Wallet {
 /// The goal above so many layers of four roles, 1 to 4. The goal and every role
 /// but those of the last layer are chains of the next layer's four roles; the
 /// credentials of the last layer are there twice if there is room.
-pub fn layers(layers: u16) -> Wallet {
-    let role = |layer: u16, part: u16| 4 * layer + part;
-    let first_cell = |layer: u16| 4 * layer + 1;
+pub fn layers(layers: Number) -> Wallet {
+    let role = |layer: Number, part: Number| 4 * layer + part;
+    let first_cell = |layer: Number| 4 * layer + 1;
     let mut credentials = vec![[OWNER, GOAL, 4, first_cell(0), 0, 0]];
     let mut cells = Vec::new();
     for layer in 1..=layers {
@@ -132,14 +133,14 @@ pub fn layers(layers: u16) -> Wallet {
     }
     let leaves = credentials[credentials.len() - 4..].to_vec();
     credentials.extend(leaves);
-    credentials.truncate(usize::from(Head::LIMITS.credentials));
+    credentials.truncate(Head::LIMITS.credentials as usize);
     from_records(credentials, cells)
 }
 
 /// Ways to the goal, each of so many credentials that no other way has: a set
 /// for each way. A way of one credential is a membership; a chain has 3 to 5
 /// credentials, and what has fewer or more is a line.
-pub fn ways(each: &[u16], way: Way) -> Wallet {
+pub fn ways(each: &[Number], way: Way) -> Wallet {
     let mut credentials = Vec::new();
     let mut cells = Vec::new();
     let mut name = GOAL + 1;
@@ -147,7 +148,7 @@ pub fn ways(each: &[u16], way: Way) -> Wallet {
         let names = name..name + count - 1;
         match way {
             Way::Chain if (3..=5).contains(&count) => {
-                let first = cells.len() as u16 + 1;
+                let first = cells.len() as Number + 1;
                 cells.extend(chain(first, name, count - 1));
                 credentials.push([OWNER, GOAL, 4, first, 0, 0]);
                 let members = names.clone();
@@ -168,7 +169,7 @@ pub fn ways(each: &[u16], way: Way) -> Wallet {
 
 /// The cells of a chain of so many roles with names one after the other, which
 /// stand one after the other too.
-fn chain(cell: u16, name: u16, parts: u16) -> impl Iterator<Item = CellRecord> {
+fn chain(cell: Number, name: Number, parts: Number) -> impl Iterator<Item = CellRecord> {
     (0..parts).map(move |part| {
         let is_last = part + 1 == parts;
         let next = if is_last { 0 } else { cell + part + 1 };

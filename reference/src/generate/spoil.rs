@@ -12,6 +12,7 @@ use crate::query::DEEPEST;
 use crate::random::Random;
 use crate::sorts::{Goal, HIGHEST};
 use crate::table::{Members, Table};
+use crate::Number;
 
 /// The claim that a record makes once it is spoiled in this way. Not every
 /// record can be spoiled in every way.
@@ -65,7 +66,7 @@ fn changed(random: &mut Random, grown: &Grown, part: Part, value: Value) -> Opti
 }
 
 /// What a number is changed to.
-fn new_value(random: &mut Random, own: u16, value: Value) -> u16 {
+fn new_value(random: &mut Random, own: Number, value: Value) -> Number {
     match value {
         Value::Zero => 0,
         Value::Neighbour if own > 0 && random.one_in(2) => own - 1,
@@ -74,7 +75,7 @@ fn new_value(random: &mut Random, own: u16, value: Value) -> u16 {
         Value::Any => match random.below(6) {
             0 => own ^ 256,
             1 => own ^ 0x8000,
-            2 => random.between(0, u16::MAX),
+            2 => random.between(0, Number::MAX),
             3 => random.between(0, HIGHEST + 1),
             _ => random.between(1, 20),
         },
@@ -123,8 +124,8 @@ fn more(random: &mut Random, grown: &Grown) -> Claim {
 /// The claim with something at a node that is wrong whatever the goal is.
 fn hopeless(random: &mut Random, mut claim: Claim, node: usize) -> Claim {
     match random.below(2) {
-        0 => claim.record[NODE * node] = *random.pick(&[0, 21, u16::MAX]),
-        _ => claim.record[NODE * node + 1] = *random.pick(&[65, u16::MAX]),
+        0 => claim.record[NODE * node] = *random.pick(&[0, 21, Number::MAX]),
+        _ => claim.record[NODE * node + 1] = *random.pick(&[65, Number::MAX]),
     }
     claim
 }
@@ -139,7 +140,7 @@ fn cut_at(random: &mut Random, mut claim: Claim, node: usize) -> Claim {
 fn cut_and_changed(random: &mut Random, grown: &Grown) -> Claim {
     let mut claim = grown.claim();
     let node = random.below(grown.nodes.len());
-    claim.record[NODE * node] = *random.pick(&[0, 21, u16::MAX]);
+    claim.record[NODE * node] = *random.pick(&[0, 21, Number::MAX]);
     claim.record.truncate(NODE * node + 1);
     claim
 }
@@ -165,7 +166,7 @@ fn several(random: &mut Random, grown: &Grown) -> Claim {
 /// A record of small numbers, or of any.
 fn noise(random: &mut Random, grown: &Grown) -> Claim {
     let mut claim = grown.claim();
-    let greatest = *random.pick(&[2, 20, HIGHEST, u16::MAX]);
+    let greatest = *random.pick(&[2, 20, HIGHEST, Number::MAX]);
     let length = random.below(24);
     let number = |random: &mut Random| match random.below(3) {
         0 => 0,
@@ -196,18 +197,18 @@ fn likely_noise(random: &mut Random, grown: &Grown) -> Claim {
 }
 
 /// A credential that defines the goal's role, with a middle for its kind.
-fn likely_node(random: &mut Random, table: &Table, goal: Goal) -> (u16, u16) {
-    let numbered = (1u16..).zip(&table.credentials);
+fn likely_node(random: &mut Random, table: &Table, goal: Goal) -> (Number, Number) {
+    let numbered = (1..).zip(&table.credentials);
     let fitting = numbered.filter(|(_, credential)| {
         let other = matches!(credential.members, Members::One(member) if member != goal.principal);
         credential.role == goal.role && !other
     });
-    let fitting: Vec<u16> = fitting.map(|(number, _)| number).collect();
+    let fitting: Vec<Number> = fitting.map(|(number, _)| number).collect();
     if fitting.is_empty() || random.one_in(32) {
         return (random.between(0, 20), 0);
     }
     let number = *random.pick(&fitting);
-    let middle = match table.credentials[usize::from(number) - 1].members {
+    let middle = match table.credentials[number as usize - 1].members {
         Members::Linked(..) => random.pick(&table.credentials).role.owner.number(),
         _ => 0,
     };

@@ -4,7 +4,8 @@ use crate::generate::chains;
 use crate::random::Random;
 use crate::records::{AutomatonRecord, CellRecord, CredentialRecord, EdgeRecord, Head, Records};
 use crate::sorts::HIGHEST;
-use crate::table::LAST_STATE;
+use crate::table::{EVERY_STATE, LAST_STATE};
+use crate::Number;
 
 /// Counts of a small table.
 pub fn small(random: &mut Random) -> Head {
@@ -41,8 +42,8 @@ pub fn head(random: &mut Random) -> Head {
 /// automata there are no edges.
 fn counts(
     random: &mut Random,
-    limits: [u16; 4],
-    mut draw: impl FnMut(&mut Random, u16) -> u16,
+    limits: [Number; 4],
+    mut draw: impl FnMut(&mut Random, Number) -> Number,
 ) -> Head {
     let [credentials, cells, automata, edges] = limits.map(|limit| draw(random, limit));
     Head {
@@ -73,7 +74,7 @@ pub fn records(random: &mut Random, head: Head) -> Records {
 /// Draws so many records, now and then one that is equal to the last.
 fn repeating<Record: Copy>(
     random: &mut Random,
-    count: u16,
+    count: Number,
     mut draw: impl FnMut(&mut Random) -> Record,
 ) -> Vec<Record> {
     let mut records: Vec<Record> = Vec::new();
@@ -89,7 +90,7 @@ fn repeating<Record: Copy>(
 
 /// A principal or a role name; the ends of the range and small numbers, which
 /// often meet, come more often than the rest.
-pub fn one_to_highest(random: &mut Random) -> u16 {
+pub fn one_to_highest(random: &mut Random) -> Number {
     match random.below(4) {
         0 => *random.pick(&[1, HIGHEST]),
         1 | 2 => random.between(1, 4),
@@ -98,7 +99,7 @@ pub fn one_to_highest(random: &mut Random) -> u16 {
 }
 
 /// A credential. Kind 4 needs a cell at which a chain of 2 to 4 cells starts.
-fn credential(random: &mut Random, starts: &[u16], automata: u16) -> CredentialRecord {
+fn credential(random: &mut Random, starts: &[Number], automata: Number) -> CredentialRecord {
     let owner = one_to_highest(random);
     let name = one_to_highest(random);
     let kinds = if starts.is_empty() { 3 } else { 4 };
@@ -117,16 +118,16 @@ fn credential(random: &mut Random, starts: &[u16], automata: u16) -> CredentialR
 
 /// Part cells, drawn from the last to the first, since a cell's next is a
 /// greater one. Some name the same role as their next cell.
-fn cells(random: &mut Random, count: u16) -> Vec<CellRecord> {
-    let mut cells = vec![[0; 3]; usize::from(count)];
+fn cells(random: &mut Random, count: Number) -> Vec<CellRecord> {
+    let mut cells = vec![[0; 3]; count as usize];
     for number in (1..=count).rev() {
         let next = next_cell(random, number, count);
         let role = match next {
             0 => None,
-            _ if random.one_in(4) => Some(cells[usize::from(next) - 1]),
+            _ if random.one_in(4) => Some(cells[next as usize - 1]),
             _ => None,
         };
-        cells[usize::from(number) - 1] = match role {
+        cells[number as usize - 1] = match role {
             Some([principal, name, _]) => [principal, name, next],
             None => [one_to_highest(random), one_to_highest(random), next],
         };
@@ -135,7 +136,7 @@ fn cells(random: &mut Random, count: u16) -> Vec<CellRecord> {
 }
 
 /// A next for a cell: 0, the following cell, or any greater one.
-fn next_cell(random: &mut Random, number: u16, count: u16) -> u16 {
+fn next_cell(random: &mut Random, number: Number, count: Number) -> Number {
     match random.below(3) {
         _ if number == count => 0,
         0 => 0,
@@ -148,8 +149,8 @@ fn next_cell(random: &mut Random, number: u16, count: u16) -> u16 {
 fn automaton(random: &mut Random) -> AutomatonRecord {
     let mut set = || match random.below(4) {
         0 => 0,
-        1 => u16::MAX,
-        _ => random.between(0, u16::MAX),
+        1 => EVERY_STATE,
+        _ => random.between(0, EVERY_STATE),
     };
     [set(), set(), random.between(0, 1)]
 }
@@ -164,9 +165,9 @@ fn edges(random: &mut Random, head: Head) -> Vec<EdgeRecord> {
 /// An edge of one of the automata, of which there is at least one; it says of
 /// each whether it may have label 4.
 fn edge(random: &mut Random, may_have_4: &[bool]) -> EdgeRecord {
-    let automaton = random.between(1, may_have_4.len() as u16);
+    let automaton = random.between(1, may_have_4.len() as Number);
     let from = random.between(0, LAST_STATE);
-    let label = match may_have_4[usize::from(automaton) - 1] {
+    let label = match may_have_4[automaton as usize - 1] {
         true if random.one_in(2) => 4,
         _ => random.between(1, 3),
     };

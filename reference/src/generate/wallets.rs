@@ -11,6 +11,7 @@ use crate::generate::{constraints, policies};
 use crate::query::{Query, DEEPEST};
 use crate::random::Random;
 use crate::records::{CellRecord, CredentialRecord, Head, Records};
+use crate::Number;
 
 /// So many roles are tried for a premise.
 const TRIES: usize = 4;
@@ -28,9 +29,9 @@ pub struct Wallet {
 #[derive(Clone, Copy, Debug, PartialEq, Eq)]
 pub struct Plan {
     /// How many credentials bear on the query, at least 1.
-    pub bearing: u16,
+    pub bearing: Number,
     /// How many others there are; 20 with the former at most.
-    pub others: u16,
+    pub others: Number,
     /// Which numbers the others get.
     pub place: Place,
 }
@@ -65,7 +66,7 @@ pub fn made_up(random: &mut Random) -> Wallet {
 
 /// A wallet of so many credentials, a third to all of which bear on the query,
 /// often with automata.
-pub fn of_size(random: &mut Random, size: u16) -> Wallet {
+pub fn of_size(random: &mut Random, size: Number) -> Wallet {
     let bearing = random.between(size.div_ceil(3), size);
     let plan = Plan {
         bearing,
@@ -126,16 +127,16 @@ fn mixed(
 }
 
 /// A role's owner and name, as written.
-type Role = (u16, u16);
+type Role = (Number, Number);
 
 /// A principal in a role, as written.
-type Goal = (u16, Role);
+type Goal = (Number, Role);
 
 /// A goal that is asked for, and its role's level.
 #[derive(Clone, Copy)]
 struct Asked {
     goal: Goal,
-    level: u16,
+    level: Number,
     /// Whether a credential has been added for it.
     proved: bool,
 }
@@ -143,10 +144,10 @@ struct Asked {
 /// A wallet in the making.
 struct Draft {
     /// The principals, and the names of roles that may be asked for.
-    principals: Vec<u16>,
-    names: Vec<u16>,
+    principals: Vec<Number>,
+    names: Vec<Number>,
     /// Names of which no role is asked for.
-    other_names: Vec<u16>,
+    other_names: Vec<Number>,
     /// Whether the goal asked for last mostly asks for the next one, so that
     /// derivations become deep.
     tall: bool,
@@ -181,15 +182,15 @@ impl Draft {
     }
 
     /// The highest level of a role.
-    fn levels(&self) -> u16 {
+    fn levels(&self) -> Number {
         let levels = self.asked.iter().map(|asked| asked.level);
         levels.max().unwrap_or(1)
     }
 
     /// Adds credentials until there are so many and every goal has one.
-    fn fill(&mut self, random: &mut Random, count: u16) {
-        while self.credentials.len() < usize::from(count) {
-            let left = usize::from(count) - self.credentials.len();
+    fn fill(&mut self, random: &mut Random, count: Number) {
+        while self.credentials.len() < count as usize {
+            let left = count as usize - self.credentials.len();
             let open = self.asked.iter().filter(|asked| !asked.proved).count();
             let index = self.chosen(random, left == open);
             let still_open = open - usize::from(!self.asked[index].proved);
@@ -235,13 +236,13 @@ impl Draft {
     }
 
     /// Kind 2: whoever is in another role.
-    fn all_of(&mut self, random: &mut Random, asked: Asked) -> Option<(u16, u16, u16)> {
+    fn all_of(&mut self, random: &mut Random, asked: Asked) -> Option<(Number, Number, Number)> {
         let role = self.premise(random, asked.goal.0, asked.level, None)?;
         Some((2, role.0, role.1))
     }
 
     /// Kind 3: by way of some middle.
-    fn linked(&mut self, random: &mut Random, asked: Asked) -> Option<(u16, u16, u16)> {
+    fn linked(&mut self, random: &mut Random, asked: Asked) -> Option<(Number, Number, Number)> {
         let (principal, (owner, _)) = asked.goal;
         let middle = *random.pick(&self.principals);
         let linking = self.premise(random, middle, asked.level, Some(owner))?;
@@ -250,9 +251,9 @@ impl Draft {
     }
 
     /// Kind 4: two to four parts, if there is room for so many cells.
-    fn in_every(&mut self, random: &mut Random, asked: Asked) -> Option<(u16, u16, u16)> {
+    fn in_every(&mut self, random: &mut Random, asked: Asked) -> Option<(Number, Number, Number)> {
         let parts = random.between(2, 4);
-        let first = self.cells.len() as u16 + 1;
+        let first = self.cells.len() as Number + 1;
         if first + parts > Head::LIMITS.cells {
             return None;
         }
@@ -261,7 +262,7 @@ impl Draft {
             let next = if part == parts {
                 0
             } else {
-                self.cells.len() as u16 + 2
+                self.cells.len() as Number + 2
             };
             self.cells.push([role.0, role.1, next]);
         }
@@ -273,9 +274,9 @@ impl Draft {
     fn premise(
         &mut self,
         random: &mut Random,
-        principal: u16,
-        level: u16,
-        owner: Option<u16>,
+        principal: Number,
+        level: Number,
+        owner: Option<Number>,
     ) -> Option<Role> {
         let fits = |asked: &&Asked| {
             let (member, role) = asked.goal;
@@ -294,7 +295,7 @@ impl Draft {
 
     /// Asks for a goal from a level, and tells its role. There is nothing to
     /// tell if the role is not of a higher level, or would be too deep.
-    fn ask(&mut self, goal: Goal, from: u16) -> Option<Role> {
+    fn ask(&mut self, goal: Goal, from: Number) -> Option<Role> {
         let same_role = self.asked.iter().find(|asked| asked.goal.1 == goal.1);
         let level = same_role.map_or(from + 1, |asked| asked.level);
         if level <= from || level > DEEPEST {
@@ -317,7 +318,7 @@ impl Draft {
         let name = *random.pick(&self.other_names);
         let all = [&self.names[..], &self.other_names].concat();
         let [first, second] = [0; 2].map(|_| *random.pick(&all));
-        let cell = self.cells.len() as u16 + 1;
+        let cell = self.cells.len() as Number + 1;
         let room = cell < Head::LIMITS.cells;
         match random.below(4) {
             0 => [owner, name, 2, other, first, 0],

@@ -5,15 +5,16 @@ use crate::query::{Query, DEEPEST};
 use crate::random::Random;
 use crate::records::{CellRecord, Head, Records};
 use crate::sorts::HIGHEST;
+use crate::Number;
 
 /// The principal that is derived to be in every role, and who owns them all.
-const MEMBER: u16 = HIGHEST;
-const OWNER: u16 = 1;
+const MEMBER: Number = HIGHEST;
+const OWNER: Number = 1;
 
 /// The table with a role for each of so many levels, 1 to 16, whose name is
 /// the level's number. Each but the last is a chain of four times the next.
 /// Level and credential have the same number too.
-pub fn records(levels: u16) -> Records {
+pub fn records(levels: Number) -> Records {
     let chains = (1..levels).map(|level| [OWNER, level, 4, first_cell(level), 0, 0]);
     let last = [OWNER, levels, 1, MEMBER, 0, 0];
     Records {
@@ -25,12 +26,12 @@ pub fn records(levels: u16) -> Records {
 }
 
 /// The first cell of a level's chain.
-fn first_cell(level: u16) -> u16 {
+fn first_cell(level: Number) -> Number {
     4 * (level - 1) + 1
 }
 
 /// The cells of a level's chain: four times the role of the next level.
-fn cells(level: u16) -> [CellRecord; 4] {
+fn cells(level: Number) -> [CellRecord; 4] {
     let first = first_cell(level);
     [first + 1, first + 2, first + 3, 0].map(|next| [OWNER, level + 1, next])
 }
@@ -39,7 +40,7 @@ fn cells(level: u16) -> [CellRecord; 4] {
 /// a detour at the end of the first chain: only the last branches, behind
 /// more than 65,535 nodes, have ten levels.
 pub fn made_up(random: &mut Random) -> Records {
-    const DETOUR: u16 = HIGHEST;
+    const DETOUR: Number = HIGHEST;
     let mut records = records(9);
     records.cells[3][1] = DETOUR;
     records.credentials.push([OWNER, DETOUR, 2, OWNER, 2, 0]);
@@ -52,7 +53,7 @@ pub fn made_up(random: &mut Random) -> Records {
 }
 
 /// The record of the one derivation of level 1 in the table of so many levels.
-pub fn record(levels: u16) -> Vec<u16> {
+pub fn record(levels: Number) -> Vec<Number> {
     let mut record = vec![levels, 0];
     for level in (1..levels).rev() {
         record = [vec![level, 0], record.repeat(4)].concat();
@@ -61,12 +62,12 @@ pub fn record(levels: u16) -> Vec<u16> {
 }
 
 /// How many nodes it has: 1 + 4 + 16 and so on.
-pub fn nodes(levels: u16) -> u64 {
+pub fn nodes(levels: Number) -> u64 {
     (4u64.pow(u32::from(levels)) - 1) / 3
 }
 
 /// The query for level 1 with a depth limit of so many levels.
-pub fn query(levels: u16) -> Query {
+pub fn query(levels: Number) -> Query {
     Query {
         principal: MEMBER,
         owner: OWNER,

@@ -2,6 +2,8 @@
 
 use std::fmt;
 
+use crate::Number;
+
 /// One of the two numbers of a node.
 #[derive(Clone, Copy, Debug, PartialEq, Eq, PartialOrd, Ord)]
 pub enum Part {
@@ -19,7 +21,7 @@ pub enum Value {
     /// One less or one more.
     Neighbour,
     /// This number.
-    Number(u16),
+    Number(Number),
     /// Another credential, principal or name, a value with one high bit
     /// changed, or any number at all.
     Any,
@@ -43,7 +45,7 @@ pub enum Wrong {
     /// The query's depth limit is lower than the derivation is deep.
     TooDeep,
     /// A credential of this kind has a middle that its kind does not allow.
-    MiddleOfKind(u16),
+    MiddleOfKind(Number),
     /// The middle cannot be derived to be in the linking role.
     NoMember,
     /// A credential defines another role.
@@ -85,13 +87,13 @@ pub enum Wrong {
 impl Wrong {
     /// Every way of spoiling that there is.
     pub fn all() -> Vec<Wrong> {
-        use Value::{Any, Neighbour, Number, Zero};
+        use Value::{Any, Neighbour, Zero};
         let values = [
             Zero,
             Neighbour,
-            Number(64),
-            Number(65),
-            Number(u16::MAX),
+            Value::Number(64),
+            Value::Number(65),
+            Value::Number(Number::MAX),
             Any,
         ];
         let mut wrongs = Vec::new();

@@ -4,6 +4,7 @@ use super::{list, verify, wallet, Case, ASKED};
 use crate::query::Query;
 use crate::records::{EdgeRecord, Records};
 use crate::shop::{Q, R, U};
+use crate::Number;
 
 /// The place of U's mark.
 const MARK_OF_U: usize = 30;
@@ -57,7 +58,7 @@ pub fn verdicts() -> Vec<Case> {
 
 /// Table U with mark 1. Its automaton rejects every word that begins with
 /// Shop.discount, so no word of the record R meets it.
-fn marked_shop() -> Vec<u16> {
+fn marked_shop() -> Vec<Number> {
     let mut table = U.to_vec();
     table[MARK_OF_U] = 1;
     table
@@ -83,7 +84,7 @@ fn twice() -> Records {
 
 /// The edges of an automaton that accepts the words through a role of principal 1:
 /// it starts in state 0 and accepts in state 1.
-fn through(automaton: u16, name: u16) -> Vec<EdgeRecord> {
+fn through(automaton: Number, name: Number) -> Vec<EdgeRecord> {
     vec![
         [automaton, 0, 2, 0, 0, 0],
         [automaton, 0, 1, 1, name, 1],
@@ -114,7 +115,7 @@ fn shared() -> Records {
 
 /// The wallet with these marks. By credentials 1 to 6 it has words with 1.4, which
 /// automaton 2 rejects, and others.
-fn marked(marks: [u16; 2]) -> Records {
+fn marked(marks: [Number; 2]) -> Records {
     let mut wallet = wallet();
     for (automaton, mark) in wallet.automata.iter_mut().zip(marks) {
         automaton[2] = mark;
@@ -124,7 +125,7 @@ fn marked(marks: [u16; 2]) -> Records {
 
 /// The same, where these automata accept no word: they are only for words that
 /// begin with another role than 1.1.
-fn marked_and_shut(marks: [u16; 2], shut: &[u16]) -> Vec<u16> {
+fn marked_and_shut(marks: [Number; 2], shut: &[Number]) -> Vec<Number> {
     let mut wallet = marked(marks);
     if shut.contains(&1) {
         wallet.edges[0] = [1, 0, 3, 1, 1, 1];

@@ -5,7 +5,7 @@ use std::collections::BTreeMap;
 
 use reference::generate::wallets::Wallet;
 use reference::pairs::is_part;
-use reference::{list, verify, write};
+use reference::{list, verify, write, Number};
 
 use crate::every_record::records_within;
 
@@ -18,7 +18,7 @@ pub fn listed(wallet: &Wallet) -> Vec<u32> {
 }
 
 /// The first record of a listed set.
-pub fn first(wallet: &Wallet, set: u32) -> Vec<u16> {
+pub fn first(wallet: &Wallet, set: u32) -> Vec<Number> {
     let mut cells = vec![0; 4_096];
     let length = write(&wallet.records.numbers(), wallet.query, set, &mut cells);
     cells.truncate(length.expect("a record"));
@@ -45,7 +45,7 @@ pub fn compared(steps: usize, wallets: &[Wallet]) -> [usize; 2] {
 
 /// The used sets of accepted records, but for those that have another one as a
 /// proper part; each with the least record that has it.
-fn minimal_within(steps: usize, wallet: &Wallet) -> Option<Vec<(u32, Vec<u16>)>> {
+fn minimal_within(steps: usize, wallet: &Wallet) -> Option<Vec<(u32, Vec<Number>)>> {
     let table = wallet.records.numbers();
     let mut records = records_within(steps, &table, wallet.query)?;
     records.sort();

@@ -2,14 +2,14 @@
 #![allow(dead_code)] // each test uses a part
 
 use reference::records::{CellRecord, CredentialRecord, EdgeRecord, Records};
-use reference::Query;
+use reference::{Number, Query};
 
 /// The roles of the tables below: Gate.1 is asked for, mostly for principal 9.
-pub const G: [u16; 2] = [1, 1];
-pub const A: [u16; 2] = [1, 2];
-pub const B: [u16; 2] = [1, 3];
-pub const C: [u16; 2] = [1, 4];
-pub const D: [u16; 2] = [1, 5];
+pub const G: [Number; 2] = [1, 1];
+pub const A: [Number; 2] = [1, 2];
+pub const B: [Number; 2] = [1, 3];
+pub const C: [Number; 2] = [1, 4];
+pub const D: [Number; 2] = [1, 5];
 
 /// Principal 9 in Gate.1, as deep as can be.
 pub const ASKED: Query = Query {
@@ -20,19 +20,19 @@ pub const ASKED: Query = Query {
 };
 
 /// A credential that defines a role, of kind 1, 2 or 4, or of kind 3.
-pub fn member(role: [u16; 2], principal: u16) -> CredentialRecord {
+pub fn member(role: [Number; 2], principal: Number) -> CredentialRecord {
     [role[0], role[1], 1, principal, 0, 0]
 }
 
-pub fn from(role: [u16; 2], other: [u16; 2]) -> CredentialRecord {
+pub fn from(role: [Number; 2], other: [Number; 2]) -> CredentialRecord {
     [role[0], role[1], 2, other[0], other[1], 0]
 }
 
-pub fn linked(role: [u16; 2], first: u16, second: u16) -> CredentialRecord {
+pub fn linked(role: [Number; 2], first: Number, second: Number) -> CredentialRecord {
     [role[0], role[1], 3, first, second, 0]
 }
 
-pub fn in_every(role: [u16; 2], cell: u16) -> CredentialRecord {
+pub fn in_every(role: [Number; 2], cell: Number) -> CredentialRecord {
     [role[0], role[1], 4, cell, 0, 0]
 }
 
@@ -44,25 +44,25 @@ pub fn kept(mut credential: CredentialRecord) -> CredentialRecord {
 
 /// An edge of automaton 1 on exactly a role, on every role, on all but one, on
 /// any of an owner.
-pub fn on(from: u16, role: [u16; 2], to: u16) -> EdgeRecord {
+pub fn on(from: Number, role: [Number; 2], to: Number) -> EdgeRecord {
     [1, from, 1, role[0], role[1], to]
 }
 
-pub fn on_every(from: u16, to: u16) -> EdgeRecord {
+pub fn on_every(from: Number, to: Number) -> EdgeRecord {
     [1, from, 2, 0, 0, to]
 }
 
-pub fn on_all_but(from: u16, role: [u16; 2], to: u16) -> EdgeRecord {
+pub fn on_all_but(from: Number, role: [Number; 2], to: Number) -> EdgeRecord {
     [1, from, 3, role[0], role[1], to]
 }
 
-pub fn on_any_of(from: u16, owner: u16, to: u16) -> EdgeRecord {
+pub fn on_any_of(from: Number, owner: Number, to: Number) -> EdgeRecord {
     [1, from, 4, owner, 0, to]
 }
 
 /// The cells of a chain that begins at cell 1.
-pub fn chain(roles: &[[u16; 2]]) -> Vec<CellRecord> {
-    let nexts = (2..=roles.len() as u16).chain([0]);
+pub fn chain(roles: &[[Number; 2]]) -> Vec<CellRecord> {
+    let nexts = (2..=roles.len() as Number).chain([0]);
     let cells = roles.iter().zip(nexts);
     cells.map(|(role, next)| [role[0], role[1], next]).collect()
 }
@@ -72,9 +72,9 @@ pub fn chain(roles: &[[u16; 2]]) -> Vec<CellRecord> {
 pub fn table(
     credentials: &[CredentialRecord],
     parts: &[CellRecord],
-    accepting: u16,
+    accepting: Number,
     edges: &[EdgeRecord],
-) -> Vec<u16> {
+) -> Vec<Number> {
     let automata = match edges {
         [] => vec![],
         _ => vec![[1, accepting, 0]],
@@ -89,6 +89,6 @@ pub fn table(
 }
 
 /// The table with these credentials alone.
-pub fn plain(credentials: &[CredentialRecord]) -> Vec<u16> {
+pub fn plain(credentials: &[CredentialRecord]) -> Vec<Number> {
     table(credentials, &[], 0, &[])
 }

@@ -3,7 +3,7 @@
 
 use reference::sorts::Goal;
 use reference::table::Table;
-use reference::Query;
+use reference::{Number, Query};
 
 /// A table is left aside if it takes more steps to find all records.
 const STEPS: usize = 400;
@@ -17,14 +17,14 @@ struct Search<'a> {
 
 impl Search<'_> {
     /// Every record for a goal below these goals, unless it takes too long.
-    fn records(&mut self, goal: Goal, above: &[Goal]) -> Option<Vec<Vec<u16>>> {
+    fn records(&mut self, goal: Goal, above: &[Goal]) -> Option<Vec<Vec<Number>>> {
         if above.len() >= self.depth || above.contains(&goal) {
             return Some(Vec::new());
         }
         self.steps = self.steps.checked_sub(1)?;
         let branch = [above, &[goal]].concat();
         let mut all = Vec::new();
-        for credential in 1..=self.table.credentials.len() as u16 {
+        for credential in 1..=self.table.credentials.len() as Number {
             for middle in 0..=64 {
                 if let Some(premises) = self.table.premises(goal, credential, middle) {
                     all.extend(self.through(vec![credential, middle], &premises, &branch)?);
@@ -38,10 +38,10 @@ impl Search<'_> {
     /// put before each other from the last on: most middles fail there.
     fn through(
         &mut self,
-        node: Vec<u16>,
+        node: Vec<Number>,
         premises: &[Goal],
         branch: &[Goal],
-    ) -> Option<Vec<Vec<u16>>> {
+    ) -> Option<Vec<Vec<Number>>> {
         let mut ends = vec![Vec::new()];
         for &premise in premises.iter().rev() {
             if ends.is_empty() {
@@ -60,17 +60,17 @@ impl Search<'_> {
 }
 
 /// Every record that derives a query, unless it takes too long.
-pub fn records(table: &[u16], query: Query) -> Option<Vec<Vec<u16>>> {
+pub fn records(table: &[Number], query: Query) -> Option<Vec<Vec<Number>>> {
     records_within(STEPS, table, query)
 }
 
 /// The same, unless it takes more steps than these.
-pub fn records_within(steps: usize, table: &[u16], query: Query) -> Option<Vec<Vec<u16>>> {
+pub fn records_within(steps: usize, table: &[Number], query: Query) -> Option<Vec<Vec<Number>>> {
     let table = Table::read(table).ok()?;
     let asked = query.read().ok()?;
     let mut search = Search {
         table: &table,
-        depth: usize::from(asked.depth),
+        depth: asked.depth as usize,
         steps,
     };
     search.records(asked.goal, &[])

@@ -6,7 +6,7 @@ use std::io::{self, Read};
 use std::iter;
 use std::rc::Rc;
 
-use bwlchareg::{Query, Refusal};
+use bwlchareg::{Number, Query, Refusal};
 use wallet::answer::{listed, Answer};
 use wallet::derivation::judge;
 use wallet::explain::{explain, heading};
@@ -323,7 +323,7 @@ fn read_record(
     wallet: &Wallet,
     query: Query,
     given: &Given,
-) -> Result<Result<Vec<u16>, Unwritten>, Failure> {
+) -> Result<Result<Vec<Number>, Unwritten>, Failure> {
     let record = match given {
         // Words on the command line have no lines and columns to tell.
         Given::Words(words) => {
@@ -379,7 +379,7 @@ fn upgrade() -> Result<Piece, Failure> {
 
 /// The query and the table of the input on standard input, as far as the listing
 /// program would read it.
-fn read_input() -> Result<(Query, Vec<u16>), Failure> {
+fn read_input() -> Result<(Query, Vec<Number>), Failure> {
     let mut input = Vec::new();
     io::stdin()
         .take(program::MOST_BYTES as u64)

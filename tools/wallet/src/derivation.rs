@@ -5,7 +5,7 @@
 //! that its nodes can be shown and, where the checker stops at a node, it can be
 //! said why.
 
-use bwlchareg::{Query, Refusal};
+use bwlchareg::{Number, Query, Refusal};
 
 use crate::limits::NAMES;
 use crate::names::Names;
@@ -16,7 +16,7 @@ use crate::Wallet;
 #[derive(Clone, Copy, Debug, PartialEq, Eq)]
 pub struct Goal {
     /// The principal.
-    pub principal: u16,
+    pub principal: Number,
     /// The role.
     pub role: Role,
 }
@@ -27,13 +27,13 @@ pub struct Node {
     /// The node's number in preorder, from 1.
     pub number: usize,
     /// The level: 1 for the goal, one deeper for each child.
-    pub level: u16,
+    pub level: Number,
     /// What is derived at the node.
     pub goal: Goal,
     /// The credential's number, if the record still has it.
-    pub credential: Option<u16>,
+    pub credential: Option<Number>,
     /// The middle, if the record still has it.
-    pub middle: Option<u16>,
+    pub middle: Option<Number>,
     /// The index of the node above in the list of nodes.
     pub parent: Option<usize>,
 }
@@ -56,17 +56,17 @@ pub enum Why {
     /// 11: so many numbers remain after the tree.
     Remaining(usize),
     /// 12: there is no credential of this number.
-    NoCredential(u16),
+    NoCredential(Number),
     /// 12: the credential defines this role, not the goal's.
     OtherRole(Role),
     /// 12: the credential names this principal, not the goal's.
-    OtherPrincipal(u16),
+    OtherPrincipal(Number),
     /// 12: the credential has kind 3, so this middle must be 1 to 64.
-    MiddleOutOfRange(u16),
+    MiddleOutOfRange(Number),
     /// 12: the credential has another kind, so this middle must be 0.
-    MiddleNotZero(u16),
+    MiddleNotZero(Number),
     /// 13: the level is above this depth limit.
-    TooDeep(u16),
+    TooDeep(Number),
     /// 13: the goal is that of this node, which is on the branch.
     OnBranch(usize),
 }
@@ -132,7 +132,7 @@ impl Judged {
     }
 
     /// The numbers of the nodes: the record, as far as it was read.
-    pub fn numbers(&self) -> Vec<u16> {
+    pub fn numbers(&self) -> Vec<Number> {
         let nodes = self.nodes.iter();
         nodes
             .flat_map(|node| [node.credential, node.middle])
@@ -184,7 +184,7 @@ impl Judged {
 
 /// Verifies a record of a wallet, and reads its nodes. The verdict is the
 /// checker's.
-pub fn judge(wallet: &Wallet, query: Query, record: &[u16]) -> Judged {
+pub fn judge(wallet: &Wallet, query: Query, record: &[Number]) -> Judged {
     let verdict = bwlchareg::verify(&wallet.table.numbers(), query, record);
     let mut judged = Judged {
         verdict,
@@ -210,7 +210,7 @@ pub fn judge(wallet: &Wallet, query: Query, record: &[u16]) -> Judged {
 #[derive(Clone, Copy)]
 struct Open {
     goal: Goal,
-    level: u16,
+    level: Number,
     parent: Option<usize>,
 }
 
@@ -219,7 +219,7 @@ struct Open {
 ///
 /// Goals that wait for their nodes stand on a stack, the next one on top. A
 /// branch has at most 16 levels, and each leaves at most three goals waiting.
-pub fn read(table: &Table, query: Query, record: &[u16]) -> (Vec<Node>, Option<Fault>) {
+pub fn read(table: &Table, query: Query, record: &[Number]) -> (Vec<Node>, Option<Fault>) {
     let mut nodes: Vec<Node> = Vec::new();
     let mut rest = record.iter().copied();
     let mut waiting = vec![Open {
@@ -261,7 +261,7 @@ pub fn read(table: &Table, query: Query, record: &[u16]) -> (Vec<Node>, Option<F
 
 /// The goals on which a node rests, or why the record is stopped there. The
 /// tests have the order of their numbers.
-fn allowed(table: &Table, limit: u16, nodes: &[Node], node: &Node) -> Result<Vec<Goal>, Why> {
+fn allowed(table: &Table, limit: Number, nodes: &[Node], node: &Node) -> Result<Vec<Goal>, Why> {
     let premises = premises(table, node)?;
     placed(nodes, node, limit)?;
     Ok(premises)
@@ -310,13 +310,13 @@ fn premises(table: &Table, node: &Node) -> Result<Vec<Goal>, Why> {
 }
 
 /// The credential of a number, if there is one.
-pub fn numbered(table: &Table, number: u16) -> Option<&Credential> {
-    let index = usize::from(number).checked_sub(1)?;
+pub fn numbered(table: &Table, number: Number) -> Option<&Credential> {
+    let index = (number as usize).checked_sub(1)?;
     table.credentials.get(index)
 }
 
 /// Whether a node may stand where it does, or why it may not (13).
-fn placed(nodes: &[Node], node: &Node, limit: u16) -> Result<(), Why> {
+fn placed(nodes: &[Node], node: &Node, limit: Number) -> Result<(), Why> {
     if node.level > limit {
         return Err(Why::TooDeep(limit));
     }

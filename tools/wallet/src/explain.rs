@@ -2,7 +2,7 @@
 //! lines, the memberships that showing the set tells, and the words by which it
 //! meets constraints for which one word is enough; or why there is no list.
 
-use bwlchareg::{Query, Refusal};
+use bwlchareg::{Number, Query, Refusal};
 
 use crate::answer::{Answer, CELLS};
 use crate::derivation::{judge, numbered, Goal};
@@ -58,18 +58,18 @@ fn explain_set(wallet: &Wallet, query: Query, set: u32) -> String {
 }
 
 /// The numbers of a set's credentials.
-pub fn members(table: &Table, set: u32) -> impl Iterator<Item = u16> + '_ {
-    let numbers = bwlchareg::credentials(set).filter_map(|number| u16::try_from(number).ok());
+pub fn members(table: &Table, set: u32) -> impl Iterator<Item = Number> + '_ {
+    let numbers = bwlchareg::credentials(set).filter_map(|number| Number::try_from(number).ok());
     numbers.filter(|number| numbered(table, *number).is_some())
 }
 
 /// The credentials of a set, each with its number and its line.
 pub fn credentials(wallet: &Wallet, set: u32) -> Vec<String> {
     let texts = members(&wallet.table, set).map(|number| (number, wallet.credential(number)));
-    let texts: Vec<(u16, String)> = texts.collect();
+    let texts: Vec<(Number, String)> = texts.collect();
     let widest = texts.iter().map(|(_, text)| width(text)).max();
     let widest = widest.unwrap_or_default();
-    let row = |(number, text): &(u16, String)| {
+    let row = |(number, text): &(Number, String)| {
         let line = wallet.lines.credential(*number);
         let line = line.map_or(String::new(), |line| format!("  line {line}"));
         let text = padded(text, widest);

@@ -33,6 +33,8 @@ pub mod tree;
 pub mod why;
 pub mod words;
 
+use bwlchareg::Number;
+
 use names::Names;
 use table::Table;
 
@@ -52,7 +54,7 @@ pub struct Wallet {
 impl Wallet {
     /// The text of a credential, with the constraint that is attached to it; nothing
     /// if there is no credential of this number.
-    pub fn credential(&self, number: u16) -> String {
+    pub fn credential(&self, number: Number) -> String {
         let credential = derivation::numbered(&self.table, number);
         credential.map_or(String::new(), |own| self.names.credential(&self.table, own))
     }
@@ -76,18 +78,18 @@ pub struct Lines {
 
 impl Lines {
     /// The line of a credential by its number, if it has one.
-    pub fn credential(&self, number: u16) -> Option<usize> {
+    pub fn credential(&self, number: Number) -> Option<usize> {
         numbered(&self.credentials, number)
     }
 
     /// The line of a constraint by its automaton's number, if it has one.
-    pub fn automaton(&self, number: u16) -> Option<usize> {
+    pub fn automaton(&self, number: Number) -> Option<usize> {
         numbered(&self.automata, number)
     }
 }
 
 /// The line of a number from 1.
-fn numbered(lines: &[usize], number: u16) -> Option<usize> {
-    let index = usize::from(number).checked_sub(1)?;
+fn numbered(lines: &[usize], number: Number) -> Option<usize> {
+    let index = (number as usize).checked_sub(1)?;
     lines.get(index).copied()
 }

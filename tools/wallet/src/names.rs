@@ -2,7 +2,7 @@
 
 use std::collections::BTreeMap;
 
-use bwlchareg::Query;
+use bwlchareg::{Number, Query};
 
 use crate::table::{Body, Credential, Edge, Label, Role, Table};
 
@@ -14,35 +14,35 @@ const COMPARED: usize = 40;
 #[derive(Clone, Debug, Default, PartialEq, Eq)]
 pub struct Names {
     /// The principals' names, by number.
-    pub principals: BTreeMap<u16, String>,
+    pub principals: BTreeMap<Number, String>,
     /// The role names, by number.
-    pub roles: BTreeMap<u16, String>,
+    pub roles: BTreeMap<Number, String>,
     /// The constraints' names, by automaton number.
-    pub constraints: BTreeMap<u16, String>,
+    pub constraints: BTreeMap<Number, String>,
     /// The states' names, by automaton number and state.
-    pub states: BTreeMap<(u16, u16), String>,
+    pub states: BTreeMap<(Number, Number), String>,
 }
 
 impl Names {
     /// A principal's name, `P7` for a 7 without one.
-    pub fn principal(&self, number: u16) -> String {
+    pub fn principal(&self, number: Number) -> String {
         named(&self.principals, &number, || format!("P{number}"))
     }
 
     /// A role name's name, `r7` for a 7 without one.
-    pub fn role_name(&self, number: u16) -> String {
+    pub fn role_name(&self, number: Number) -> String {
         named(&self.roles, &number, || format!("r{number}"))
     }
 
     /// A constraint's name, `constraint-7` for a 7 without one.
-    pub fn constraint(&self, automaton: u16) -> String {
+    pub fn constraint(&self, automaton: Number) -> String {
         named(&self.constraints, &automaton, || {
             format!("constraint-{automaton}")
         })
     }
 
     /// A state's name, its number where it has none.
-    pub fn state(&self, automaton: u16, state: u16) -> String {
+    pub fn state(&self, automaton: Number, state: Number) -> String {
         named(&self.states, &(automaton, state), || state.to_string())
     }
 
@@ -56,7 +56,7 @@ impl Names {
     }
 
     /// A membership: `Ann in Shop.discount`.
-    pub fn goal(&self, principal: u16, role: Role) -> String {
+    pub fn goal(&self, principal: Number, role: Role) -> String {
         format!("{} in {}", self.principal(principal), self.role(role))
     }
 

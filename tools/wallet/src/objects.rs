@@ -1,6 +1,6 @@
 //! Answers as JSON objects. `docs/JSON.md` says what each field is.
 
-use bwlchareg::{Query, Refusal};
+use bwlchareg::{Number, Query, Refusal};
 
 use crate::answer::Answer;
 use crate::derivation::{Goal, Judged, Node};
@@ -104,7 +104,7 @@ fn goal(wallet: &Wallet, goal: Goal) -> Object {
 }
 
 /// A constraint by its name and line.
-pub fn constraint(wallet: &Wallet, automaton: u16) -> Object {
+pub fn constraint(wallet: &Wallet, automaton: Number) -> Object {
     Object::default()
         .with("constraint", wallet.names.constraint(automaton))
         .with_some("line", wallet.lines.automaton(automaton))
@@ -129,7 +129,7 @@ pub fn proved(wallet: &Wallet, asked: Query, number: u32) -> (Object, bool) {
 }
 
 /// A record that is judged: its nodes, its words, and the runs of the constraints.
-pub fn verified(wallet: &Wallet, record: Vec<u16>, judged: &Judged, object: Object) -> Object {
+pub fn verified(wallet: &Wallet, record: Vec<Number>, judged: &Judged, object: Object) -> Object {
     let words = words(wallet, judged);
     let nodes = judged.nodes.iter().take(NODES_SHOWN);
     let word = |word: &Word| role_names(wallet, &spelt(judged, word));
@@ -184,7 +184,7 @@ pub fn runs(
     wallet: &Wallet,
     judged: &Judged,
     words: &Words,
-    automaton: u16,
+    automaton: Number,
     is_met: bool,
 ) -> Object {
     let table = &wallet.table;

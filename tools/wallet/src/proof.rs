@@ -1,7 +1,7 @@
 //! From a set of the list to its proof: the first record of the set, as the
 //! library writes it, with the verifier's judgement of it; or why there is none.
 
-use bwlchareg::{Query, Refusal};
+use bwlchareg::{Number, Query, Refusal};
 
 use crate::derivation::judge;
 use crate::refusal;
@@ -17,12 +17,12 @@ const SHORT: usize = 4_096;
 const OFFERED: usize = 8;
 
 /// The first record of a set, or the library's refusal of the set.
-pub fn first_record(wallet: &Wallet, query: Query, set: u32) -> Result<Vec<u16>, Refusal> {
+pub fn first_record(wallet: &Wallet, query: Query, set: u32) -> Result<Vec<Number>, Refusal> {
     bwlchareg::first_record(&wallet.table.numbers(), query, set, MOST_CELLS)
 }
 
 /// The first record of a set, if there is one and it is short.
-pub fn short_record(wallet: &Wallet, query: Query, set: u32) -> Option<Vec<u16>> {
+pub fn short_record(wallet: &Wallet, query: Query, set: u32) -> Option<Vec<Number>> {
     bwlchareg::first_record(&wallet.table.numbers(), query, set, SHORT).ok()
 }
 
@@ -63,13 +63,13 @@ fn offer(wallet: &Wallet, query: Query) -> String {
 }
 
 /// The numbers of a record as one line, which can be read again.
-pub fn numbers(record: &[u16]) -> String {
+pub fn numbers(record: &[Number]) -> String {
     joined(record, " ") + "\n"
 }
 
 /// Numbers with something between them.
-pub(crate) fn joined<Number: ToString>(numbers: &[Number], between: &str) -> String {
-    let all: Vec<String> = numbers.iter().map(Number::to_string).collect();
+pub(crate) fn joined<Value: ToString>(numbers: &[Value], between: &str) -> String {
+    let all: Vec<String> = numbers.iter().map(Value::to_string).collect();
     all.join(between)
 }
 
@@ -95,7 +95,7 @@ pub fn block(wallet: &Wallet, query: Query, set: u32) -> Block {
 }
 
 /// A set with a record.
-pub fn proved(wallet: &Wallet, query: Query, set: u32, record: &[u16]) -> Block {
+pub fn proved(wallet: &Wallet, query: Query, set: u32, record: &[Number]) -> Block {
     let judged = judge(wallet, query, record);
     let (numbers, tree) = (numbers(record), tree::short(wallet, &judged));
     Block {

@@ -2,7 +2,7 @@
 
 use std::fmt::Display;
 
-use bwlchareg::{layout, upgraded, Refusal};
+use bwlchareg::{layout, upgraded, Number, Refusal};
 
 /// A refusal with its words: `refused 14 at 1: ...`, or `refused 9: ...` where
 /// it has no position.
@@ -27,7 +27,7 @@ pub fn of_program(refusal: Refusal) -> String {
 
 /// The words for a refusal of an input's table, which may be one of the base
 /// layout.
-pub fn of_table(table: &[u16], refusal: Refusal) -> String {
+pub fn of_table(table: &[Number], refusal: Refusal) -> String {
     let said = of_program(refusal);
     match refusal.number {
         3 if upgraded(table).is_ok() => format!(
@@ -39,7 +39,7 @@ pub fn of_table(table: &[u16], refusal: Refusal) -> String {
 
 /// The words for a refusal of an input's table that should be one of the base
 /// layout.
-pub fn of_base(table: &[u16], refusal: Refusal) -> String {
+pub fn of_base(table: &[Number], refusal: Refusal) -> String {
     match refusal.number {
         3 if table.len() == layout::length(table) => "the table has marks already".to_string(),
         3 => "the table's length is not what its head says in the base layout".to_string(),

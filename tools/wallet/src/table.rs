@@ -6,15 +6,15 @@
 
 use std::ops::Range;
 
-use bwlchareg::layout;
+use bwlchareg::{layout, Number};
 
 /// A role: an owner, who is a principal, and a role name, both 1 to 64.
 #[derive(Clone, Copy, Debug, PartialEq, Eq, PartialOrd, Ord)]
 pub struct Role {
     /// The principal who owns the role.
-    pub owner: u16,
+    pub owner: Number,
     /// The role's name.
-    pub name: u16,
+    pub name: Number,
 }
 
 impl Role {
@@ -31,19 +31,19 @@ impl Role {
 #[derive(Clone, Copy, Debug, PartialEq, Eq)]
 pub enum Body {
     /// Kind 1: this principal is in the role.
-    Member(u16),
+    Member(Number),
     /// Kind 2: whoever is in this role is in the role.
     Contained(Role),
     /// Kind 3: whoever is in M.second, for some M in owner.first.
     Linked {
         /// The name of the role whose members are the middles.
-        first: u16,
+        first: Number,
         /// The name of the middle's role.
-        second: u16,
+        second: Number,
     },
     /// Kind 4: whoever is in the role of every cell of the chain that begins
     /// at this part cell.
-    Parts(u16),
+    Parts(Number),
 }
 
 /// A credential. It defines `role`.
@@ -54,7 +54,7 @@ pub struct Credential {
     /// What it says of that role.
     pub body: Body,
     /// The automaton attached to it, from 1; 0 for none.
-    pub automaton: u16,
+    pub automaton: Number,
 }
 
 /// A part cell: a role and the cell behind it, 0 for none.
@@ -63,16 +63,19 @@ pub struct Cell {
     /// The part's role.
     pub role: Role,
     /// The next cell of the chain, from 1; 0 where the chain ends.
-    pub next: u16,
+    pub next: Number,
 }
+
+/// A set of states, in which state s counts 2^s.
+pub type StateSet = u16;
 
 /// An automaton: two sets of states, in which state s counts 2^s, and its mark.
 #[derive(Clone, Copy, Debug, PartialEq, Eq)]
 pub struct Automaton {
     /// The starting states.
-    pub start: u16,
+    pub start: Number,
     /// The accepting states.
-    pub accept: u16,
+    pub accept: Number,
     /// What it demands of the words of a record.
     pub mark: Mark,
 }
@@ -89,7 +92,7 @@ pub enum Mark {
 
 impl Mark {
     /// The mark's number.
-    fn number(self) -> u16 {
+    fn number(self) -> Number {
         match self {
             Mark::EveryWord => layout::EVERY_WORD,
             Mark::SomeWord => layout::SOME_WORD,
@@ -115,7 +118,7 @@ pub enum Label {
     /// Label 3: every role but this one.
     Not(Role),
     /// Label 4: every role of this principal.
-    Of(u16),
+    Of(Number),
 }
 
 impl Label {
@@ -134,13 +137,13 @@ impl Label {
 #[derive(Clone, Copy, Debug, PartialEq, Eq)]
 pub struct Edge {
     /// The automaton, from 1.
-    pub automaton: u16,
+    pub automaton: Number,
     /// The state that it leaves, 0 to 15.
-    pub from: u16,
+    pub from: Number,
     /// The roles that it reads.
     pub label: Label,
     /// The state that it leads to, 0 to 15.
-    pub to: u16,
+    pub to: Number,
 }
 
 /// A table: credentials, part cells, automata and edges, each numbered from 1.
@@ -158,12 +161,12 @@ pub struct Table {
 
 impl Table {
     /// The table as numbers: the head's four counts, then the records.
-    pub fn numbers(&self) -> Vec<u16> {
+    pub fn numbers(&self) -> Vec<Number> {
         let mut numbers = vec![
-            self.credentials.len() as u16,
-            self.cells.len() as u16,
-            self.automata.len() as u16,
-            self.edges.len() as u16,
+            self.credentials.len() as Number,
+            self.cells.len() as Number,
+            self.automata.len() as Number,
+            self.edges.len() as Number,
         ];
         numbers.extend(self.credentials.iter().flat_map(credential_numbers));
         numbers.extend(self.cells.iter().flat_map(cell_numbers));
@@ -174,10 +177,10 @@ impl Table {
 
     /// The records of a table that the checker accepts; its refusal of any
     /// other.
-    pub fn of_numbers(numbers: &[u16]) -> Result<Table, bwlchareg::Refusal> {
+    pub fn of_numbers(numbers: &[Number]) -> Result<Table, bwlchareg::Refusal> {
         bwlchareg::check(numbers)?;
         let [credentials, cells, automata, edges] = layout::counts(numbers);
-        let records = |count, place: fn(&[u16], usize) -> Range<usize>| {
+        let records = |count, place: fn(&[Number], usize) -> Range<usize>| {
             (1..=count).map(move |number| &numbers[place(numbers, number)])
         };
         Ok(Table {
@@ -193,16 +196,16 @@ impl Table {
     }
 
     /// The automaton of a number, from 1, if there is one.
-    pub fn automaton(&self, number: u16) -> Option<&Automaton> {
-        self.automata.get(usize::from(number).checked_sub(1)?)
+    pub fn automaton(&self, number: Number) -> Option<&Automaton> {
+        self.automata.get((number as usize).checked_sub(1)?)
     }
 
     /// The roles of the chain that begins at a part cell.
-    pub fn parts(&self, first: u16) -> Vec<Role> {
+    pub fn parts(&self, first: Number) -> Vec<Role> {
         let mut roles = Vec::new();
         let mut next = first;
         while next != 0 {
-            let cell = self.cells[usize::from(next) - 1];
+            let cell = self.cells[next as usize - 1];
             roles.push(cell.role);
             next = cell.next;
         }
@@ -210,7 +213,7 @@ impl Table {
     }
 }
 
-fn credential_numbers(credential: &Credential) -> [u16; layout::CREDENTIAL] {
+fn credential_numbers(credential: &Credential) -> [Number; layout::CREDENTIAL] {
     let (kind, first, second) = match credential.body {
         Body::Member(principal) => (1, principal, 0),
         Body::Contained(role) => (2, role.owner, role.name),
@@ -221,15 +224,15 @@ fn credential_numbers(credential: &Credential) -> [u16; layout::CREDENTIAL] {
     [owner, name, kind, first, second, credential.automaton]
 }
 
-fn cell_numbers(cell: &Cell) -> [u16; layout::CELL] {
+fn cell_numbers(cell: &Cell) -> [Number; layout::CELL] {
     [cell.role.owner, cell.role.name, cell.next]
 }
 
-fn automaton_numbers(automaton: &Automaton) -> [u16; layout::AUTOMATON] {
+fn automaton_numbers(automaton: &Automaton) -> [Number; layout::AUTOMATON] {
     [automaton.start, automaton.accept, automaton.mark.number()]
 }
 
-fn edge_numbers(edge: &Edge) -> [u16; layout::EDGE] {
+fn edge_numbers(edge: &Edge) -> [Number; layout::EDGE] {
     let (label, owner, name) = match edge.label {
         Label::Only(role) => (1, role.owner, role.name),
         Label::Any => (2, 0, 0),
@@ -242,7 +245,7 @@ fn edge_numbers(edge: &Edge) -> [u16; layout::EDGE] {
 // The checker has accepted the numbers that the functions below are given, so
 // every kind, mark and label is one of those that are told apart.
 
-fn credential(numbers: &[u16]) -> Credential {
+fn credential(numbers: &[Number]) -> Credential {
     let (first, second) = (numbers[3], numbers[4]);
     Credential {
         role: role(numbers),
@@ -256,14 +259,14 @@ fn credential(numbers: &[u16]) -> Credential {
     }
 }
 
-fn cell(numbers: &[u16]) -> Cell {
+fn cell(numbers: &[Number]) -> Cell {
     Cell {
         role: role(numbers),
         next: numbers[2],
     }
 }
 
-fn automaton(numbers: &[u16]) -> Automaton {
+fn automaton(numbers: &[Number]) -> Automaton {
     Automaton {
         start: numbers[0],
         accept: numbers[1],
@@ -274,7 +277,7 @@ fn automaton(numbers: &[u16]) -> Automaton {
     }
 }
 
-fn edge(numbers: &[u16]) -> Edge {
+fn edge(numbers: &[Number]) -> Edge {
     let own = role(&numbers[3..]);
     Edge {
         automaton: numbers[0],
@@ -289,7 +292,7 @@ fn edge(numbers: &[u16]) -> Edge {
     }
 }
 
-fn role(numbers: &[u16]) -> Role {
+fn role(numbers: &[Number]) -> Role {
     Role {
         owner: numbers[0],
         name: numbers[1],

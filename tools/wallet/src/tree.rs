@@ -6,14 +6,14 @@
 //! first nodes and words are shown, what is at fault, and how many more there
 //! are.
 
-use bwlchareg::Refusal;
+use bwlchareg::{Number, Refusal};
 
 use crate::derivation::{ancestors, numbered, Judged, Node};
 use crate::limits::NAMES;
 use crate::names::Names;
 use crate::refusal;
 use crate::rows::{self, padded};
-use crate::table::{Mark, Role};
+use crate::table::{Mark, Role, StateSet};
 use crate::words::{attached, run, spelt, states, words, Word, Words};
 use crate::Wallet;
 
@@ -74,7 +74,7 @@ pub fn short(wallet: &Wallet, judged: &Judged) -> String {
 /// That a word meets an automaton for which one word is enough.
 pub struct Meeting {
     /// The automaton.
-    pub automaton: u16,
+    pub automaton: Number,
     /// The word's number, from 1.
     pub number: usize,
     /// The word's roles, by their names.
@@ -118,7 +118,7 @@ pub fn reason(wallet: &Wallet, judged: &Judged, words: &Words, refusal: Refusal)
 }
 
 /// Credentials by their numbers: `credentials 1, 2, 3`.
-pub(crate) fn credentials<Number: ToString>(numbers: impl Iterator<Item = Number>) -> String {
+pub(crate) fn credentials<Value: ToString>(numbers: impl Iterator<Item = Value>) -> String {
     let listed: Vec<String> = numbers.map(|number| number.to_string()).collect();
     let plural = if listed.len() == 1 { "" } else { "s" };
     format!("credential{plural} {}", listed.join(", "))
@@ -126,7 +126,7 @@ pub(crate) fn credentials<Number: ToString>(numbers: impl Iterator<Item = Number
 
 /// How many words the automaton at this position rejects, or that it accepts none.
 fn rejection(wallet: &Wallet, words: &Words, position: u64) -> Option<String> {
-    let automaton = u16::try_from(position).ok()?;
+    let automaton = Number::try_from(position).ok()?;
     let said = match words.is_lenient(automaton) {
         true => "accepts none".to_string(),
         false => format!("rejects {}", words.rejected(automaton)),
@@ -184,7 +184,7 @@ fn fault_later(judged: &Judged) -> Vec<&Node> {
 
 /// How far a node's goal is indented.
 fn indent(node: &Node) -> usize {
-    2 * usize::from(node.level.saturating_sub(1))
+    2 * node.level.saturating_sub(1) as usize
 }
 
 /// The columns of a tree's lines.
@@ -277,7 +277,13 @@ fn width(words: &Words) -> usize {
 
 /// The lines of an automaton: the credentials to which it is attached, and its
 /// runs.
-fn runs(wallet: &Wallet, judged: &Judged, words: &Words, automaton: u16, lines: &mut Vec<String>) {
+fn runs(
+    wallet: &Wallet,
+    judged: &Judged,
+    words: &Words,
+    automaton: Number,
+    lines: &mut Vec<String>,
+) {
     lines.push(heading(wallet, judged, automaton));
     let line = |own| run_row(wallet, judged, words, automaton, own);
     let numbered = (1..).zip(&words.words);
@@ -301,7 +307,7 @@ pub(crate) fn faults(
     wallet: &Wallet,
     judged: &Judged,
     words: &Words,
-    automaton: u16,
+    automaton: Number,
     most: usize,
 ) -> Vec<String> {
     let at_fault = (1..).zip(&words.words);
@@ -324,7 +330,7 @@ fn run_row(
     wallet: &Wallet,
     judged: &Judged,
     words: &Words,
-    automaton: u16,
+    automaton: Number,
     (number, word): (usize, &Word),
 ) -> String {
     let mark = match words.is_fault(word, automaton) {
@@ -340,10 +346,11 @@ fn run_row(
 }
 
 /// What stands above an automaton's runs.
-fn heading(wallet: &Wallet, judged: &Judged, automaton: u16) -> String {
+fn heading(wallet: &Wallet, judged: &Judged, automaton: Number) -> String {
     let table = &wallet.table;
     let attached = attached(table, &judged.nodes, automaton);
     let own = table.automaton(automaton);
+    let accepting = own.map_or(0, |own| own.accept as StateSet);
     let demands = match own.map(|own| own.mark) {
         Some(Mark::SomeWord) => ", demands some word",
         _ => "",
@@ -352,13 +359,13 @@ fn heading(wallet: &Wallet, judged: &Judged, automaton: u16) -> String {
         "constraint {}, attached to {}, accepts in {}{demands}",
         wallet.names.constraint(automaton),
         credentials(attached.iter()),
-        set(&wallet.names, automaton, own.map_or(0, |own| own.accept))
+        set(&wallet.names, automaton, accepting)
     )
 }
 
 /// An automaton's run on a word: whether it accepts, the sets of states with
 /// the roles between them, and where no state is left.
-fn run_line(wallet: &Wallet, judged: &Judged, automaton: u16, word: &Word) -> String {
+fn run_line(wallet: &Wallet, judged: &Judged, automaton: Number, word: &Word) -> String {
     let roles = spelt(judged, word);
     let sets = run(&wallet.table, automaton, &roles);
     let mut line = match word.rejected_by(automaton) {
@@ -380,7 +387,7 @@ fn run_line(wallet: &Wallet, judged: &Judged, automaton: u16, word: &Word) -> St
 
 /// Where a run on these roles has no state left, and so rejects whatever comes
 /// then.
-pub fn dead(names: &Names, roles: &[Role], sets: &[u16]) -> Option<String> {
+pub fn dead(names: &Names, roles: &[Role], sets: &[StateSet]) -> Option<String> {
     let empty = sets.iter().position(|set| *set == 0)?;
     Some(match empty.checked_sub(1) {
         Some(index) => format!("no state left after {}", place(names, roles, index)?),
@@ -405,7 +412,7 @@ fn place(names: &Names, word: &[Role], index: usize) -> Option<String> {
 }
 
 /// A set of an automaton's states: `{0 2}`.
-pub(crate) fn set(names: &Names, automaton: u16, set: u16) -> String {
+pub(crate) fn set(names: &Names, automaton: Number, set: StateSet) -> String {
     let states: Vec<String> = states(set)
         .map(|state| names.state(automaton, state))
         .collect();

@@ -14,7 +14,7 @@ mod sets;
 
 use std::time::{Duration, Instant};
 
-use bwlchareg::{Query, Refusal};
+use bwlchareg::{Number, Query, Refusal};
 
 use crate::answer::{listed, Answer};
 use crate::limits::DEPTH;
@@ -77,7 +77,7 @@ pub struct Why {
 #[derive(Clone, Copy, Debug, PartialEq, Eq)]
 pub enum Least {
     /// This depth limit.
-    At(u16),
+    At(Number),
     /// None of those that a query may have.
     Nowhere,
 }
@@ -87,7 +87,7 @@ pub enum Least {
 #[derive(Clone, Debug, PartialEq, Eq)]
 pub struct Deeper {
     /// The depth limit.
-    pub depth: u16,
+    pub depth: Number,
     /// The sets.
     pub sets: Vec<u32>,
 }

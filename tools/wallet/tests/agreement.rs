@@ -7,7 +7,7 @@ mod shown;
 
 use std::collections::{BTreeMap, BTreeSet};
 
-use bwlchareg::{layout, Query, Refusal};
+use bwlchareg::{layout, Number, Query, Refusal};
 use reference::derivation::Derivation;
 use reference::generate::claims::{Claim, Grown};
 use reference::generate::growth::Policy;
@@ -92,10 +92,10 @@ fn first_reason(wallet: &Wallet, claim: &Claim, judged: &Judged, node: &Node) ->
         };
     };
     let count = wallet.table.credentials.len();
-    if number == 0 || usize::from(number) > count {
+    if number == 0 || number as usize > count {
         return Why::NoCredential(number);
     }
-    let place = layout::credential(&claim.table, number.into());
+    let place = layout::credential(&claim.table, number as usize);
     let [owner, name, kind, first, ..] = claim.table[place] else {
         panic!("a table with {count} credentials");
     };
@@ -146,7 +146,7 @@ fn check_tree(wallet: &Wallet, claim: &Claim, judged: &Judged, tally: &mut Tally
         }
     }
     for &automaton in &words.automata {
-        let mark = wallet.table.automata[usize::from(automaton) - 1].mark;
+        let mark = wallet.table.automata[automaton as usize - 1].mark;
         let met = is_met(wallet, &words, automaton);
         assert_eq!(words.is_met(automaton), met);
         *tally.entry(format!("{mark:?} met: {met}")).or_default() += 1;
@@ -154,9 +154,9 @@ fn check_tree(wallet: &Wallet, claim: &Claim, judged: &Judged, tally: &mut Tally
 }
 
 /// Whether an automaton accepts as many of the words as it demands.
-fn is_met(wallet: &Wallet, words: &Words, automaton: u16) -> bool {
+fn is_met(wallet: &Wallet, words: &Words, automaton: Number) -> bool {
     let rejected = words.rejected(automaton);
-    match wallet.table.automata[usize::from(automaton) - 1].mark {
+    match wallet.table.automata[automaton as usize - 1].mark {
         Mark::EveryWord => rejected == 0,
         Mark::SomeWord => rejected < words.words.len(),
     }
@@ -190,8 +190,8 @@ fn check_words(wallet: &Wallet, claim: &Claim, judged: &Judged, set: u32) {
     let used = used_credentials(&judged.nodes);
     let attached = used
         .iter()
-        .map(|&number| wallet.table.credentials[usize::from(number) - 1].automaton);
-    let attached: BTreeSet<u16> = attached.filter(|&automaton| automaton != 0).collect();
+        .map(|&number| wallet.table.credentials[number as usize - 1].automaton);
+    let attached: BTreeSet<Number> = attached.filter(|&automaton| automaton != 0).collect();
     assert!(attached.iter().eq(&words.automata));
 }
 
@@ -208,7 +208,7 @@ fn check_nodes(wallet: &Wallet, judged: &Judged) {
                 let above = &judged.nodes[parent];
                 assert_eq!(node.level, above.level + 1);
                 let number = above.credential.expect("a node that was read");
-                let credential = &wallet.table.credentials[usize::from(number) - 1];
+                let credential = &wallet.table.credentials[number as usize - 1];
                 let linked = matches!(credential.body, Body::Linked { .. });
                 let first = parent + 1 == index;
                 let principal = match (linked && first, above.middle) {
@@ -271,9 +271,10 @@ fn check_meetings(wallet: &Wallet, judged: &Judged, text: &str) {
     if words.words.len() > WORDS_SHOWN {
         return;
     }
-    let lenient = words.automata.iter().filter(|&&automaton| {
-        wallet.table.automata[usize::from(automaton) - 1].mark == Mark::SomeWord
-    });
+    let lenient = words
+        .automata
+        .iter()
+        .filter(|&&automaton| wallet.table.automata[automaton as usize - 1].mark == Mark::SomeWord);
     let accepted = lenient.map(|&automaton| words.words.len() - words.rejected(automaton));
     let accepted: Vec<usize> = accepted.collect();
     let met = text
@@ -425,7 +426,7 @@ fn grown_records_have_the_nodes_that_were_grown() {
 }
 
 /// Everything is shown of a record, whatever it is.
-fn show(wallet: &Wallet, query: Query, record: &[u16]) -> Judged {
+fn show(wallet: &Wallet, query: Query, record: &[Number]) -> Judged {
     let judged = judge(wallet, query, record);
     let numbers = wallet.table.numbers();
     assert_eq!(judged.verdict, bwlchareg::verify(&numbers, query, record));
@@ -437,14 +438,14 @@ fn show(wallet: &Wallet, query: Query, record: &[u16]) -> Judged {
 }
 
 /// Attaches a constraint that looks at the owners of roles alone.
-fn constrain_owners(random: &mut Random, table: &mut Table, credential: u16) {
+fn constrain_owners(random: &mut Random, table: &mut Table, credential: Number) {
     table.automata.push(Automaton {
         start: random.between(1, 3),
         accept: random.between(1, 3),
         mark: *random.pick(&[Mark::EveryWord, Mark::SomeWord]),
     });
-    let automaton = table.automata.len() as u16;
-    table.credentials[usize::from(credential) - 1].automaton = automaton;
+    let automaton = table.automata.len() as Number;
+    table.credentials[credential as usize - 1].automaton = automaton;
     for _ in 0..random.between(2, 6) {
         let owner = random.pick(&table.credentials).role.owner;
         table.edges.push(Edge {
@@ -481,11 +482,11 @@ fn constraints_on_owners_are_shown_as_they_are_judged() {
 }
 
 /// A number from a range that is wrong now and then.
-fn number(random: &mut Random, highest: u16) -> u16 {
+fn number(random: &mut Random, highest: Number) -> Number {
     match random.below(64) {
         0 => 0,
         1 => highest.wrapping_add(1),
-        2 => random.between(0, u16::MAX),
+        2 => random.between(0, Number::MAX),
         _ => random.between(1, highest.clamp(1, 4)),
     }
 }
@@ -499,9 +500,9 @@ fn any_query(random: &mut Random) -> Query {
     }
 }
 
-fn any_record(random: &mut Random) -> Vec<u16> {
+fn any_record(random: &mut Random) -> Vec<Number> {
     let length = random.below(40);
-    let greatest = *random.pick(&[2, 20, 64, u16::MAX]);
+    let greatest = *random.pick(&[2, 20, 64, Number::MAX]);
     (0..length)
         .map(|index| match (index % 2, random.below(4)) {
             (1, 1..) => 0,
@@ -555,7 +556,7 @@ fn any_table(random: &mut Random) -> Table {
             automaton: *random.pick(&[0, 0, 1, 2]),
         });
     }
-    for index in 0..random.below(5) as u16 {
+    for index in 0..random.below(5) as Number {
         let any = number(random, 4);
         table.cells.push(Cell {
             role: any_role(random),
@@ -608,7 +609,7 @@ fn any_numbers_are_shown_with_any_tables() {
 #[test]
 fn millions_of_numbers_are_no_trouble() {
     let mut random = Random::new(6);
-    let record: Vec<u16> = (0..4_000_000).map(|_| random.between(0, 20)).collect();
+    let record: Vec<Number> = (0..4_000_000).map(|_| random.between(0, 20)).collect();
     let wallet = Wallet {
         table: shown::constrained_shop().table,
         ..Wallet::default()

@@ -6,6 +6,7 @@ mod tool;
 use std::fs;
 use std::process::Command;
 
+use bwlchareg::Number;
 use tool::{
     accepted, file, fresh, refused, refused_apart, run, run_program, wrong, CONSTRAINED, PROGRAM,
     SHOP,
@@ -22,7 +23,7 @@ fn encode() {
     assert_eq!((done.code, done.err.as_str()), (Some(0), ""));
     let numbers = [4, 1, 1, 2].iter().chain(&reference::shop::U);
     let expected: Vec<u8> = numbers
-        .flat_map(|number: &u16| number.to_le_bytes())
+        .flat_map(|number: &Number| number.to_le_bytes())
         .collect();
     assert_eq!(done.out, expected);
     let text = fs::read(CONSTRAINED).expect("the example");

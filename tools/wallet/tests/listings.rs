@@ -7,6 +7,7 @@ mod tool;
 
 use std::collections::BTreeSet;
 
+use bwlchareg::Number;
 use common::{made_up, marked, nameless, query};
 use reference::generate::{crossed, wallets};
 use reference::random::Random;
@@ -71,7 +72,7 @@ fn assert_met(rows: &[&str], wallet: &Wallet, set: u32) {
     let (table, names) = (&wallet.table, &wallet.names);
     let numbered = table.credentials.iter().enumerate();
     let used = numbered.filter(|(index, _)| set & (1 << index) != 0);
-    let automata: BTreeSet<u16> = used.map(|(_, credential)| credential.automaton).collect();
+    let automata: BTreeSet<Number> = used.map(|(_, credential)| credential.automaton).collect();
     let lenient = automata.into_iter().filter(|&number| {
         let own = table.automaton(number);
         own.is_some_and(|own| own.mark == Mark::SomeWord)

@@ -4,7 +4,7 @@
 #[allow(dead_code)]
 mod shown;
 
-use bwlchareg::Query;
+use bwlchareg::{Number, Query};
 use reference::generate::wide;
 use shown::claims::{made_up, query, wallet};
 use shown::xml::{elements, Element};
@@ -17,7 +17,7 @@ use wallet::words::Word;
 use wallet::Wallet;
 
 /// Record R of the shop example.
-const R: [u16; 6] = [1, 2, 2, 0, 3, 0];
+const R: [Number; 6] = [1, 2, 2, 0, 3, 0];
 /// The edges of boxes that are marked.
 const GOOD: &str = "#116329";
 const BAD: &str = "#b42318";
@@ -291,7 +291,7 @@ fn the_word_that_is_enough_is_marked() {
 #[test]
 fn the_node_at_fault_is_marked() {
     let wallet = shop();
-    let cases: [(&[u16], &str); 3] = [
+    let cases: [(&[Number], &str); 3] = [
         (&[1, 2, 2, 0], "at fault: no numbers are left for node 3"),
         (
             &[1, 4, 2, 0, 3, 0],
@@ -326,7 +326,7 @@ fn there_is_nothing_to_draw_of_a_refused_table_or_query() {
 }
 
 /// A judged record of levels that each have the next one four times.
-fn wide_record(levels: u16) -> (Wallet, Judged) {
+fn wide_record(levels: Number) -> (Wallet, Judged) {
     let numbers = wide::records(levels).numbers();
     let table = Table::of_numbers(&numbers).expect("an accepted table");
     let wallet = Wallet {
@@ -429,7 +429,7 @@ fn name_everything(wallet: &mut Wallet) {
         HINDI,
         "--><script>",
     ];
-    let name = |number: u16| names[usize::from(number) % names.len()].to_string();
+    let name = |number: Number| names[number as usize % names.len()].to_string();
     wallet.names.principals = (1..=64).map(|number| (number, name(number))).collect();
     wallet.names.roles = (1..=64).map(|number| (number, name(number + 3))).collect();
     wallet.names.constraints = (1..=8).map(|number| (number, name(number + 5))).collect();

@@ -4,7 +4,7 @@
 
 mod common;
 
-use bwlchareg::{layout, Query, Refusal};
+use bwlchareg::{layout, Number, Query, Refusal};
 use common::{made_up, marked, nameless, query};
 use reference::generate::{crossed, wallets};
 use reference::random::Random;
@@ -93,7 +93,7 @@ fn last_line(text: &str) -> (&str, &str) {
 
 /// A record with names for its middles, a node on each line; and how many names
 /// it has.
-fn named(wallet: &Wallet, record: &[u16]) -> (String, usize) {
+fn named(wallet: &Wallet, record: &[Number]) -> (String, usize) {
     let mut names = 0;
     let mut lines = String::new();
     for node in record.chunks(layout::NODE) {

@@ -7,7 +7,7 @@ mod tool;
 
 use std::fs;
 
-use bwlchareg::{layout, Query};
+use bwlchareg::{layout, Number, Query};
 use wallet::answer::{listed, Answer};
 use wallet::parse::parse;
 use wallet::proof::{first_record, numbers, MOST_CELLS};
@@ -120,7 +120,7 @@ fn all_sets_of_an_example_have_the_blocks_that_each_has() {
 }
 
 /// A record with the names of its middles.
-fn named(wallet: &Wallet, record: &[u16]) -> String {
+fn named(wallet: &Wallet, record: &[Number]) -> String {
     let mut words = Vec::new();
     for node in record.chunks(layout::NODE) {
         words.push(node[0].to_string());

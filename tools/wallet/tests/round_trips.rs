@@ -5,6 +5,7 @@ mod common;
 
 use std::collections::BTreeMap;
 
+use bwlchareg::Number;
 use common::{made_up, nameless};
 use reference::random::Random;
 use wallet::parse::parse;
@@ -107,7 +108,7 @@ fn made_up_names_make_way_for_given_ones() {
 #[test]
 fn long_lists_of_numbers_are_wrapped() {
     let mut wallet = nameless(&[0, 0, 0, 0], None);
-    let name = |number: u16| (number, format!("principal-number-{number}"));
+    let name = |number: Number| (number, format!("principal-number-{number}"));
     wallet.names.principals = (1..=64).map(name).collect();
     let text = round_trip(&wallet);
     let wrapped = |line: &str| line.chars().count() <= 80 && line.starts_with("principals ");
@@ -133,15 +134,15 @@ fn inputs_come_back() {
 /// Gives some numbers names, often such as are made up for others.
 fn give_names(random: &mut Random, wallet: &mut Wallet) {
     let mut words = words(random);
-    let mut draw = |random: &mut Random, last: u16| {
+    let mut draw = |random: &mut Random, last: Number| {
         let seldom = *random.pick(&[1, 2, 8]);
         let numbers = (1..=last).filter(|_| random.one_in(seldom));
         let named = numbers.map_while(|number| Some((number, words.pop()?)));
-        named.collect::<BTreeMap<u16, String>>()
+        named.collect::<BTreeMap<Number, String>>()
     };
     wallet.names.principals = draw(random, 64);
     wallet.names.roles = draw(random, 64);
-    let automata = wallet.table.automata.len() as u16;
+    let automata = wallet.table.automata.len() as Number;
     wallet.names.constraints = draw(random, automata);
     for automaton in 1..=automata {
         for state in 0..16 {
@@ -189,7 +190,7 @@ impl Seen {
         });
         let mut uses = vec![0; table.cells.len()];
         for cell in chains.flatten() {
-            uses[usize::from(cell) - 1] += 1;
+            uses[cell as usize - 1] += 1;
         }
         let cells = begins("cell ");
         self.plain_chains += usize::from(text.contains('&') && !cells);
@@ -229,12 +230,12 @@ impl Seen {
 }
 
 /// The cells of a chain.
-fn chain(table: &Table, first: u16) -> Vec<u16> {
+fn chain(table: &Table, first: Number) -> Vec<Number> {
     let mut cells = Vec::new();
     let mut next = first;
     while next != 0 {
         cells.push(next);
-        next = table.cells[usize::from(next) - 1].next;
+        next = table.cells[next as usize - 1].next;
     }
     cells
 }

@@ -1,5 +1,6 @@
 //! The examples, and small texts, by hand: the numbers that they stand for.
 
+use bwlchareg::Number;
 use wallet::parse::parse;
 use wallet::print::print;
 use wallet::program;
@@ -53,7 +54,7 @@ fn words_without_a_number_get_the_least_that_is_free() {
     let wallet = read("C.r <- B.s\nprincipals A = 1, B = 3\nA.t <- D\nnames s = 1");
     let number = |word: &str| {
         let both = wallet.names.principals.iter().chain(&wallet.names.roles);
-        let found: Vec<u16> = both
+        let found: Vec<Number> = both
             .filter(|(_, name)| *name == word)
             .map(|(n, _)| *n)
             .collect();

@@ -6,6 +6,7 @@ mod common;
 
 use std::collections::BTreeMap;
 
+use bwlchareg::Number;
 use common::{assert_same, made_up, nameless};
 use reference::random::Random;
 use wallet::parse::parse;
@@ -27,7 +28,7 @@ struct Text {
     /// The principals and the role names in the order in which they stand.
     principals: Vec<String>,
     names: Vec<String>,
-    given: BTreeMap<String, u16>,
+    given: BTreeMap<String, Number>,
 }
 
 impl Text {
@@ -228,8 +229,8 @@ fn noted(words: &mut Vec<String>, word: String) -> String {
 
 /// The numbers of some words: the given ones, and for each other the least
 /// that neither a line gives nor an earlier word has.
-fn numbered(words: &[String], given: &BTreeMap<String, u16>) -> BTreeMap<u16, String> {
-    let mut numbers: BTreeMap<u16, String> = BTreeMap::new();
+fn numbered(words: &[String], given: &BTreeMap<String, Number>) -> BTreeMap<Number, String> {
+    let mut numbers: BTreeMap<Number, String> = BTreeMap::new();
     for word in words {
         if let Some(number) = given.get(word) {
             numbers.insert(*number, word.clone());

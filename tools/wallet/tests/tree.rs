@@ -4,16 +4,16 @@
 #[allow(dead_code)]
 mod shown;
 
-use bwlchareg::{Query, Refusal};
+use bwlchareg::{Number, Query, Refusal};
 use reference::generate::wide;
 use shown::{constrained_shop, credential, edge, names, role, shop, Q};
 use wallet::derivation::{judge, Judged};
-use wallet::table::{Automaton, Body, Label, Mark, Role, Table};
+use wallet::table::{Automaton, Body, Label, Mark, Role, StateSet, Table};
 use wallet::tree::{dead, short, text, DECISIVE_SHOWN, NODES_SHOWN, WORDS_SHOWN};
 use wallet::Wallet;
 
 /// Record R of the shop example.
-const R: [u16; 6] = [1, 2, 2, 0, 3, 0];
+const R: [Number; 6] = [1, 2, 2, 0, 3, 0];
 
 fn refused(number: u32, position: u64) -> Option<Refusal> {
     Some(Refusal { number, position })
@@ -28,7 +28,7 @@ fn lines(text: &str) -> String {
 }
 
 #[track_caller]
-fn check(wallet: &Wallet, query: Query, record: &[u16], expected: &str) -> Judged {
+fn check(wallet: &Wallet, query: Query, record: &[Number], expected: &str) -> Judged {
     let judged = judge(wallet, query, record);
     assert_eq!(text(wallet, &judged), lines(expected));
     judged
@@ -85,7 +85,7 @@ fn a_record_goes_on_after_the_tree() {
 
 #[test]
 fn a_record_is_stopped_at_a_node() {
-    let cases: [(&[u16], &str); 7] = [
+    let cases: [(&[Number], &str); 7] = [
         (&[], "refused 11 at 1: no numbers are left for node 1"),
         (
             &[1, 2, 2, 0, 3],
@@ -143,8 +143,8 @@ fn places_in_words_are_counted_role_by_role() {
     let names = names(&[(1, "Club")], &[(1, "door"), (2, "friend")]);
     let (door, friend) = (role(1, 1), role(1, 2));
     let after = |word: &[Role], empty: usize| {
-        let sets: Vec<u16> = (0..=word.len())
-            .map(|place| u16::from(place < empty))
+        let sets: Vec<StateSet> = (0..=word.len())
+            .map(|place| StateSet::from(place < empty))
             .collect();
         let said = dead(&names, word, &sets).expect("an empty set");
         said.replace("no state left after ", "")
@@ -169,7 +169,7 @@ fn places_in_words_are_counted_role_by_role() {
 }
 
 /// Levels of which each has the next one four times as its premise.
-const LEVELS: u16 = 7;
+const LEVELS: Number = 7;
 
 /// A wallet with that many levels, whose last credential has a constraint.
 fn wide_wallet() -> Wallet {
@@ -180,7 +180,7 @@ fn wide_wallet() -> Wallet {
         accept: 1,
         mark: Mark::EveryWord,
     }];
-    table.credentials[usize::from(LEVELS) - 1].automaton = 1;
+    table.credentials[LEVELS as usize - 1].automaton = 1;
     Wallet {
         table,
         ..Wallet::default()

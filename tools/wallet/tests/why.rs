@@ -7,7 +7,7 @@ mod tool;
 use std::collections::BTreeSet;
 use std::time::Duration;
 
-use bwlchareg::{layout, Query, Refusal};
+use bwlchareg::{layout, Number, Query, Refusal};
 use common::{made_up, marked, nameless, query};
 use reference::generate::{crossed, wallets};
 use reference::random::Random;
@@ -32,7 +32,7 @@ fn asked(query: Query) -> reference::Query {
 }
 
 /// What the second implementation lists, if anything.
-fn listed(table: &[u16], query: Query) -> Option<Vec<u32>> {
+fn listed(table: &[Number], query: Query) -> Option<Vec<u32>> {
     let mut cells = vec![0; 4096];
     let count = reference::list(table, asked(query), &mut cells).ok()?;
     cells.truncate(count);
@@ -40,7 +40,7 @@ fn listed(table: &[u16], query: Query) -> Option<Vec<u32>> {
 }
 
 /// A table with the automata that are kept.
-fn with(table: &[u16], is_kept: impl Fn(u16) -> bool) -> Vec<u16> {
+fn with(table: &[Number], is_kept: impl Fn(Number) -> bool) -> Vec<Number> {
     let mut table = table.to_vec();
     for number in 1..=layout::counts(&table)[0] {
         let automaton = layout::credential(&table, number).end - 1;
@@ -52,7 +52,7 @@ fn with(table: &[u16], is_kept: impl Fn(u16) -> bool) -> Vec<u16> {
 }
 
 /// The least depth limit at which the second implementation finds a set.
-fn least(table: &[u16], asked: Query) -> Least {
+fn least(table: &[Number], asked: Query) -> Least {
     let found = (1..=16).find(|&depth| listed(table, Query { depth, ..asked }).is_some());
     found.map_or(Least::Nowhere, Least::At)
 }
@@ -78,7 +78,7 @@ struct Seen {
 }
 
 /// Asks the second implementation all that the library was asked.
-fn compare(numbers: &[u16], asked: Query, seen: &mut Seen) {
+fn compare(numbers: &[Number], asked: Query, seen: &mut Seen) {
     let wallet = print(&nameless(numbers, Some(asked)));
     let wallet = parse(wallet.as_bytes()).expect("a printed text");
     let why = why(&wallet, asked);
@@ -110,7 +110,7 @@ fn others(sets: Vec<u32>, known: &[u32]) -> Vec<u32> {
         .collect()
 }
 
-fn compare_deeper(numbers: &[u16], why: &Why, seen: &mut Seen) {
+fn compare_deeper(numbers: &[Number], why: &Why, seen: &mut Seen) {
     let known = sets(&why.answer);
     let mut deeper = (why.query.depth + 1..=16).map(|depth| {
         let list = listed(numbers, Query { depth, ..why.query });
@@ -122,7 +122,7 @@ fn compare_deeper(numbers: &[u16], why: &Why, seen: &mut Seen) {
     seen.deeper += usize::from(first.is_some());
 }
 
-fn compare_unconstrained(numbers: &[u16], why: &Why, seen: &mut Seen) {
+fn compare_unconstrained(numbers: &[Number], why: &Why, seen: &mut Seen) {
     let own = why
         .unconstrained
         .as_ref()
@@ -143,7 +143,7 @@ fn compare_unconstrained(numbers: &[u16], why: &Why, seen: &mut Seen) {
             .nodes
             .iter()
             .flat_map(|node| [node.credential, node.middle]);
-        let record: Vec<u16> = record.flatten().collect();
+        let record: Vec<Number> = record.flatten().collect();
         assert!(!own.obstacles.is_empty());
         for obstacle in &own.obstacles {
             let alone = with(numbers, |automaton| automaton == obstacle.automaton);
@@ -157,7 +157,7 @@ fn compare_unconstrained(numbers: &[u16], why: &Why, seen: &mut Seen) {
 }
 
 /// Whether the second implementation finds that a principal is in a role.
-fn is_in(bare: &[u16], principal: u16, role: Role) -> bool {
+fn is_in(bare: &[Number], principal: Number, role: Role) -> bool {
     let Role { owner, name } = role;
     let asked = Query {
         principal,
@@ -169,7 +169,7 @@ fn is_in(bare: &[u16], principal: u16, role: Role) -> bool {
 }
 
 /// The roles that are asked for, and whether of the query's principal.
-fn wanted(bare: &[u16], wallet: &Wallet, asked: Query) -> BTreeSet<(Role, bool)> {
+fn wanted(bare: &[Number], wallet: &Wallet, asked: Query) -> BTreeSet<(Role, bool)> {
     let table = &wallet.table;
     let mut wanted = BTreeSet::new();
     let mut waiting = vec![(Role::asked(asked), true)];
@@ -201,7 +201,7 @@ fn wanted(bare: &[u16], wallet: &Wallet, asked: Query) -> BTreeSet<(Role, bool)>
     wanted
 }
 
-fn compare_roles(bare: &[u16], wallet: &Wallet, why: &Why, seen: &mut Seen) {
+fn compare_roles(bare: &[Number], wallet: &Wallet, why: &Why, seen: &mut Seen) {
     let wanted = wanted(bare, wallet, why.query);
     let definers = |role: Role| {
         wallet

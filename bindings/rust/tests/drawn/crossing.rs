@@ -7,43 +7,43 @@
 //! minimal, and a part that forbids none of them may go by any, as long as each
 //! way that is demanded is gone by some part.
 
-use bwlchareg::{layout, Query};
+use bwlchareg::{layout, Number, Query};
 
 use super::Random;
 
 /// The owner of the roles, who is asked about, and the first of the middles.
-const OWNER: u16 = 1;
-const MEMBER: u16 = 2;
-const MIDDLE: u16 = 3;
+const OWNER: Number = 1;
+const MEMBER: Number = 2;
+const MIDDLE: Number = 3;
 /// The most ways, and the last principal that a table names.
-const WAYS: u16 = 3;
-pub const LAST_PRINCIPAL: u16 = MIDDLE + WAYS - 1;
+const WAYS: Number = 3;
+pub const LAST_PRINCIPAL: Number = MIDDLE + WAYS - 1;
 /// The names of the roles; parts and ways are numbered after theirs.
-const GOAL: u16 = 1;
-const SHARED: u16 = 2;
-const LINK: u16 = 3;
-const PART: u16 = 10;
-const WAY: u16 = 20;
+const GOAL: Number = 1;
+const SHARED: Number = 2;
+const LINK: Number = 3;
+const PART: Number = 10;
+const WAY: Number = 20;
 
 /// What a part asks by its constraint.
 enum Wish {
     /// That no word below the part goes by this way.
-    Not([u16; 2]),
+    Not([Number; 2]),
     /// That some word goes by this way, below whichever part.
-    Some([u16; 2]),
+    Some([Number; 2]),
 }
 
 /// The records of a table, by their sorts.
 #[derive(Default)]
 struct Records {
-    credentials: Vec<[u16; layout::CREDENTIAL]>,
-    cells: Vec<[u16; layout::CELL]>,
-    automata: Vec<[u16; layout::AUTOMATON]>,
-    edges: Vec<[u16; layout::EDGE]>,
+    credentials: Vec<[Number; layout::CREDENTIAL]>,
+    cells: Vec<[Number; layout::CELL]>,
+    automata: Vec<[Number; layout::AUTOMATON]>,
+    edges: Vec<[Number; layout::EDGE]>,
 }
 
 impl Records {
-    fn numbers(&self) -> Vec<u16> {
+    fn numbers(&self) -> Vec<Number> {
         let Records {
             credentials,
             cells,
@@ -51,7 +51,7 @@ impl Records {
             edges,
         } = self;
         let counts = [credentials.len(), cells.len(), automata.len(), edges.len()];
-        let mut table: Vec<u16> = counts.map(|count| count as u16).to_vec();
+        let mut table: Vec<Number> = counts.map(|count| count as Number).to_vec();
         table.extend(credentials.as_flattened());
         table.extend(cells.as_flattened());
         table.extend(automata.as_flattened());
@@ -61,7 +61,7 @@ impl Records {
 }
 
 /// Such a table, with its query.
-pub fn crossing(random: &mut Random) -> (Vec<u16>, Query) {
+pub fn crossing(random: &mut Random) -> (Vec<Number>, Query) {
     let (parts, ways) = (random.between(2, 4), random.between(2, WAYS));
     let linked = random.one_in(2);
     let mut records = Records::default();
@@ -89,19 +89,20 @@ pub fn crossing(random: &mut Random) -> (Vec<u16>, Query) {
 }
 
 /// Whoever is in the shared role is in a part, if its wish is met.
-fn add_part(records: &mut Records, part: u16, wish: Option<Wish>) {
+fn add_part(records: &mut Records, part: Number, wish: Option<Wish>) {
     let mut credential = [OWNER, part, 2, OWNER, SHARED, 0];
     if let Some(wish) = wish {
-        credential[5] = records.automata.len() as u16 + 1;
+        credential[5] = records.automata.len() as Number + 1;
         add_automaton(records, part, wish);
     }
     records.credentials.push(credential);
 }
 
 /// The automaton for a part's wish.
-fn add_automaton(records: &mut Records, part: u16, wish: Wish) {
-    let automaton = records.automata.len() as u16 + 1;
-    let edge = |from, label, [owner, name]: [u16; 2], to| [automaton, from, label, owner, name, to];
+fn add_automaton(records: &mut Records, part: Number, wish: Wish) {
+    let automaton = records.automata.len() as Number + 1;
+    let edge =
+        |from, label, [owner, name]: [Number; 2], to| [automaton, from, label, owner, name, to];
     match wish {
         // Below the part it is in state 1, and reads every role but the way's.
         Wish::Not(way) => {
@@ -121,7 +122,7 @@ fn add_automaton(records: &mut Records, part: u16, wish: Wish) {
 
 /// So many ways to the shared role: by one link with several middles, or by a
 /// containment for each.
-fn add_ways(records: &mut Records, ways: u16, linked: bool) {
+fn add_ways(records: &mut Records, ways: Number, linked: bool) {
     let credentials = &mut records.credentials;
     if linked {
         credentials.push([OWNER, SHARED, 3, LINK, WAY, 0]);
@@ -137,7 +138,7 @@ fn add_ways(records: &mut Records, ways: u16, linked: bool) {
 }
 
 /// The role by which a way goes: one of a middle's, or one of the owner's.
-fn way(number: u16, linked: bool) -> [u16; 2] {
+fn way(number: Number, linked: bool) -> [Number; 2] {
     match linked {
         true => [MIDDLE + number - 1, WAY],
         false => [OWNER, WAY + number],

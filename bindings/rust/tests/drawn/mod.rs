@@ -4,7 +4,7 @@
 
 pub mod crossing;
 
-use bwlchareg::{layout, minimal_sets, Query};
+use bwlchareg::{layout, minimal_sets, Number, Query};
 
 /// SplitMix64: a counter that goes up by a fixed odd step, whose bits are then
 /// mixed.
@@ -27,8 +27,8 @@ impl Random {
     }
 
     /// A number from `low` to `high`, both included.
-    pub fn between(&mut self, low: u16, high: u16) -> u16 {
-        low + (self.bits() % (u64::from(high - low) + 1)) as u16
+    pub fn between(&mut self, low: Number, high: Number) -> Number {
+        low + (self.bits() % (u64::from(high - low) + 1)) as Number
     }
 
     /// A length or an index up to `most`.
@@ -46,7 +46,7 @@ impl Random {
 pub const LONGEST: usize = 70_000;
 
 /// A slice that may be of any length and have any numbers in it.
-pub fn slice(random: &mut Random) -> Vec<u16> {
+pub fn slice(random: &mut Random) -> Vec<Number> {
     let most = match random.up_to(40) {
         0 => LONGEST,
         1..=20 => 200,
@@ -55,8 +55,8 @@ pub fn slice(random: &mut Random) -> Vec<u16> {
     let length = random.up_to(most);
     let highest = match random.up_to(4) {
         0 => return vec![0; length],
-        1 => return vec![u16::MAX; length],
-        2 => u16::MAX,
+        1 => return vec![Number::MAX; length],
+        2 => Number::MAX,
         3 => 64,
         _ => 4,
     };
@@ -65,7 +65,7 @@ pub fn slice(random: &mut Random) -> Vec<u16> {
 
 /// A table's slice: anything, a table with one wrong number or length, or a
 /// table.
-pub fn table(random: &mut Random) -> Vec<u16> {
+pub fn table(random: &mut Random) -> Vec<Number> {
     if random.one_in(4) {
         return slice(random);
     }
@@ -86,7 +86,7 @@ pub fn table(random: &mut Random) -> Vec<u16> {
 }
 
 /// Lets every chain begin at the second cell of its pair, which is its last.
-fn begin_chains_late(table: &mut [u16]) {
+fn begin_chains_late(table: &mut [Number]) {
     for number in 1..=layout::counts(table)[0] {
         let place = layout::credential(table, number);
         let credential = &mut table[place];
@@ -98,7 +98,7 @@ fn begin_chains_late(table: &mut [u16]) {
 
 /// A table of few principals and names, so that credentials meet. Part cells
 /// come in pairs, each a chain.
-pub fn accepted(random: &mut Random) -> Vec<u16> {
+pub fn accepted(random: &mut Random) -> Vec<Number> {
     let credentials = random.between(0, 8);
     let pairs = random.between(0, 3);
     let automata = random.between(0, 8);
@@ -129,13 +129,17 @@ pub fn accepted(random: &mut Random) -> Vec<u16> {
 }
 
 /// Such a table with a query.
-pub fn accepted_and_query(random: &mut Random) -> (Vec<u16>, Query) {
+pub fn accepted_and_query(random: &mut Random) -> (Vec<Number>, Query) {
     let table = accepted(random);
     let query = query(random, &table);
     (table, query)
 }
 
-fn credential(random: &mut Random, pairs: u16, automata: u16) -> [u16; layout::CREDENTIAL] {
+fn credential(
+    random: &mut Random,
+    pairs: Number,
+    automata: Number,
+) -> [Number; layout::CREDENTIAL] {
     let [owner, name] = role(random);
     let [first, second] = role(random);
     let automaton = match random.up_to(3) {
@@ -153,7 +157,7 @@ fn credential(random: &mut Random, pairs: u16, automata: u16) -> [u16; layout::C
     }
 }
 
-fn edge(random: &mut Random, automata: u16) -> [u16; layout::EDGE] {
+fn edge(random: &mut Random, automata: Number) -> [Number; layout::EDGE] {
     let label = random.between(1, 4);
     let [owner, name] = role(random);
     let [owner, name] = match label {
@@ -166,17 +170,17 @@ fn edge(random: &mut Random, automata: u16) -> [u16; layout::EDGE] {
     [automaton, from, label, owner, name, to]
 }
 
-fn role(random: &mut Random) -> [u16; 2] {
+fn role(random: &mut Random) -> [Number; 2] {
     [random.between(1, 2), random.between(1, 3)]
 }
 
 /// The whole list of a drawn table, empty where there is none.
-pub fn listed(table: &[u16], query: Query) -> Vec<u32> {
+pub fn listed(table: &[Number], query: Query) -> Vec<u32> {
     minimal_sets(table, query).unwrap_or_default()
 }
 
 /// A query, valid most of the time, for a role of the table where there is one.
-pub fn query(random: &mut Random, table: &[u16]) -> Query {
+pub fn query(random: &mut Random, table: &[Number]) -> Query {
     let defined: Vec<_> = credentials(table)
         .map(|(_, credential)| credential)
         .collect();
@@ -200,7 +204,7 @@ pub fn query(random: &mut Random, table: &[u16]) -> Query {
         query.owner = random.between(0, 1);
     }
     if random.one_in(16) {
-        query.name = random.between(0, u16::MAX);
+        query.name = random.between(0, Number::MAX);
     }
     if random.one_in(16) {
         query.depth = random.between(15, 17);
@@ -210,7 +214,7 @@ pub fn query(random: &mut Random, table: &[u16]) -> Query {
 
 /// A record's slice: anything, or a derivation that is drawn goal by goal, whole
 /// most of the time. Levels, roles on a branch and words are not looked at.
-pub fn record(random: &mut Random, table: &[u16], query: Query) -> Vec<u16> {
+pub fn record(random: &mut Random, table: &[Number], query: Query) -> Vec<Number> {
     if random.one_in(4) {
         return slice(random);
     }
@@ -238,25 +242,30 @@ pub fn record(random: &mut Random, table: &[u16], query: Query) -> Vec<u16> {
 }
 
 /// The credentials that a slice has room for, with their numbers.
-fn credentials(table: &[u16]) -> impl Iterator<Item = (u16, &[u16])> {
+fn credentials(table: &[Number]) -> impl Iterator<Item = (Number, &[Number])> {
     let count = layout::counts(table)[0].min(20);
     let records = (1..=count).map_while(|number| table.get(layout::credential(table, number)));
     (1..).zip(records)
 }
 
 /// Whether a credential defines a goal's role, and of kind 1 is the goal's.
-fn fits(credential: &[u16], [principal, owner, name]: [u16; 3]) -> bool {
+fn fits(credential: &[Number], [principal, owner, name]: [Number; 3]) -> bool {
     credential[..2] == [owner, name] && (credential[2] != 1 || credential[3] == principal)
 }
 
 /// The goals that a credential asks for, the first one last.
-fn premises(table: &[u16], credential: &[u16], principal: u16, middle: u16) -> Vec<[u16; 3]> {
+fn premises(
+    table: &[Number],
+    credential: &[Number],
+    principal: Number,
+    middle: Number,
+) -> Vec<[Number; 3]> {
     let [owner, _, kind, first, second] = [0, 1, 2, 3, 4].map(|field| credential[field]);
     match kind {
         2 => vec![[principal, first, second]],
         3 => vec![[principal, middle, second], [middle, owner, first]],
         4 => {
-            let first = usize::from(first.max(1));
+            let first = first.max(1) as usize;
             let pair = [first + 1, first].map(|number| table.get(layout::cell(table, number)));
             let pair = pair.into_iter().flatten();
             pair.map(|cell| [principal, cell[0], cell[1]]).collect()

@@ -3,12 +3,14 @@
 
 use std::collections::BTreeMap;
 
+use bwlchareg::Number;
+
 use crate::limits::{AUTOMATA, EDGES};
 use crate::mistake::{quoted, Mistake, Place};
 use crate::parse::reader::Word;
 use crate::parse::statement::StateWord;
 use crate::parse::states::States;
-use crate::table::{Automaton, Edge, Label, Mark};
+use crate::table::{Automaton, Edge, Label, Mark, StateSet};
 
 /// The constraints so far. States are known by their ranks.
 #[derive(Clone, Debug, Default)]
@@ -34,7 +36,7 @@ struct Constraint {
 /// A set of states, and the line on which it stands.
 #[derive(Clone, Copy, Debug)]
 struct Set {
-    states: u16,
+    states: StateSet,
     line: usize,
 }
 
@@ -168,7 +170,7 @@ impl Constraints {
         });
         let states = &mut self.all[open.index].states;
         let edge = Edge {
-            automaton: open.index as u16 + 1,
+            automaton: open.index as Number + 1,
             from: states.rank(from)?,
             label,
             to: states.rank(to)?,
@@ -178,14 +180,14 @@ impl Constraints {
     }
 
     /// The number of the constraint with a name.
-    pub fn number(&self, name: &Word) -> Result<Option<u16>, Mistake> {
-        Ok(self.index(name)?.map(|index| index as u16 + 1))
+    pub fn number(&self, name: &Word) -> Result<Option<Number>, Mistake> {
+        Ok(self.index(name)?.map(|index| index as Number + 1))
     }
 
     /// The automata, with the numbers of their states.
     pub fn automata(&self) -> Vec<Automaton> {
         let automaton = |constraint: &Constraint| {
-            let numbered = |set: Set| constraint.states.numbered(set.states);
+            let numbered = |set: Set| constraint.states.numbered(set.states) as Number;
             Automaton {
                 start: constraint.start.map_or(0, numbered),
                 accept: constraint.accept.map_or(0, numbered),
@@ -196,8 +198,8 @@ impl Constraints {
     }
 
     /// The number of each state of an automaton, in the order of the ranks.
-    pub fn states(&self, automaton: u16) -> Vec<u16> {
-        self.all[usize::from(automaton) - 1].states.numbers()
+    pub fn states(&self, automaton: Number) -> Vec<Number> {
+        self.all[automaton as usize - 1].states.numbers()
     }
 
     /// The line of each constraint.
@@ -207,13 +209,13 @@ impl Constraints {
     }
 
     /// The constraints' names, by number.
-    pub fn names(&self) -> BTreeMap<u16, String> {
+    pub fn names(&self) -> BTreeMap<Number, String> {
         let names = self.all.iter().map(|own| own.name.text.clone());
         (1..).zip(names).collect()
     }
 
     /// The states' names, by automaton and number.
-    pub fn state_names(&self) -> BTreeMap<(u16, u16), String> {
+    pub fn state_names(&self) -> BTreeMap<(Number, Number), String> {
         let mut names = BTreeMap::new();
         for (automaton, constraint) in (1..).zip(&self.all) {
             let words = constraint.states.words();

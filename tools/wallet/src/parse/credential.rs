@@ -4,7 +4,7 @@
 use crate::limits::PARTS;
 use crate::mistake::{quoted, Mistake};
 use crate::parse::line::{cell_number, role};
-use crate::parse::reader::{Number, Reader};
+use crate::parse::reader::{Numeral, Reader};
 use crate::parse::statement::{BodyWords, RoleWords, Statement};
 
 /// Reads the line.
@@ -119,7 +119,7 @@ fn linked_part(reader: &Reader) -> Mistake {
 }
 
 /// `at cell 1`, if it is there.
-fn at_cell(reader: &mut Reader) -> Result<Option<Number>, Mistake> {
+fn at_cell(reader: &mut Reader) -> Result<Option<Numeral>, Mistake> {
     if !reader.passes("at") {
         return Ok(None);
     }

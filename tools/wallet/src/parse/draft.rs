@@ -2,13 +2,13 @@
 //! states are known by their ranks until the last line; `finish` then gives
 //! everything its number.
 
-use bwlchareg::Query;
+use bwlchareg::{Number, Query};
 
 use crate::limits::{CELLS, CREDENTIALS};
 use crate::mistake::{quoted, Mistake, Place};
 use crate::parse::constraints::{Constraints, Which};
 use crate::parse::numbering::{Sort, Vocabulary};
-use crate::parse::reader::{Number, Word};
+use crate::parse::reader::{Numeral, Word};
 use crate::parse::statement::{BodyWords, LabelWords, QueryWords, RoleWords, Statement};
 use crate::table::{Body, Label, Role};
 
@@ -49,7 +49,7 @@ pub enum BodyDraft {
     /// Kinds 1 to 3.
     Single(Body),
     /// Kind 4: the roles, and the cell after `at cell`.
-    Parts(Vec<Role>, Option<Number>),
+    Parts(Vec<Role>, Option<Numeral>),
 }
 
 /// A `cell` line.
@@ -58,7 +58,7 @@ pub struct CellDraft {
     /// The part's role.
     pub role: Role,
     /// The cell after `then`.
-    pub next: Option<Number>,
+    pub next: Option<Numeral>,
     /// Its line.
     pub line: usize,
 }
@@ -132,14 +132,14 @@ impl Draft {
 
     fn add_cell(
         &mut self,
-        number: Number,
+        number: Numeral,
         role: &RoleWords,
-        next: Option<Number>,
+        next: Option<Numeral>,
         place: Place,
     ) -> Result<(), Mistake> {
         self.add_part(place)?;
         let own = self.cells.len() + 1;
-        if usize::from(number.value) != own {
+        if number.value as usize != own {
             return Err(number.place.mistake(
                 format_args!("the next cell is cell {own}, not {}", number.value),
                 format_args!("write `cell {own}`: cells are numbered in the order of their lines"),
@@ -181,7 +181,7 @@ impl Draft {
         Ok(())
     }
 
-    fn give(&mut self, sort: Sort, all: &[(Word, Number)]) -> Result<(), Mistake> {
+    fn give(&mut self, sort: Sort, all: &[(Word, Numeral)]) -> Result<(), Mistake> {
         let mut all = all.iter();
         all.try_for_each(|(word, number)| self.words.give(sort, word, *number))
     }
@@ -196,7 +196,7 @@ impl Draft {
     }
 
     /// The number of the constraint that a credential names.
-    pub fn automaton(&self, credential: &CredentialDraft) -> Result<u16, Mistake> {
+    pub fn automaton(&self, credential: &CredentialDraft) -> Result<Number, Mistake> {
         let Some(name) = &credential.under else {
             return Ok(0);
         };

@@ -1,14 +1,14 @@
 //! The end of a text: part cells are put in order, and every rank becomes a
 //! number.
 
-use bwlchareg::Query;
+use bwlchareg::{Number, Query};
 
 use crate::mistake::{quoted, Mistake};
 use crate::names::Names;
 use crate::parse::draft::{BodyDraft, CellDraft, Draft};
 use crate::parse::numbering::Sort;
 use crate::parse::query::find;
-use crate::parse::reader::Number;
+use crate::parse::reader::Numeral;
 use crate::table::{Body, Cell, Credential, Edge, Label, Role, Table};
 use crate::{Lines, Wallet};
 
@@ -62,13 +62,13 @@ fn given_cells(drafts: &[CellDraft]) -> Result<Vec<Cell>, Mistake> {
     let mut cells = Vec::new();
     for (own, draft) in (1..).zip(drafts) {
         let next = draft.next.map_or(0, |next| next.value);
-        if let Some(Number { value, place }) = draft.next {
-            if value <= own || usize::from(value) > drafts.len() {
+        if let Some(Numeral { value, place }) = draft.next {
+            if value <= own || value as usize > drafts.len() {
                 let instead = match drafts.len() {
-                    last if last == usize::from(own) => {
+                    last if last == own as usize => {
                         "leave out `then`, or write another `cell` line".to_string()
                     }
-                    last if last == usize::from(own) + 1 => format!("write {last}"),
+                    last if last == own as usize + 1 => format!("write {last}"),
                     last => format!("write a number from {} to {last}", own + 1),
                 };
                 let wrong = format!("cell {value} is not among the `cell` lines after cell {own}");
@@ -84,15 +84,15 @@ fn given_cells(drafts: &[CellDraft]) -> Result<Vec<Cell>, Mistake> {
 }
 
 /// Adds cells for the roles of an intersection, and tells the first.
-fn add_chain(cells: &mut Vec<Cell>, roles: &[Role]) -> u16 {
-    let first = cells.len() as u16 + 1;
+fn add_chain(cells: &mut Vec<Cell>, roles: &[Role]) -> Number {
+    let first = cells.len() as Number + 1;
     let last = cells.len() + roles.len();
     for role in roles {
         let following = cells.len() + 2;
         let next = if following > last {
             0
         } else {
-            following as u16
+            following as Number
         };
         cells.push(Cell { role: *role, next });
     }
@@ -100,12 +100,12 @@ fn add_chain(cells: &mut Vec<Cell>, roles: &[Role]) -> u16 {
 }
 
 /// Whether the chain at a cell of the `cell` lines has these roles.
-fn check_chain(draft: &Draft, roles: &[Role], cell: Number) -> Result<(), Mistake> {
+fn check_chain(draft: &Draft, roles: &[Role], cell: Numeral) -> Result<(), Mistake> {
     let number = cell.value;
     let mut chain = Vec::new();
     let mut next = Some(number);
     while let Some(number) = next {
-        let Some(cell) = draft.cells.get(usize::from(number) - 1) else {
+        let Some(cell) = draft.cells.get(number as usize - 1) else {
             break;
         };
         chain.push(cell.role);
@@ -159,17 +159,17 @@ fn numbered(draft: &Draft, mut table: Table, names: Names, lines: Lines) -> Wall
 
 /// The numbers of principals and role names, in the order of their ranks.
 struct Numbers {
-    principals: Vec<u16>,
-    names: Vec<u16>,
+    principals: Vec<Number>,
+    names: Vec<Number>,
 }
 
 impl Numbers {
-    fn principal(&self, rank: u16) -> u16 {
-        self.principals[usize::from(rank)]
+    fn principal(&self, rank: Number) -> Number {
+        self.principals[rank as usize]
     }
 
-    fn name(&self, rank: u16) -> u16 {
-        self.names[usize::from(rank)]
+    fn name(&self, rank: Number) -> Number {
+        self.names[rank as usize]
     }
 
     fn role(&self, role: Role) -> Role {
@@ -192,16 +192,16 @@ impl Numbers {
     }
 
     /// An edge of an automaton whose states have these numbers.
-    fn edge(&self, edge: Edge, states: &[u16]) -> Edge {
+    fn edge(&self, edge: Edge, states: &[Number]) -> Edge {
         Edge {
-            from: states[usize::from(edge.from)],
+            from: states[edge.from as usize],
             label: match edge.label {
                 Label::Only(role) => Label::Only(self.role(role)),
                 Label::Any => Label::Any,
                 Label::Not(role) => Label::Not(self.role(role)),
                 Label::Of(owner) => Label::Of(self.principal(owner)),
             },
-            to: states[usize::from(edge.to)],
+            to: states[edge.to as usize],
             ..edge
         }
     }

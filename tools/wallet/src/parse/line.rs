@@ -1,11 +1,13 @@
 //! A line of a wallet's text by itself: which kind of line it is, and what it
 //! says in words. What the words stand for is found by the other files here.
 
+use bwlchareg::Number;
+
 use crate::limits::{CELLS, DEPTH, NAMES, STATES};
 use crate::mistake::{quoted, Mistake, Place};
 use crate::parse::credential;
 use crate::parse::numbering::Sort;
-use crate::parse::reader::{Number, Reader, Word};
+use crate::parse::reader::{Numeral, Reader, Word};
 use crate::parse::statement::{LabelWords, QueryWords, RoleWords, StateWord, Statement};
 use crate::table::Mark;
 use crate::tokens::{Sign, Token};
@@ -83,7 +85,7 @@ fn unknown(line: usize, tokens: &[Token]) -> Mistake {
 }
 
 /// `principals A = 1, B = 2`, or `names` with role names.
-fn numbered(mut reader: Reader, sort: Sort) -> Result<Vec<(Word, Number)>, Mistake> {
+fn numbered(mut reader: Reader, sort: Sort) -> Result<Vec<(Word, Numeral)>, Mistake> {
     let mut all = Vec::new();
     let number = format!("{}'s number", sort.one());
     reader.pass();
@@ -229,8 +231,8 @@ fn cell(mut reader: Reader) -> Result<Statement, Mistake> {
 }
 
 /// The number of a part cell.
-pub fn cell_number(reader: &mut Reader) -> Result<Number, Mistake> {
-    reader.number("a part cell", 1..=CELLS as u16)
+pub fn cell_number(reader: &mut Reader) -> Result<Numeral, Mistake> {
+    reader.number("a part cell", 1..=CELLS as Number)
 }
 
 /// `A.r`

@@ -3,9 +3,11 @@
 
 use std::collections::BTreeMap;
 
+use bwlchareg::Number;
+
 use crate::limits::NAMES;
 use crate::mistake::{quoted, Mistake, Place};
-use crate::parse::reader::{Number, Word};
+use crate::parse::reader::{Numeral, Word};
 use crate::parse::statement::RoleWords;
 use crate::table::Role;
 
@@ -49,7 +51,7 @@ impl Sort {
 #[derive(Clone, Debug, Default)]
 pub struct Vocabulary {
     /// The sort and rank of every word, and where it first stands.
-    known: BTreeMap<String, (Sort, u16, Place)>,
+    known: BTreeMap<String, (Sort, Number, Place)>,
     principals: Vec<Entry>,
     names: Vec<Entry>,
 }
@@ -58,21 +60,21 @@ pub struct Vocabulary {
 #[derive(Clone, Debug)]
 struct Entry {
     word: String,
-    given: Option<Number>,
+    given: Option<Numeral>,
     /// Whether a line other than the query has it.
     used: bool,
 }
 
 impl Vocabulary {
     /// The rank of a word of this sort.
-    pub fn rank(&mut self, sort: Sort, word: &Word) -> Result<u16, Mistake> {
+    pub fn rank(&mut self, sort: Sort, word: &Word) -> Result<Number, Mistake> {
         let rank = self.asked_rank((sort, word))?;
-        self.entries_mut(sort)[usize::from(rank)].used = true;
+        self.entries_mut(sort)[rank as usize].used = true;
         Ok(rank)
     }
 
     /// The same for a word of the query, which another line must have too.
-    pub fn asked_rank(&mut self, (sort, word): (Sort, &Word)) -> Result<u16, Mistake> {
+    pub fn asked_rank(&mut self, (sort, word): (Sort, &Word)) -> Result<Number, Mistake> {
         if let Some(&(known, rank, first)) = self.known.get(&word.text) {
             if known == sort {
                 return Ok(rank);
@@ -90,7 +92,7 @@ impl Vocabulary {
         }
         word.check_spelling(self.known.keys())?;
         let entries = self.entries_mut(sort);
-        let rank = entries.len() as u16;
+        let rank = entries.len() as Number;
         if rank == NAMES {
             return Err(word.place.mistake(
                 format_args!("{} would be one of 65 {}", quoted(&word.text), sort.many()),
@@ -116,10 +118,10 @@ impl Vocabulary {
     }
 
     /// Gives a word its number.
-    pub fn give(&mut self, sort: Sort, word: &Word, number: Number) -> Result<(), Mistake> {
-        let rank = usize::from(self.rank(sort, word)?);
+    pub fn give(&mut self, sort: Sort, word: &Word, number: Numeral) -> Result<(), Mistake> {
+        let rank = self.rank(sort, word)? as usize;
         let entries = self.entries_mut(sort);
-        if let Some(Number { value, place }) = entries[rank].given {
+        if let Some(Numeral { value, place }) = entries[rank].given {
             return Err(word.place.mistake(
                 format_args!(
                     "{} already has the number {value}, given on line {}, column {}",
@@ -130,7 +132,7 @@ impl Vocabulary {
                 "leave out one of them",
             ));
         }
-        let same = |given: &Number| given.value == number.value;
+        let same = |given: &Numeral| given.value == number.value;
         let other = entries
             .iter()
             .find(|entry| entry.given.as_ref().is_some_and(same));
@@ -150,9 +152,9 @@ impl Vocabulary {
 
     /// The number of each word of a sort, in the order of the ranks: the given
     /// one, or else the least that is free.
-    pub fn numbers(&self, sort: Sort) -> Vec<u16> {
+    pub fn numbers(&self, sort: Sort) -> Vec<Number> {
         let entries = self.entries(sort);
-        let given = |number: u16| {
+        let given = |number: Number| {
             let mut all = entries.iter().filter_map(|entry| entry.given);
             all.any(|given| given.value == number)
         };
@@ -167,7 +169,7 @@ impl Vocabulary {
 
     /// The names of the numbers of a sort, but for words that only the query
     /// has.
-    pub fn named(&self, sort: Sort) -> BTreeMap<u16, String> {
+    pub fn named(&self, sort: Sort) -> BTreeMap<Number, String> {
         let all = self.numbers(sort).into_iter().zip(self.entries(sort));
         let used = all.filter(|(_, entry)| entry.used);
         used.map(|(number, entry)| (number, entry.word.clone()))
@@ -176,7 +178,7 @@ impl Vocabulary {
 
     /// A role whose owner and name are ranks, in words.
     pub fn said(&self, role: Role) -> String {
-        let word = |entries: &[Entry], rank: u16| entries[usize::from(rank)].word.clone();
+        let word = |entries: &[Entry], rank: Number| entries[rank as usize].word.clone();
         let owner = word(&self.principals, role.owner);
         format!("{owner}.{}", word(&self.names, role.name))
     }

@@ -4,7 +4,7 @@
 
 use std::collections::BTreeMap;
 
-use bwlchareg::Query;
+use bwlchareg::{Number, Query};
 
 use crate::mistake::{quoted, Mistake};
 use crate::names::{distance, Names};
@@ -33,14 +33,14 @@ pub fn query(wallet: &Wallet, text: &[u8]) -> Result<Query, Mistake> {
 }
 
 /// The numbers of a query's names: the principal, the role's owner, its name.
-pub fn find(names: &Names, words: &QueryWords) -> Result<[u16; 3], Mistake> {
+pub fn find(names: &Names, words: &QueryWords) -> Result<[Number; 3], Mistake> {
     let [principal, owner, name] = words.names();
     let number = |(sort, word)| number(names, sort, word);
     Ok([number(principal)?, number(owner)?, number(name)?])
 }
 
 /// The number of the principal or role name that a word is.
-pub fn number(names: &Names, sort: Sort, word: &Word) -> Result<u16, Mistake> {
+pub fn number(names: &Names, sort: Sort, word: &Word) -> Result<Number, Mistake> {
     let known = of_sort(names, sort);
     if let Some((number, _)) = known.iter().find(|(_, name)| **name == word.text) {
         return Ok(*number);
@@ -58,7 +58,7 @@ pub fn number(names: &Names, sort: Sort, word: &Word) -> Result<u16, Mistake> {
 
 /// What to write where a word of this sort is expected: one of the known names,
 /// of which the nearest come first.
-fn offer(known: &BTreeMap<u16, String>, sort: Sort, word: &str) -> String {
+fn offer(known: &BTreeMap<Number, String>, sort: Sort, word: &str) -> String {
     let many = sort.many();
     let mut nearest: Vec<&String> = known.values().collect();
     nearest.sort_by_key(|name| distance(name, word));
@@ -72,7 +72,7 @@ fn offer(known: &BTreeMap<u16, String>, sort: Sort, word: &str) -> String {
 }
 
 /// The names of a sort, by number.
-fn of_sort(names: &Names, sort: Sort) -> &BTreeMap<u16, String> {
+fn of_sort(names: &Names, sort: Sort) -> &BTreeMap<Number, String> {
     match sort {
         Sort::Principal => &names.principals,
         Sort::Name => &names.roles,

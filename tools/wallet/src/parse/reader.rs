@@ -2,6 +2,8 @@
 
 use std::ops::RangeInclusive;
 
+use bwlchareg::Number;
+
 use crate::mistake::{quoted, Mistake, Place};
 use crate::tokens::{alike, is_reserved, Sign, Token};
 
@@ -35,9 +37,9 @@ impl Word {
 
 /// A number, and where it stands.
 #[derive(Clone, Copy, Debug, PartialEq, Eq)]
-pub struct Number {
+pub struct Numeral {
     /// The number.
-    pub value: u16,
+    pub value: Number,
     /// Its place.
     pub place: Place,
 }
@@ -139,14 +141,18 @@ impl<'a> Reader<'a> {
     }
 
     /// Reads a number, which must lie in a range.
-    pub fn number(&mut self, what: &str, range: RangeInclusive<u16>) -> Result<Number, Mistake> {
+    pub fn number(
+        &mut self,
+        what: &str,
+        range: RangeInclusive<Number>,
+    ) -> Result<Numeral, Mistake> {
         let place = self.place();
         let Some(Sign::Number(digits)) = self.next() else {
             return Err(self.expected(what));
         };
         self.pass();
         match digits.parse() {
-            Ok(value) if range.contains(&value) => Ok(Number { value, place }),
+            Ok(value) if range.contains(&value) => Ok(Numeral { value, place }),
             _ => Err(place.mistake(
                 format_args!("{} is out of range for {what}", quoted(digits)),
                 format_args!("write a number from {} to {}", range.start(), range.end()),

@@ -2,6 +2,8 @@
 //! node, a credential and a middle in turn, separated by spaces, commas or line
 //! ends. A middle may be written as the name that the wallet has for it.
 
+use bwlchareg::Number;
+
 use crate::decimal::decimal;
 use crate::mistake::{quoted, Mistake, Place};
 use crate::parse::decoded;
@@ -13,7 +15,7 @@ use crate::Wallet;
 
 /// Reads a record about a wallet, or tells its first mistake. Whether it proves
 /// anything is not looked at here.
-pub fn record(wallet: &Wallet, text: &[u8]) -> Result<Vec<u16>, Mistake> {
+pub fn record(wallet: &Wallet, text: &[u8]) -> Result<Vec<Number>, Mistake> {
     let text = text.strip_prefix("\u{FEFF}".as_bytes()).unwrap_or(text);
     let mut record = Vec::new();
     // A comma after which nothing has come yet.
@@ -58,8 +60,8 @@ fn pieces(line: &str) -> Vec<(usize, &str)> {
 
 /// The number that a word of a record stands for, which is the one at this
 /// place of the record, counted from 1.
-fn number(wallet: &Wallet, word: &str, place: Place, at: usize) -> Result<u16, Mistake> {
-    if let Some(number) = decimal(word).and_then(|number| u16::try_from(number).ok()) {
+fn number(wallet: &Wallet, word: &str, place: Place, at: usize) -> Result<Number, Mistake> {
+    if let Some(number) = decimal(word).and_then(|number| Number::try_from(number).ok()) {
         return Ok(number);
     }
     let wrong = format!("{} is not a number from 0 to 65535", quoted(word));
@@ -96,9 +98,10 @@ fn missing(comma: Place, at: usize) -> Mistake {
 mod tests {
     use super::{pieces, record};
     use crate::parse::parse;
+    use bwlchareg::Number;
 
     /// Reads a record about a wallet with the principals Shop, School and Éva-1.
-    fn read(text: impl AsRef<[u8]>) -> Result<Vec<u16>, String> {
+    fn read(text: impl AsRef<[u8]>) -> Result<Vec<Number>, String> {
         let wallet = "Shop.rest <- Shop.accredited.student\nprincipals School = 2, Éva-1 = 64\n";
         let wallet = parse(wallet.as_bytes()).expect("a wallet");
         record(&wallet, text.as_ref()).map_err(|mistake| mistake.to_string())

@@ -1,7 +1,7 @@
 //! What a line says, in words and with their places.
 
 use crate::parse::numbering::Sort;
-use crate::parse::reader::{Number, Word};
+use crate::parse::reader::{Numeral, Word};
 use crate::table::Mark;
 
 /// A role in words.
@@ -23,14 +23,14 @@ pub enum BodyWords {
     /// `A.s.t`, where A is the role's owner.
     Linked(RoleWords, Word),
     /// `B.s & C.t`, and the cell after `at cell`.
-    Parts(Vec<RoleWords>, Option<Number>),
+    Parts(Vec<RoleWords>, Option<Numeral>),
 }
 
 /// A state as it is named.
 #[derive(Clone, Debug, PartialEq, Eq)]
 pub enum StateWord {
     /// By its number.
-    Number(Number),
+    Number(Numeral),
     /// By a word.
     Word(Word),
 }
@@ -56,7 +56,7 @@ pub struct QueryWords {
     /// The role.
     pub role: RoleWords,
     /// The depth limit.
-    pub depth: Number,
+    pub depth: Numeral,
 }
 
 impl QueryWords {
@@ -88,11 +88,11 @@ pub enum Statement {
     /// `D in A.r within 2`
     Query(QueryWords),
     /// `principals A = 1, B = 2`
-    Principals(Vec<(Word, Number)>),
+    Principals(Vec<(Word, Numeral)>),
     /// `names r = 1, s = 2`
-    Names(Vec<(Word, Number)>),
+    Names(Vec<(Word, Numeral)>),
     /// `cell 1 = B.s then 2`
-    Cell(Number, RoleWords, Option<Number>),
+    Cell(Numeral, RoleWords, Option<Numeral>),
     /// `edges of c`
     EdgesOf(Word),
 }

@@ -1,5 +1,7 @@
 //! Which part cells need lines of their own.
 
+use bwlchareg::Number;
+
 use crate::table::{Body, Table};
 
 /// How many of a table's first cells need `cell` lines: the fewest with which
@@ -13,11 +15,11 @@ pub fn given(table: &Table) -> usize {
 
 /// Whether so many `cell` lines are enough.
 fn fits(table: &Table, given: usize) -> bool {
-    let within = |next: u16| usize::from(next) <= given;
+    let within = |next: Number| (next as usize) <= given;
     if !table.cells[..given].iter().all(|cell| within(cell.next)) {
         return false;
     }
-    let mut next = given as u16 + 1;
+    let mut next = given as Number + 1;
     for credential in &table.credentials {
         let Body::Parts(first) = credential.body else {
             continue;
@@ -29,13 +31,13 @@ fn fits(table: &Table, given: usize) -> bool {
             return false;
         }
         // The chain's cells must follow one another.
-        while table.cells[usize::from(next) - 1].next == next + 1 {
+        while table.cells[next as usize - 1].next == next + 1 {
             next += 1;
         }
-        if table.cells[usize::from(next) - 1].next != 0 {
+        if table.cells[next as usize - 1].next != 0 {
             return false;
         }
         next += 1;
     }
-    usize::from(next) == table.cells.len() + 1
+    next as usize == table.cells.len() + 1
 }

@@ -4,11 +4,13 @@
 
 use std::collections::{BTreeMap, BTreeSet};
 
+use bwlchareg::Number;
+
 use crate::limits::STATES;
 use crate::names::Names;
 use crate::print::naming::kept;
 use crate::print::states::written;
-use crate::table::{Edge, Mark, Table};
+use crate::table::{Edge, Mark, StateSet, Table};
 use crate::words;
 
 /// The blocks of lines about constraints, in order. The names of states that
@@ -37,14 +39,14 @@ pub fn blocks(table: &Table, names: &mut Names) -> Vec<Vec<String>> {
 }
 
 /// The lines of a constraint that stand above its edges.
-fn head(table: &Table, names: &mut Names, automaton: u16) -> Vec<String> {
+fn head(table: &Table, names: &mut Names, automaton: Number) -> Vec<String> {
     let states = written(table, automaton, state_words(names, automaton));
     names.states.retain(|(of, _), _| *of != automaton);
     let words = states.words.into_iter();
     names
         .states
         .extend(words.map(|(state, word)| ((automaton, state), word)));
-    let own = &table.automata[usize::from(automaton) - 1];
+    let own = &table.automata[automaton as usize - 1];
     let start = set("start", own.start, names, automaton);
     let accept = set("accept", own.accept, names, automaton);
     let sets = if states.accept_first {
@@ -62,7 +64,7 @@ fn head(table: &Table, names: &mut Names, automaton: u16) -> Vec<String> {
 }
 
 /// The words for an automaton's states that a text can have.
-fn state_words(names: &Names, automaton: u16) -> BTreeMap<u16, String> {
+fn state_words(names: &Names, automaton: Number) -> BTreeMap<Number, String> {
     let given = names.states.iter();
     let own = given.filter(|((of, _), _)| *of == automaton);
     let own = own
@@ -72,8 +74,9 @@ fn state_words(names: &Names, automaton: u16) -> BTreeMap<u16, String> {
 }
 
 /// The line of a set of states; an empty set has none.
-fn set(word: &str, states: u16, names: &Names, automaton: u16) -> Option<String> {
-    let states = words::states(states).map(|state| format!(" {}", names.state(automaton, state)));
+fn set(word: &str, states: Number, names: &Names, automaton: Number) -> Option<String> {
+    let states = words::states(states as StateSet)
+        .map(|state| format!(" {}", names.state(automaton, state)));
     let states: String = states.collect();
     (!states.is_empty()).then(|| format!("  {word}{states}"))
 }

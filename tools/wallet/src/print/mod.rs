@@ -8,6 +8,8 @@ mod states;
 
 use std::collections::BTreeMap;
 
+use bwlchareg::Number;
+
 use crate::names::Names;
 use crate::rows::rows;
 use crate::table::{Body, Cell, Credential, Table};
@@ -53,7 +55,7 @@ fn numbers(names: &Names) -> Vec<String> {
 }
 
 /// Lines that begin with a word and give names their numbers.
-fn wrapped(word: &str, names: &BTreeMap<u16, String>) -> Vec<String> {
+fn wrapped(word: &str, names: &BTreeMap<Number, String>) -> Vec<String> {
     let items = names
         .iter()
         .map(|(number, name)| format!("{name} = {number}"));
@@ -62,7 +64,7 @@ fn wrapped(word: &str, names: &BTreeMap<u16, String>) -> Vec<String> {
 }
 
 /// `cell 1 = B.s then 2`
-fn cell(names: &Names, number: u16, cell: &Cell) -> String {
+fn cell(names: &Names, number: Number, cell: &Cell) -> String {
     let role = names.role(cell.role);
     match cell.next {
         0 => format!("cell {number} = {role}"),
@@ -75,7 +77,7 @@ fn cell(names: &Names, number: u16, cell: &Cell) -> String {
 fn credential(table: &Table, names: &Names, credential: &Credential, given: usize) -> String {
     let mut line = names.arrow(table, credential);
     if let Body::Parts(first) = credential.body {
-        if usize::from(first) <= given {
+        if (first as usize) <= given {
             line += &format!(" at cell {first}");
         }
     }

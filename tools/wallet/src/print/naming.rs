@@ -3,6 +3,8 @@
 
 use std::collections::{BTreeMap, BTreeSet};
 
+use bwlchareg::Number;
+
 use crate::limits::NAMES;
 use crate::names::Names;
 use crate::table::{Body, Label, Role, Table};
@@ -20,8 +22,8 @@ pub fn chosen(wallet: &Wallet) -> Names {
     name_others(&mut principals, &used.principals, "P", &mut taken);
     name_others(&mut roles, &used.names, "r", &mut taken);
 
-    let automata: BTreeSet<u16> = (1..).take(wallet.table.automata.len()).collect();
-    let last = automata.len() as u16;
+    let automata: BTreeSet<Number> = (1..).take(wallet.table.automata.len()).collect();
+    let last = automata.len() as Number;
     let mut taken = BTreeSet::new();
     let mut constraints = kept(&given.constraints, 1..=last, &mut taken);
     name_others(&mut constraints, &automata, "constraint-", &mut taken);
@@ -36,10 +38,10 @@ pub fn chosen(wallet: &Wallet) -> Names {
 /// The names that a text can have: words that are not taken, of numbers in a
 /// range.
 pub fn kept(
-    given: &BTreeMap<u16, String>,
-    range: std::ops::RangeInclusive<u16>,
+    given: &BTreeMap<Number, String>,
+    range: std::ops::RangeInclusive<Number>,
     taken: &mut BTreeSet<String>,
-) -> BTreeMap<u16, String> {
+) -> BTreeMap<Number, String> {
     let in_range = given.iter().filter(|(number, _)| range.contains(number));
     let mut names = BTreeMap::new();
     for (number, name) in in_range {
@@ -54,8 +56,8 @@ pub fn kept(
 /// Makes names for numbers without one, of a beginning and the number; and of
 /// another number after it, if that name is taken.
 fn name_others(
-    names: &mut BTreeMap<u16, String>,
-    numbers: &BTreeSet<u16>,
+    names: &mut BTreeMap<Number, String>,
+    numbers: &BTreeSet<Number>,
     before: &str,
     taken: &mut BTreeSet<String>,
 ) {
@@ -76,8 +78,8 @@ fn name_others(
 /// The principals and role names that a wallet uses.
 #[derive(Default)]
 struct Used {
-    principals: BTreeSet<u16>,
-    names: BTreeSet<u16>,
+    principals: BTreeSet<Number>,
+    names: BTreeSet<Number>,
 }
 
 impl Used {

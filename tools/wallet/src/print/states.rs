@@ -3,14 +3,16 @@
 
 use std::collections::BTreeMap;
 
+use bwlchareg::Number;
+
 use crate::limits::STATES;
-use crate::table::Table;
+use crate::table::{StateSet, Table};
 use crate::words::states;
 
 /// How the states of a constraint are written.
 pub struct Written {
     /// The words, by state; the others are written as numbers.
-    pub words: BTreeMap<u16, String>,
+    pub words: BTreeMap<Number, String>,
     /// Whether `accept` stands before `start`.
     pub accept_first: bool,
 }
@@ -18,7 +20,7 @@ pub struct Written {
 /// Writes the states of an automaton with these words where they can be kept:
 /// all of them, if `start` before `accept` or the other way around gives them
 /// their numbers; else without those that would get others.
-pub fn written(table: &Table, automaton: u16, mut words: BTreeMap<u16, String>) -> Written {
+pub fn written(table: &Table, automaton: Number, mut words: BTreeMap<Number, String>) -> Written {
     for accept_first in [false, true] {
         let standing = standing(table, automaton, accept_first);
         words.retain(|state, _| standing.contains(state));
@@ -40,8 +42,8 @@ pub fn written(table: &Table, automaton: u16, mut words: BTreeMap<u16, String>) 
 }
 
 /// An automaton's states in the order in which they first stand in its text.
-fn standing(table: &Table, automaton: u16, accept_first: bool) -> Vec<u16> {
-    let sets = &table.automata[usize::from(automaton) - 1];
+fn standing(table: &Table, automaton: Number, accept_first: bool) -> Vec<Number> {
+    let sets = &table.automata[automaton as usize - 1];
     let (first, second) = match accept_first {
         false => (sets.start, sets.accept),
         true => (sets.accept, sets.start),
@@ -52,7 +54,10 @@ fn standing(table: &Table, automaton: u16, accept_first: bool) -> Vec<u16> {
         .filter(|edge| edge.automaton == automaton);
     let ends = own.flat_map(|edge| [edge.from, edge.to]);
     let mut all = Vec::new();
-    for state in states(first).chain(states(second)).chain(ends) {
+    for state in states(first as StateSet)
+        .chain(states(second as StateSet))
+        .chain(ends)
+    {
         if !all.contains(&state) {
             all.push(state);
         }
@@ -62,9 +67,9 @@ fn standing(table: &Table, automaton: u16, accept_first: bool) -> Vec<u16> {
 
 /// The first state whose word would get another number: words get the least
 /// ones that are not named as numbers, in the order in which they stand.
-fn first_moved(standing: &[u16], words: &BTreeMap<u16, String>) -> Option<u16> {
-    let is_word = |state: &u16| words.contains_key(state);
-    let named = |state: &u16| standing.contains(state) && !is_word(state);
+fn first_moved(standing: &[Number], words: &BTreeMap<Number, String>) -> Option<Number> {
+    let is_word = |state: &Number| words.contains_key(state);
+    let named = |state: &Number| standing.contains(state) && !is_word(state);
     let free = (0..STATES).filter(|state| !named(state));
     let mut spoken = standing.iter().copied().filter(is_word).zip(free);
     spoken.find(|(own, given)| own != given).map(|(own, _)| own)

@@ -1,10 +1,12 @@
 //! The wallet's constraints: what each demands, of which credentials, and how it
 //! reads words.
 
+use bwlchareg::Number;
+
 use crate::report::html::{classed, code, element, link, row, table, with, Html};
 use crate::report::said::{credential_links, line_link};
 use crate::report::Part;
-use crate::table::{Automaton, Edge, Label, Mark};
+use crate::table::{Automaton, Edge, Label, Mark, StateSet};
 use crate::tree::set;
 use crate::Wallet;
 
@@ -27,12 +29,12 @@ pub fn part(wallet: &Wallet) -> Option<Part> {
 }
 
 /// The place of a constraint on the page.
-pub fn place(number: u16) -> String {
+pub fn place(number: Number) -> String {
     format!("constraint-{number}")
 }
 
 /// A constraint.
-fn constraint(wallet: &Wallet, number: u16, automaton: &Automaton) -> Html {
+fn constraint(wallet: &Wallet, number: Number, automaton: &Automaton) -> Html {
     let demand = match automaton.mark {
         Mark::EveryWord => "It demands every word: it must accept each word of such a proof.",
         Mark::SomeWord => "It demands some word: it must accept at least one word of such a proof.",
@@ -52,8 +54,8 @@ fn constraint(wallet: &Wallet, number: u16, automaton: &Automaton) -> Html {
 }
 
 /// Where a constraint stands, and to which credentials it is attached.
-fn attached(wallet: &Wallet, number: u16) -> Html {
-    let line = wallet.lines.automata.get(usize::from(number) - 1);
+fn attached(wallet: &Wallet, number: Number) -> Html {
+    let line = wallet.lines.automata.get(number as usize - 1);
     let line = line.map(|line| ["It begins on ".into(), line_link(*line), ". ".into()].into());
     let credentials = (1..).zip(&wallet.table.credentials);
     let own = credentials.filter(|(_, credential)| credential.automaton == number);
@@ -67,8 +69,8 @@ fn attached(wallet: &Wallet, number: u16) -> Html {
 }
 
 /// In which states a constraint starts and accepts.
-fn states(wallet: &Wallet, number: u16, automaton: &Automaton) -> Html {
-    let said = |states| code(set(&wallet.names, number, states));
+fn states(wallet: &Wallet, number: Number, automaton: &Automaton) -> Html {
+    let said = |states: Number| code(set(&wallet.names, number, states as StateSet));
     [
         "It starts in ".into(),
         said(automaton.start),
@@ -80,7 +82,7 @@ fn states(wallet: &Wallet, number: u16, automaton: &Automaton) -> Html {
 }
 
 /// The edges of a constraint.
-fn edges(wallet: &Wallet, number: u16) -> Html {
+fn edges(wallet: &Wallet, number: Number) -> Html {
     let edges = wallet.table.edges.iter().enumerate();
     let own = edges.filter(|(_, edge)| edge.automaton == number);
     let mut rows = own.map(|(index, edge)| {

@@ -55,7 +55,7 @@ fn question(wallet: &Wallet, query: Query) -> Html {
         code(names.role(Role::asked(query))),
         format!(
             ", by a derivation of at most {}?",
-            counted(query.depth.into(), "level")
+            counted(query.depth as usize, "level")
         )
         .into(),
         asked,

@@ -1,8 +1,11 @@
 //! The words of a derivation, and the run of each constraint on them.
 
+use bwlchareg::Number;
+
 use crate::derivation::Judged;
 use crate::report::constraints;
 use crate::report::html::{classed, code, element, link, row, table, Html};
+use crate::table::StateSet;
 use crate::tree::{counted, dead, role_names, set, DECISIVE_SHOWN};
 use crate::words::{roles, run, words, Word, Words};
 use crate::Wallet;
@@ -41,7 +44,7 @@ fn word_table(wallet: &Wallet, judged: &Judged, words: &Words) -> Html {
 
 /// The runs of a constraint: on the first words, and on further words on which its
 /// judgement rests.
-fn run_table(wallet: &Wallet, judged: &Judged, words: &Words, automaton: u16) -> Html {
+fn run_table(wallet: &Wallet, judged: &Judged, words: &Words, automaton: Number) -> Html {
     let numbered = (1usize..).zip(&words.words);
     let line = |(number, word): (usize, &Word)| {
         let verdict = verdict(words, word, automaton);
@@ -73,7 +76,7 @@ fn run_table(wallet: &Wallet, judged: &Judged, words: &Words, automaton: u16) ->
 }
 
 /// What stands above the runs of a constraint.
-fn heading(wallet: &Wallet, words: &Words, automaton: u16) -> Html {
+fn heading(wallet: &Wallet, words: &Words, automaton: Number) -> Html {
     let count = words.words.len();
     let (accepted, rejected) = (count - words.rejected(automaton), words.rejected(automaton));
     let all = counted(count, "word");
@@ -94,7 +97,7 @@ fn heading(wallet: &Wallet, words: &Words, automaton: u16) -> Html {
 }
 
 /// What a constraint says of a word.
-fn verdict(words: &Words, word: &Word, automaton: u16) -> Html {
+fn verdict(words: &Words, word: &Word, automaton: Number) -> Html {
     match word.rejected_by(automaton) {
         false if words.is_lenient(automaton) => classed("b", "good", "accepted"),
         false => "accepted".into(),
@@ -104,11 +107,11 @@ fn verdict(words: &Words, word: &Word, automaton: u16) -> Html {
 }
 
 /// The run of a constraint on a word.
-fn run_line(wallet: &Wallet, judged: &Judged, automaton: u16, word: &Word) -> Html {
+fn run_line(wallet: &Wallet, judged: &Judged, automaton: Number, word: &Word) -> Html {
     let names = &wallet.names;
     let roles = roles(judged, &judged.nodes[word.leaf]);
     let sets = run(&wallet.table, automaton, &roles);
-    let states = |states: &u16| element("b", set(names, automaton, *states));
+    let states = |states: &StateSet| element("b", set(names, automaton, *states));
     let first = sets.first().map(states);
     let steps = roles.iter().zip(sets.iter().skip(1));
     let steps = steps

@@ -1,7 +1,7 @@
 //! A set in full: its credentials, what it shows, its record, its derivation, and
 //! its words with the runs of the constraints.
 
-use bwlchareg::Query;
+use bwlchareg::{Number, Query};
 
 use crate::derivation::{judge, Judged};
 use crate::explain::shown;
@@ -93,7 +93,7 @@ fn memberships(wallet: &Wallet, set: u32) -> Html {
 }
 
 /// The record of a set, its derivation, and its words.
-fn proof(wallet: &Wallet, judged: &Judged, record: &[u16]) -> Html {
+fn proof(wallet: &Wallet, judged: &Judged, record: &[Number]) -> Html {
     let said = verdict(wallet, judged, &words(wallet, judged));
     let tone = tone(judged.refusal().is_none());
     let said = ["The verifier says: ".into(), classed("b", tone, said)];
@@ -114,7 +114,7 @@ fn no_proof(said: &str) -> Html {
 }
 
 /// The numbers of a record, or the first of them and how many there are.
-fn numbers(record: &[u16]) -> Html {
+fn numbers(record: &[Number]) -> Html {
     let shown = &record[..record.len().min(NUMBERS_SHOWN)];
     let text = proof::numbers(shown);
     let more = match record.len() - shown.len() {

@@ -144,5 +144,5 @@ fn rows(nodes: &[Node], sheets: &[Sheet]) -> Vec<(Pixels, Pixels)> {
 
 /// A node's level, from 0.
 fn level(node: &Node) -> usize {
-    usize::from(node.level) - 1
+    node.level as usize - 1
 }

@@ -1,6 +1,6 @@
 //! Tables that are made from a wallet's, to ask the library about them.
 
-use bwlchareg::Query;
+use bwlchareg::{Number, Query};
 
 use crate::table::{Body, Label, Role, Table};
 use crate::why::Sort;
@@ -11,12 +11,12 @@ pub fn unconstrained(table: &Table) -> Table {
 }
 
 /// The table with one automaton attached where it is, and no other.
-pub fn with_only(table: &Table, automaton: u16) -> Table {
+pub fn with_only(table: &Table, automaton: Number) -> Table {
     with(table, |own| own == automaton)
 }
 
 /// The table with the automata attached that are kept.
-fn with(table: &Table, is_kept: impl Fn(u16) -> bool) -> Table {
+fn with(table: &Table, is_kept: impl Fn(Number) -> bool) -> Table {
     let mut table = table.clone();
     for credential in &mut table.credentials {
         if !is_kept(credential.automaton) {
@@ -27,7 +27,13 @@ fn with(table: &Table, is_kept: impl Fn(u16) -> bool) -> Table {
 }
 
 /// A table and a query with one name in the place of another.
-pub fn renamed(table: &Table, query: Query, sort: Sort, old: u16, new: u16) -> (Table, Query) {
+pub fn renamed(
+    table: &Table,
+    query: Query,
+    sort: Sort,
+    old: Number,
+    new: Number,
+) -> (Table, Query) {
     let (mut table, mut query) = (table.clone(), query);
     for name in names(&mut table, &mut query) {
         if (name.sort, *name.number) == (sort, old) {
@@ -54,7 +60,7 @@ pub enum Place {
 pub struct Name<'a> {
     pub place: Place,
     pub sort: Sort,
-    pub number: &'a mut u16,
+    pub number: &'a mut Number,
 }
 
 /// All names of a table and a query, in their order.
@@ -93,7 +99,7 @@ pub fn names<'a>(table: &'a mut Table, query: &'a mut Query) -> Vec<Name<'a>> {
 struct Names<'a>(Vec<Name<'a>>);
 
 impl<'a> Names<'a> {
-    fn add(&mut self, place: Place, sort: Sort, number: &'a mut u16) {
+    fn add(&mut self, place: Place, sort: Sort, number: &'a mut Number) {
         self.0.push(Name {
             place,
             sort,

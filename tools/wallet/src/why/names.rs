@@ -2,7 +2,7 @@
 
 use std::collections::{BTreeMap, BTreeSet};
 
-use bwlchareg::Query;
+use bwlchareg::{Number, Query};
 
 use crate::answer::Answer;
 use crate::names::distance;
@@ -30,7 +30,7 @@ pub struct Lone {
     /// Its sort.
     pub sort: Sort,
     /// Its number.
-    pub number: u16,
+    pub number: Number,
     /// The line; none if it stands in a query that is given apart.
     pub line: Option<usize>,
     /// The name that is most like it, if one is much like it.
@@ -41,7 +41,7 @@ pub struct Lone {
 #[derive(Clone, Debug, PartialEq, Eq)]
 pub struct Near {
     /// Its number.
-    pub number: u16,
+    pub number: Number,
     /// What is asked with this name in the place of the other, at times within a
     /// higher depth limit, and the answer; nothing if that was not asked.
     pub answer: Option<(Query, Answer)>,
@@ -55,7 +55,7 @@ enum Line {
 }
 
 /// The lines on which each name stands.
-type Stands = BTreeMap<(Sort, u16), BTreeSet<Line>>;
+type Stands = BTreeMap<(Sort, Number), BTreeSet<Line>>;
 
 /// The names of a wallet and a query that stand on one line only, in the order of
 /// the lines.
@@ -67,7 +67,7 @@ pub fn lone(asker: &mut Asker, wallet: &Wallet, query: Query) -> Vec<Lone> {
         own.insert(line(wallet, name.place));
     }
     let alone = stands.iter().filter(|(_, lines)| lines.len() == 1);
-    let mut alone: Vec<(Line, Sort, u16)> = alone
+    let mut alone: Vec<(Line, Sort, Number)> = alone
         .flat_map(|(&(sort, number), lines)| lines.first().map(|line| (*line, sort, number)))
         .collect();
     alone.sort_unstable();
@@ -115,8 +115,8 @@ fn with(
     wallet: &Wallet,
     query: Query,
     sort: Sort,
-    old: u16,
-    new: u16,
+    old: Number,
+    new: Number,
 ) -> Option<(Query, Answer)> {
     let (table, asked) = renamed(&wallet.table, query, sort, old, new);
     let changed = Wallet {
@@ -139,7 +139,7 @@ fn with(
 /// The name that is most like one that stands on one line only: one that stands on
 /// more lines, or on one further up. A third of the characters may be wrong, or the
 /// case of all. Of several the one with the most lines is taken.
-fn nearest(wallet: &Wallet, stands: &Stands, sort: Sort, number: u16) -> Option<u16> {
+fn nearest(wallet: &Wallet, stands: &Stands, sort: Sort, number: Number) -> Option<Number> {
     let own_lines = &stands[&(sort, number)];
     let own = name(wallet, sort, number);
     let others = stands.iter().filter(|((other, _), _)| *other == sort);
@@ -157,7 +157,7 @@ fn nearest(wallet: &Wallet, stands: &Stands, sort: Sort, number: u16) -> Option<
 }
 
 /// A name by its number.
-pub fn name(wallet: &Wallet, sort: Sort, number: u16) -> String {
+pub fn name(wallet: &Wallet, sort: Sort, number: Number) -> String {
     match sort {
         Sort::Principal => wallet.names.principal(number),
         Sort::RoleName => wallet.names.role_name(number),

@@ -1,5 +1,7 @@
 //! What the library answers, as a JSON object.
 
+use bwlchareg::Number;
+
 use crate::answer::Answer;
 use crate::derivation::Judged;
 use crate::json::{Object, Value};
@@ -50,7 +52,7 @@ fn numbers(answer: &Answer) -> Option<Vec<u32>> {
 }
 
 /// A least depth limit; 0 where there is none.
-fn least(least: Option<Least>) -> Option<u16> {
+fn least(least: Option<Least>) -> Option<Number> {
     least.map(|least| match least {
         Least::At(depth) => depth,
         Least::Nowhere => 0,

@@ -3,7 +3,7 @@
 
 use std::collections::{BTreeMap, BTreeSet, VecDeque};
 
-use bwlchareg::Query;
+use bwlchareg::{Number, Query};
 
 use crate::limits::DEPTH;
 use crate::table::{Body, Credential, Role, Table};
@@ -18,7 +18,7 @@ pub struct Unmet {
     /// What asks for it.
     pub by: Vec<By>,
     /// Whom the credentials name that define it.
-    pub others: Vec<u16>,
+    pub others: Vec<Number>,
 }
 
 /// What asks for a role.
@@ -27,7 +27,7 @@ pub enum By {
     /// The query.
     Query,
     /// A credential, by its number.
-    Credential(u16),
+    Credential(Number),
 }
 
 /// The roles that are asked for and that no credential defines; and those that the
@@ -37,12 +37,12 @@ pub fn unmet(asker: &mut Asker, bare: &Table, query: Query) -> (Vec<Unmet>, Vec<
     let principals = principals(bare, query);
     let (mut undefined, mut missing) = (Vec::new(), Vec::new());
     for Wanted { role, by, of_query } in wanted(asker, bare, query, &principals) {
-        let others: Vec<u16> = definers(bare, role)
+        let others: Vec<Number> = definers(bare, role)
             .filter_map(|(_, own)| member(own))
             .collect();
         let is_plain = others.len() == definers(bare, role).count();
         // The library has the last word.
-        let mut nobody = |among: &[u16]| {
+        let mut nobody = |among: &[Number]| {
             let mut among = among.iter();
             among.all(|principal| asker.has_set(bare, membership(*principal, role)) == Some(false))
         };
@@ -65,7 +65,7 @@ struct Wanted {
 }
 
 /// The roles that are asked for, each once, in the order in which they are found.
-fn wanted(asker: &mut Asker, bare: &Table, query: Query, principals: &[u16]) -> Vec<Wanted> {
+fn wanted(asker: &mut Asker, bare: &Table, query: Query, principals: &[Number]) -> Vec<Wanted> {
     let mut order: Vec<(Role, bool)> = Vec::new();
     let mut by: BTreeMap<Role, BTreeSet<By>> = BTreeMap::new();
     let mut waiting = VecDeque::from([(Role::asked(query), true, By::Query)]);
@@ -99,7 +99,7 @@ fn premises(
     asker: &mut Asker,
     bare: &Table,
     credential: &Credential,
-    principals: &[u16],
+    principals: &[Number],
 ) -> Vec<(Role, bool)> {
     match credential.body {
         Body::Member(_) => Vec::new(),
@@ -126,13 +126,13 @@ fn premises(
 }
 
 /// The credentials that define a role, with their numbers.
-fn definers(table: &Table, role: Role) -> impl Iterator<Item = (u16, &Credential)> {
+fn definers(table: &Table, role: Role) -> impl Iterator<Item = (Number, &Credential)> {
     let numbered = (1..).zip(&table.credentials);
     numbered.filter(move |(_, credential)| credential.role == role)
 }
 
 /// The principal that a credential of kind 1 names.
-fn member(credential: &Credential) -> Option<u16> {
+fn member(credential: &Credential) -> Option<Number> {
     match credential.body {
         Body::Member(principal) => Some(principal),
         _ => None,
@@ -140,7 +140,7 @@ fn member(credential: &Credential) -> Option<u16> {
 }
 
 /// The query whether a principal is in a role, as deep as can be asked.
-fn membership(principal: u16, role: Role) -> Query {
+fn membership(principal: Number, role: Role) -> Query {
     Query {
         principal,
         owner: role.owner,
@@ -150,10 +150,10 @@ fn membership(principal: u16, role: Role) -> Query {
 }
 
 /// All principals of a table and a query, ascending.
-fn principals(table: &Table, query: Query) -> Vec<u16> {
+fn principals(table: &Table, query: Query) -> Vec<Number> {
     let (mut table, mut query) = (table.clone(), query);
     let names = names(&mut table, &mut query).into_iter();
     let principals = names.filter(|name| name.sort == Sort::Principal);
-    let principals: BTreeSet<u16> = principals.map(|name| *name.number).collect();
+    let principals: BTreeSet<Number> = principals.map(|name| *name.number).collect();
     principals.into_iter().collect()
 }

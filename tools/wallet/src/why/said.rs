@@ -1,6 +1,6 @@
 //! What the library answers, in words: the most useful first.
 
-use bwlchareg::Refusal;
+use bwlchareg::{Number, Refusal};
 
 use crate::answer::Answer;
 use crate::explain::{credentials, explain, heading};
@@ -88,7 +88,7 @@ fn listed(sentence: impl Into<String>, mut details: Vec<String>) -> Finding {
 }
 
 /// The first of some numbers.
-fn first<Number: ToString>(numbers: &[Number], most: usize, between: &str) -> String {
+fn first<Value: ToString>(numbers: &[Value], most: usize, between: &str) -> String {
     let shown = joined(&numbers[..numbers.len().min(most)], between);
     match numbers.len() > most {
         true => format!("{shown}{between}..."),
@@ -190,7 +190,7 @@ fn constraints(wallet: &Wallet, why: &Why) -> Vec<Finding> {
 
 /// A set that constraints keep off the list, and which ones do.
 fn kept_off(wallet: &Wallet, own: &KeptOff) -> Finding {
-    let constraint = |automaton: u16| {
+    let constraint = |automaton: Number| {
         let name = wallet.names.constraint(automaton);
         let line = wallet.lines.automaton(automaton);
         line.map_or(name.clone(), |line| format!("{name} (line {line})"))
@@ -283,7 +283,7 @@ fn asking(wallet: &Wallet, unmet: &Unmet) -> String {
 
 /// The names that stand on one line only, as far as no remedy has them.
 fn suspects(wallet: &Wallet, why: &Why) -> Option<Finding> {
-    let mut told: Vec<(Sort, u16)> = Vec::new();
+    let mut told: Vec<(Sort, Number)> = Vec::new();
     for lone in &why.lone {
         if let (Some(near), Some(_)) = (&lone.near, remedy(wallet, why, lone)) {
             told.extend([(lone.sort, lone.number), (lone.sort, near.number)]);

@@ -1,6 +1,6 @@
 //! Sets that constraints keep off the list, and which constraints do so.
 
-use bwlchareg::{Query, Refusal};
+use bwlchareg::{Number, Query, Refusal};
 
 use crate::answer::{Answer, CELLS};
 use crate::derivation::{judge, numbered, Judged};
@@ -45,7 +45,7 @@ pub struct KeptOff {
 #[derive(Clone, Debug, PartialEq, Eq)]
 pub struct Obstacle {
     /// The automaton.
-    pub automaton: u16,
+    pub automaton: Number,
     /// Whether the set would not be listed either if this were the only constraint:
     /// no record of the set meets it.
     pub is_enough: bool,
@@ -131,10 +131,10 @@ fn kept_off(
 }
 
 /// The automata that are attached to credentials of a set, ascending.
-fn attached(table: &Table, set: u32) -> Vec<u16> {
+fn attached(table: &Table, set: u32) -> Vec<Number> {
     let credentials = members(table, set).filter_map(|number| numbered(table, number));
     let automata = credentials.map(|credential| credential.automaton);
-    let mut automata: Vec<u16> = automata.filter(|automaton| *automaton != 0).collect();
+    let mut automata: Vec<Number> = automata.filter(|automaton| *automaton != 0).collect();
     automata.sort_unstable();
     automata.dedup();
     automata

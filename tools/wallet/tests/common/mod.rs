@@ -2,7 +2,7 @@
 
 #![allow(dead_code)]
 
-use bwlchareg::layout;
+use bwlchareg::{layout, Number};
 use reference::generate::{chains, crossed, listings, policies, queries, valid, wallets, wide};
 use reference::random::Random;
 use reference::records::Records;
@@ -21,7 +21,7 @@ pub fn query(query: reference::Query) -> bwlchareg::Query {
 }
 
 /// An accepted table of any shape, and a query.
-pub fn made_up(random: &mut Random) -> (Vec<u16>, bwlchareg::Query) {
+pub fn made_up(random: &mut Random) -> (Vec<Number>, bwlchareg::Query) {
     let (records, asked) = match random.below(8) {
         0..=3 => any_valid(random),
         4 => (policies::records(random), queries::valid(random)),
@@ -40,7 +40,7 @@ pub fn made_up(random: &mut Random) -> (Vec<u16>, bwlchareg::Query) {
 }
 
 /// An accepted table with any marks in the place of its own.
-pub fn marked(random: &mut Random, mut numbers: Vec<u16>) -> Vec<u16> {
+pub fn marked(random: &mut Random, mut numbers: Vec<Number>) -> Vec<Number> {
     for number in 1..=layout::counts(&numbers)[2] {
         let mark = layout::automaton(&numbers, number).end - 1;
         numbers[mark] = random.between(layout::EVERY_WORD, layout::SOME_WORD);
@@ -49,7 +49,7 @@ pub fn marked(random: &mut Random, mut numbers: Vec<u16>) -> Vec<u16> {
 }
 
 /// A table that is made up for a listing; refused ones are passed over.
-fn a_listing(random: &mut Random) -> (Vec<u16>, bwlchareg::Query) {
+fn a_listing(random: &mut Random) -> (Vec<Number>, bwlchareg::Query) {
     loop {
         let listing = listings::made_up(random);
         let asked = query(listing.query);
@@ -76,7 +76,7 @@ fn any_valid(random: &mut Random) -> (Records, reference::Query) {
 }
 
 /// The wallet of an accepted table without any names.
-pub fn nameless(numbers: &[u16], query: Option<bwlchareg::Query>) -> Wallet {
+pub fn nameless(numbers: &[Number], query: Option<bwlchareg::Query>) -> Wallet {
     Wallet {
         table: Table::of_numbers(numbers).expect("an accepted table"),
         query,

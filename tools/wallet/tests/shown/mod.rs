@@ -3,7 +3,7 @@
 pub mod claims;
 pub mod xml;
 
-use bwlchareg::Query;
+use bwlchareg::{Number, Query};
 use wallet::names::Names;
 use wallet::parse::parse;
 use wallet::table::{Automaton, Body, Cell, Credential, Edge, Label, Mark, Role, Table};
@@ -18,7 +18,7 @@ pub const Q: Query = Query {
 };
 
 /// A role.
-pub fn role(owner: u16, name: u16) -> Role {
+pub fn role(owner: Number, name: Number) -> Role {
     Role { owner, name }
 }
 
@@ -32,8 +32,8 @@ pub fn credential(role: Role, body: Body) -> Credential {
 }
 
 /// Names with these principals and role names.
-pub fn names(principals: &[(u16, &str)], roles: &[(u16, &str)]) -> Names {
-    let owned = |pairs: &[(u16, &str)]| {
+pub fn names(principals: &[(Number, &str)], roles: &[(Number, &str)]) -> Names {
+    let owned = |pairs: &[(Number, &str)]| {
         let pairs = pairs.iter();
         pairs
             .map(|&(number, name)| (number, name.to_string()))
@@ -93,7 +93,7 @@ pub fn constrained_shop() -> Wallet {
 
 /// A club whose friends are the friends of its friends, by proofs whose words
 /// have at most so many roles. Ann is one, Bob is Ann's friend, and Cleo Bob's.
-pub fn club(roles: u16) -> Wallet {
+pub fn club(roles: Number) -> Wallet {
     let mut text = "Club.friend <- Club.friend.friend under near
         Club.friend <- Ann
         Ann.friend <- Bob
@@ -140,7 +140,7 @@ pub fn race() -> Wallet {
 }
 
 /// An edge.
-pub fn edge(automaton: u16, from: u16, label: Label, to: u16) -> Edge {
+pub fn edge(automaton: Number, from: Number, label: Label, to: Number) -> Edge {
     Edge {
         automaton,
         from,
@@ -151,8 +151,8 @@ pub fn edge(automaton: u16, from: u16, label: Label, to: u16) -> Edge {
 
 /// The part cells of one chain with these roles.
 pub fn chain(roles: &[Role]) -> Vec<Cell> {
-    let last = roles.len() as u16;
-    let numbered = (1u16..).zip(roles);
+    let last = roles.len() as Number;
+    let numbered = (1..).zip(roles);
     let cells = numbered.map(|(number, &role)| Cell {
         role,
         next: if number == last { 0 } else { number + 1 },
