@@ -1,9 +1,9 @@
 -- Deciding automaton by automaton is exact: a derivation that complies either names no credential that bears the automaton, and
 -- then it does without, or its words are what the automaton demands by its mark. So the used set of an accepted record admits,
 -- and a set that does has such a used set as a part.
-use mathlib.Core.Path.{_≡_, refl, sym, ap, _∙_}
+use mathlib.Core.Path.{_≡_, refl, sym, _∙_}
 use mathlib.Core.List.{List, [], _∷_}
-use mathlib.Core.Bool.{Bool, true, false, not}
+use mathlib.Core.Bool.{Bool, true, false}
 use mathlib.Core.Logic.{_↔_}
 use Prim.Native.Nat.{ℕ, zero, suc, _-_, _^_, _<_}
 use native.Mathlib.Omega.{arith}
@@ -11,7 +11,7 @@ use native.Mathlib.Numerals.{sub-one}
 use native.Mathlib.Decide.{ℕ-discrete}
 use lib.Bits.{bitOr}
 use lib.Dec.{eqb}
-use borrow.Author.Tests.{eqb-false, eqb-true, lt-ltb, ne-eqb, not-true}
+use borrow.Author.Tests.{eqb-true}
 use Rattle.table.specs.Layout.{automata, automaton, credential, credentials}
 use Rattle.table.specs.Holding.{WellFormed}
 use Rattle.table.specs.declared.Role.{Role}
@@ -22,14 +22,16 @@ use Rattle.sets.specs.Logic.{_and_, _or_, pick}
 use Rattle.sets.specs.Sets.{inSet, part}
 use Rattle.sets.proofs.Tests.{and-both, and-first, and-second, false-true, or-either, or-first, or-second, refuted, same-test}
 use Rattle.sets.proofs.Members.{inSet-or, inSet-pow, inSet-zero, members-below, own-bit, part-member}
-use Rattle.sets.proofs.Members.{part-or-left, part-or-right, part-refl, part-shown, setOf-members}
+use Rattle.sets.proofs.Members.{part-or-left, part-or-right, part-refl, part-shown}
 use Rattle.derivation.specs.Forest.{Derives, Forest, names, usedSet, written}
 use Rattle.derivation.specs.Rules.{goalOf}
 use Rattle.derivation.specs.Words.{Complies, acceptsAll, acceptsSome, demandedBy, isMet, usesAutomaton, words}
 use Rattle.attached.specs.Attached.{automataOf}
 use Rattle.derivation.specs.Accepted.{Accepted}
 use Rattle.search.specs.Search.{AllAccept, SomeAccept, UsesOnly, provable}
-use Rattle.admission.specs.Admits.{Admits, admits, admitsBy, admitsTo, among, withEvery, withOwed, withoutAll}
+use Rattle.settling.specs.Settling.{among, withoutAll}
+use Rattle.settling.proofs.Leaving.{among-reached, among-shows, without-part, without-reached, without-shows}
+use Rattle.admission.specs.Admits.{Admits, admits, admitsBy, admitsTo, withEvery, withOwed}
 use Rattle.derivation.proofs.Using.{automaton-imposed, named-numbered, placed}
 use Rattle.derivation.proofs.Using.{used-at, used-named, uses-reached, uses-shows}
 use Rattle.search.proofs.Searching.{provable-by, provable-exact}
@@ -70,33 +72,6 @@ one-more : {P : ℕ → Type 0} (X k : ℕ) → ((j : ℕ) → inSet X j ≡ tru
     → (j : ℕ) → inSet (bitOr X (2 ^ k)) j ≡ true → P j
 one-more X k all here j h =
     or-either (all j) (λ one. rw (eqb-true k j (sym (inSet-pow k j) ∙ one)) at here) (sym (inSet-or X (2 ^ k) j) ∙ h)
-
--- which automata are among those of a set: automaton k + 1, where k is in it
-pub among-shows : (L x : ℕ) → among L x ≡ true → (x ≡ 0 → ⊥) × (inSet L (x - 1) ≡ true)
-unfolding among
-among-shows L x h = (eqb-false x 0 (not-true _ (and-first _ _ h)), and-second _ _ h)
-
-pub among-reached : (L k : ℕ) → inSet L k ≡ true → among L (suc k) ≡ true
-unfolding among
-among-reached L k h = and-both (ap not (ne-eqb (suc k) 0 (λ z. omega (arith, z)))) (rw sub-one h)
-
--- what is left of S without the credentials that bear an automaton of L
-module _ (t : List ℕ) (S L : ℕ) where
-  pub without-shows : (i : ℕ) → inSet (withoutAll t S L) i ≡ true
-      → (inSet S i ≡ true) × (among L (credential t (suc i) .automaton) ≡ false)
-  unfolding withoutAll
-  without-shows i h =
-      let kept = and-second _ _ (sym (setOf-members _ (credentials t) i) ∙ h) in
-      (and-first _ _ kept, not-true _ (and-second _ _ kept))
-
-  without-reached : (i : ℕ) → i < credentials t → inSet S i ≡ true → among L (credential t (suc i) .automaton) ≡ false
-      → inSet (withoutAll t S L) i ≡ true
-  unfolding withoutAll
-  without-reached i there member other =
-      setOf-members _ (credentials t) i ∙ and-both (lt-ltb i _ there) (and-both member (ap not other))
-
-  pub without-part : part (withoutAll t S L) S ≡ true
-  without-part = part-shown (withoutAll t S L) S (λ i h. without-shows i h .0)
 
 -- with automaton k + 1 each set has what it had
 module _ (t : List ℕ) (A O k : ℕ) where

@@ -1,82 +1,42 @@
--- `admits` as the code decides it: what is left of a set without some automata, credential by credential; the automata that a set
--- may owe, and those of them that cannot be met; and one automaton after the other, from the last down to the first.
+-- `admits` as the code decides it: the automata that cannot be met are done without at once, and the others are decided one after
+-- the other, from the last down to the first.
 use mathlib.Core.Path.{_≡_, refl, sym, ap, _∙_}
 use mathlib.Core.List.{List}
-use mathlib.Core.Bool.{Bool, true, false, not}
-use Prim.Native.Nat.{ℕ, zero, suc, _+_, _-_, _^_, _<_, _≤_}
+use mathlib.Core.Bool.{Bool, true, false}
+use Prim.Native.Nat.{ℕ, zero, suc, _-_, _^_, _<_, _≤_}
 use native.Mathlib.Omega.{arith}
-use native.Mathlib.Numerals.{add-one, sub-one}
-use lib.Bits.{and-self, and-zero-r, bitAnd, bitOr, or-lt, or-zero-r}
+use native.Mathlib.Numerals.{sub-one}
+use lib.Bits.{and-self, bitOr, or-lt}
 use lib.Pow.{pow-lt}
-use lib.Dec.{eqb, ltb}
-use borrow.Author.Tests.{eq-eqb, eqb-true, lt-ltb, ltb-true, ne-eqb, not-true}
+use lib.Dec.{eqb}
+use borrow.Author.Tests.{eq-eqb, eqb-true, ltb-true, not-true}
 use Rattle.sets.specs.Logic.{_and_, _or_, pick}
-use Rattle.sets.specs.Sets.{inSet, part, setOf}
-use Rattle.sets.proofs.Tests.{and-both, and-first, and-is, and-is-off, and-none, and-second, failed, false-true, or-false}
-use Rattle.sets.proofs.Tests.{or-either, or-first, or-off, or-second, passed, refuted, same-test}
-use Rattle.sets.proofs.Members.{inSet-and, inSet-or, meets-common, meets-some, members-below, one-among, part-antisym, part-le}
+use Rattle.sets.specs.Sets.{inSet, part}
+use Rattle.sets.proofs.Tests.{and-both, and-first, and-is, and-is-off, and-none, and-second, false-true, or-false}
+use Rattle.sets.proofs.Tests.{or-either, or-first, or-off, or-second, refuted}
+use Rattle.sets.proofs.Members.{inSet-or, meets-common, meets-some, one-among, part-antisym, part-le}
 use Rattle.sets.proofs.Members.{part-member, part-or, part-or-left, part-or-right, part-refl, part-trans, part-zero}
-use Rattle.sets.proofs.Members.{same-members}
-use Rattle.sets.proofs.Members.{set-more, set-not, setOf-members}
+use Rattle.sets.proofs.Members.{setOf-members}
 use Rattle.families.specs.Families.{FamilyOf, allSets, covers}
 use Rattle.families.specs.declared.Family.{Family}
 use Rattle.families.proofs.Covering.{covers-only}
 use Rattle.table.specs.Limits.{mostAutomata}
-use Rattle.table.specs.Layout.{automata, automaton, credential}
+use Rattle.table.specs.Layout.{automata, automaton}
 use Rattle.table.specs.Holding.{WellFormed}
-use Rattle.table.specs.declared.Credential.{Credential}
 use Rattle.table.specs.declared.Query.{Query}
 use Rattle.table.proofs.WellFormed.{wf-credential}
-use Rattle.attached.specs.Attached.{automataOf, markedOf, owedOf}
+use Rattle.attached.specs.Attached.{automataOf, owedOf}
 use Rattle.derivation.proofs.Using.{automaton-shows}
 use Rattle.members.specs.Members.{Members}
 use Rattle.search.specs.Search.{Prepared, TellsMet, provable}
 use Rattle.search.proofs.Sharing.{part-none}
 use Rattle.goals.specs.declared.Terms.{Terms}
-use Rattle.admission.specs.Admits.{admitsBy, admitsTo, among, withEvery, withOwed, withoutAll}
-use Rattle.admission.specs.Deciding.{Asks, Borne, MetFound, Known, Undecided, allAutomata, isLacking, lackingOf}
-use Rattle.admission.proofs.Admitting.{admits-without, among-reached, without-part, without-shows}
-
--- whether the automaton of a credential is one of L: none is not, and another is where L has it
-pub among-none : (L x : ℕ) → x ≡ 0 → false ≡ among L x
-unfolding among
-among-none L x none = sym (and-is-off _ (ap not (eq-eqb x 0 none)))
-
-pub among-some : (L x : ℕ) → (x ≡ 0 → ⊥) → {told : Bool} → told ≡ inSet L (x - 1) → told ≡ among L x
-unfolding among
-among-some L x some e = e ∙ sym (and-is (ap not (ne-eqb x 0 some)) refl)
-
--- the credentials of S among the first n that bear none of L
-abbrev pub withoutTo : List ℕ → ℕ → ℕ → ℕ → ℕ
-withoutTo t S L n = setOf (λ c. inSet S c and not (among L (credential t (suc c) .automaton))) n
-
--- one credential more, number i + 1
-module _ (t : List ℕ) (S L i kept : ℕ) (so-far : kept ≡ withoutTo t S L i) where
-  without-off : (inSet S i and not (among L (credential t (suc i) .automaton))) ≡ false → kept ≡ withoutTo t S L (i + 1)
-  without-off = set-not _ kept i so-far
-
-  pub without-outside : inSet S i ≡ false → kept ≡ withoutTo t S L (i + 1)
-  without-outside out = without-off (and-is-off _ out)
-
-  -- which is in the set, and which the code has read as x
-  module _ (inside : inSet S i ≡ true) (x : Credential) (read : x ≡ credential t (i + 1)) {told : Bool}
-      (e : told ≡ among L (x .automaton)) where
-    pub without-bearer : not told ≡ false → kept ≡ withoutTo t S L (i + 1)
-    without-bearer own = without-off (and-is inside (rw (read, add-one i) at (ap not (passed e own))))
-
-    pub without-more : not told ≡ true → bitOr kept (2 ^ i) ≡ withoutTo t S L (i + 1)
-    without-more other =
-        set-more _ kept i so-far (and-both inside (rw (read, add-one i) at (ap not (failed e other))))
-
--- what cannot be met beside what is owed
-pub lacking-unasked : (found : Family) (O W j : ℕ) → inSet W j ≡ false → false ≡ isLacking found O W j
-unfolding isLacking
-lacking-unasked found O W j out = sym (and-is-off _ out)
-
-pub lacking-told : (found : Family) (O W j : ℕ) → inSet W j ≡ true → {told : Bool} → told ≡ covers found (bitOr O (2 ^ j))
-    → not told ≡ isLacking found O W j
-unfolding isLacking
-lacking-told found O W j asked e = ap not e ∙ sym (and-is asked refl)
+use Rattle.settling.specs.Settling.{Asks, allAutomata, isLacking, lackingOf, withoutAll}
+use Rattle.settling.proofs.Leaving.{among-reached, without-part, without-shows}
+use Rattle.settling.proofs.Owed.{all-there, asked-few, marked-reached, marked-shows, owed-shows}
+use Rattle.admission.specs.Admits.{admitsBy, admitsTo, withEvery, withOwed}
+use Rattle.admission.specs.Deciding.{Borne, Known, MetFound, Undecided}
+use Rattle.admission.proofs.Admitting.{admits-without}
 
 -- where a credential of S bears an automaton of L, fewer are left without them
 without-less : (t : List ℕ) (S L j : ℕ) → inSet L j ≡ true → inSet (automataOf t S) j ≡ true → withoutAll t S L < S
@@ -90,130 +50,57 @@ without-less t S L j lost borne =
         let left = without-shows t S L i (rw same member) .1 in
         false-true (sym (rw own at left) ∙ among-reached L j lost)
 
--- the automata of a table that demand some word
-module _ (t : List ℕ) (wf : WellFormed t) where
-  all-there : (k : ℕ) → k < automata t → inSet allAutomata k ≡ true
-  unfolding setOf pick
-  all-there k l =
-      let all : setOf (λ x. true) 8 ≡ allAutomata = refl in
-      sym (ap (λ x. inSet x k) all)
-      ∙ setOf-members (λ x. true) 8 k ∙ and-both (lt-ltb k 8 (omega (arith, wf .sized .counted .fewAutomata))) refl
+-- automata of a set that demand some word and cannot be met beside O
+module _ (t : List ℕ) (wf : WellFormed t) (q : Query) (S A O : ℕ) (found : Family)
+    (tells : TellsMet t q S A (bitOr O (owedOf t S)) found) where
+  pub tells-owed : covers found O ≡ provable t q S A O
+  tells-owed = tells O (part-or-left O (owedOf t S))
 
-  marked-members : (A k : ℕ) → inSet (markedOf t A) k ≡ (ltb k (automata t) and inSet A k and eqb (automaton t (suc k) .mark) 1)
-  unfolding markedOf
-  marked-members A k = setOf-members _ (automata t) k
+  -- one automaton more
+  more-asked : (j : ℕ) → inSet (bitOr O (owedOf t S)) j ≡ true → part (bitOr O (2 ^ j)) (bitOr O (owedOf t S)) ≡ true
+  more-asked j there = part-or O (2 ^ j) _ (part-or-left O (owedOf t S)) (one-among j _ there)
 
-  pub marked-shows : (A k : ℕ) → inSet (markedOf t A) k ≡ true
-      → (k < automata t) × (inSet A k ≡ true) × (automaton t (suc k) .mark ≡ 1)
-  marked-shows A k h =
-      let all = sym (marked-members A k) ∙ h in
-      let both = and-second _ _ all in
-      (ltb-true k _ (and-first _ _ all), and-first _ _ both, eqb-true _ 1 (and-second _ _ both))
+  pub tells-more : (j : ℕ) → inSet (owedOf t S) j ≡ true
+      → covers found (bitOr O (2 ^ j)) ≡ provable t q S A (bitOr O (2 ^ j))
+  tells-more j owed = tells _ (more-asked j (part-member _ _ j (part-or-right O (owedOf t S)) owed))
 
-  pub marked-reached : (A k : ℕ) → k < automata t → inSet A k ≡ true → automaton t (suc k) .mark ≡ 1
-      → inSet (markedOf t A) k ≡ true
-  marked-reached A k l member one =
-      marked-members A k ∙ and-both (lt-ltb k _ l) (and-both member (eq-eqb _ 1 one))
+  -- and what is told of what the set may owe is told with it
+  pub tells-on : (j : ℕ) → inSet (owedOf t S) j ≡ true → TellsMet t q S A (bitOr (bitOr O (2 ^ j)) (owedOf t S)) found
+  tells-on j owed X among =
+      tells X (part-trans X _ _ among
+      (part-or _ (owedOf t S) _ (more-asked j (part-member _ _ j (part-or-right O (owedOf t S)) owed))
+      (part-or-right O (owedOf t S))))
 
-  -- those that a set may owe are those of its automata that are marked
-  pub owed-marked : (S : ℕ) → bitAnd (automataOf t S) (markedOf t allAutomata) ≡ owedOf t S
-  unfolding owedOf
-  owed-marked S =
-      same-members _ _ (λ k. inSet-and (automataOf t S) (markedOf t allAutomata) k ∙ same-test _ _
-      (λ h.
-      let (l, all, one) = marked-shows allAutomata k (and-second _ _ h) in
-      marked-reached (automataOf t S) k l (and-first _ _ h) one)
-      (λ h.
-      let (l, borne, one) = marked-shows (automataOf t S) k h in
-      and-both borne (marked-reached allAutomata k l (all-there k l) one)))
+  module _ (proved : covers found O ≡ true) (k : ℕ) {lost : ℕ} (is : lost ≡ lackingOf found O (bitOr O (owedOf t S)) k) where
+    -- each of them is one that the set may owe
+    lost-shows : (j : ℕ) → inSet lost j ≡ true
+        → (j < k) × (inSet (owedOf t S) j ≡ true) × (covers found (bitOr O (2 ^ j)) ≡ false)
+    unfolding lackingOf isLacking
+    lost-shows j h =
+        let all = sym (setOf-members _ k j) ∙ (rw is at h) in
+        let both = and-second _ _ all in
+        let unmet = not-true _ (and-second _ _ both) in
+        (ltb-true j k (and-first _ _ all), owed unmet (and-first _ _ both), unmet)
+      where
+        owed : covers found (bitOr O (2 ^ j)) ≡ false → inSet (bitOr O (owedOf t S)) j ≡ true → inSet (owedOf t S) j ≡ true
+        owed unmet there =
+            or-either
+            (λ already.
+            let same = part-antisym _ O (part-or O (2 ^ j) O (part-refl O) (one-among j O already)) (part-or-left O (2 ^ j)) in
+            absurd (false-true (sym unmet ∙ ap (covers found) same ∙ proved)))
+            (λ own. own) (sym (inSet-or O (owedOf t S) j) ∙ there)
 
-  pub owed-shows : (S k : ℕ) → inSet (owedOf t S) k ≡ true
-      → (k < automata t) × (inSet (automataOf t S) k ≡ true) × (automaton t (suc k) .mark ≡ 1)
-  unfolding owedOf
-  owed-shows S k = marked-shows (automataOf t S) k
+    pub lost-without : admitsTo t q (withoutAll t S lost) A O k ≡ admitsTo t q S A O k
+    lost-without =
+        admits-without t wf q S A O k lost (λ j h.
+        let (l, owed, unmet) = lost-shows j h in
+        (l, owed-shows t wf S j owed .2, sym (tells-more j owed) ∙ unmet))
 
-  pub owed-few : (S : ℕ) → owedOf t S < allSets
-  owed-few S = members-below _ 8 (λ k h. omega (arith, owed-shows S k h .0, wf .sized .counted .fewAutomata))
-
-  pub asked-few : (S O : ℕ) → O < allSets → bitOr O (owedOf t S) < allSets
-  asked-few S O few = or-lt 8 O (owedOf t S) few (owed-few S)
-
-  -- the terms with all that the set may owe
-  module _ (terms : Terms) {marks : ℕ} (is : marks ≡ markedOf t allAutomata) where
-    all-owed : bitAnd (automataOf t (terms .allowed)) marks ≡ owedOf t (terms .allowed)
-    all-owed = rw is (owed-marked (terms .allowed))
-
-    pub asks-unmarked : marks ≡ 0 → Asks terms (terms .constraints) (bitOr (terms .owed) (owedOf t (terms .allowed))) terms
-    asks-unmarked none =
-        record {
-          allowed-is = refl;
-          every-is = refl;
-          owed-is = sym (ap (bitOr (terms .owed)) (sym all-owed ∙ rw none (and-zero-r (automataOf t (terms .allowed)))) ∙ or-zero-r (terms .owed));
-          last-is = refl;
-        }
-
-    pub asks-all : {borne : ℕ} → borne ≡ automataOf t (terms .allowed) → (more : Terms) → more .allowed ≡ terms .allowed
-        → more .constraints ≡ terms .constraints → more .owed ≡ bitOr (terms .owed) (bitAnd borne marks)
-        → more .last ≡ terms .last
-        → Asks terms (terms .constraints) (bitOr (terms .owed) (owedOf t (terms .allowed))) more
-    asks-all bears more allowed every owed last =
-        record {
-          allowed-is = allowed;
-          every-is = every;
-          owed-is = owed ∙ ap (bitOr (terms .owed)) (rw bears all-owed);
-          last-is = last;
-        }
-
-  -- automata of a set that demand some word and cannot be met beside O
-  module _ (q : Query) (S A O : ℕ) (found : Family) (tells : TellsMet t q S A (bitOr O (owedOf t S)) found) where
-    pub tells-owed : covers found O ≡ provable t q S A O
-    tells-owed = tells O (part-or-left O (owedOf t S))
-
-    -- one automaton more
-    more-asked : (j : ℕ) → inSet (bitOr O (owedOf t S)) j ≡ true → part (bitOr O (2 ^ j)) (bitOr O (owedOf t S)) ≡ true
-    more-asked j there = part-or O (2 ^ j) _ (part-or-left O (owedOf t S)) (one-among j _ there)
-
-    pub tells-more : (j : ℕ) → inSet (owedOf t S) j ≡ true
-        → covers found (bitOr O (2 ^ j)) ≡ provable t q S A (bitOr O (2 ^ j))
-    tells-more j owed = tells _ (more-asked j (part-member _ _ j (part-or-right O (owedOf t S)) owed))
-
-    -- and what is told of what the set may owe is told with it
-    pub tells-on : (j : ℕ) → inSet (owedOf t S) j ≡ true → TellsMet t q S A (bitOr (bitOr O (2 ^ j)) (owedOf t S)) found
-    tells-on j owed X among =
-        tells X (part-trans X _ _ among
-        (part-or _ (owedOf t S) _ (more-asked j (part-member _ _ j (part-or-right O (owedOf t S)) owed))
-        (part-or-right O (owedOf t S))))
-
-    module _ (proved : covers found O ≡ true) (k : ℕ) {lost : ℕ} (is : lost ≡ lackingOf found O (bitOr O (owedOf t S)) k) where
-      -- each of them is one that the set may owe
-      lost-shows : (j : ℕ) → inSet lost j ≡ true
-          → (j < k) × (inSet (owedOf t S) j ≡ true) × (covers found (bitOr O (2 ^ j)) ≡ false)
-      unfolding lackingOf isLacking
-      lost-shows j h =
-          let all = sym (setOf-members _ k j) ∙ (rw is at h) in
-          let both = and-second _ _ all in
-          let unmet = not-true _ (and-second _ _ both) in
-          (ltb-true j k (and-first _ _ all), owed unmet (and-first _ _ both), unmet)
-        where
-          owed : covers found (bitOr O (2 ^ j)) ≡ false → inSet (bitOr O (owedOf t S)) j ≡ true → inSet (owedOf t S) j ≡ true
-          owed unmet there =
-              or-either
-              (λ already.
-              let same = part-antisym _ O (part-or O (2 ^ j) O (part-refl O) (one-among j O already)) (part-or-left O (2 ^ j)) in
-              absurd (false-true (sym unmet ∙ ap (covers found) same ∙ proved)))
-              (λ own. own) (sym (inSet-or O (owedOf t S) j) ∙ there)
-
-      pub lost-without : admitsTo t q (withoutAll t S lost) A O k ≡ admitsTo t q S A O k
-      lost-without =
-          admits-without t wf q S A O k lost (λ j h.
-          let (l, owed, unmet) = lost-shows j h in
-          (l, owed-shows S j owed .2, sym (tells-more j owed) ∙ unmet))
-
-      -- and leaving their credentials out leaves fewer
-      pub lost-less : (lost ≡ 0 → ⊥) → withoutAll t S lost < S
-      lost-less some =
-          let (j, member, again) = meets-common lost lost (meets-some lost lost (λ none. some (sym (and-self lost) ∙ none))) in
-          without-less t S lost j member (owed-shows S j (lost-shows j member .1) .1)
+    -- and leaving their credentials out leaves fewer
+    pub lost-less : (lost ≡ 0 → ⊥) → withoutAll t S lost < S
+    lost-less some =
+        let (j, member, again) = meets-common lost lost (meets-some lost lost (λ none. some (sym (and-self lost) ∙ none))) in
+        without-less t S lost j member (owed-shows t wf S j (lost-shows j member .1) .1)
 
 -- an automaton that is borne and demands some word is one that the set may owe
 pub may-owe : (t : List ℕ) → WellFormed t → (S k : ℕ) → Borne t S k → automaton t (suc (k - 1)) .mark ≡ 1
@@ -287,10 +174,6 @@ pub spared-told : (t : List ℕ) (q : Query) (S A O k : ℕ) {fewer : ℕ} {out 
     → out ≡ admitsTo t q fewer A O (k - 1) → out ≡ spared t q S A O k
 unfolding spared
 spared-told t q S A O k left told = told ∙ rw left
-
--- which are no more than there were
-pub fewer-left : (t : List ℕ) (S L : ℕ) {fewer : ℕ} → fewer ≡ withoutAll t S L → fewer ≤ S
-fewer-left t S L left = rw left (part-le _ S (without-part t S L))
 
 -- the set proves, or does not
 module _ (t : List ℕ) (q : Query) (S A O k : ℕ) where

@@ -1,20 +1,21 @@
 -- docs/DEFINITION.md, "Words" and "The list": whether some accepted record uses only credentials of a set. `Admits` says it by
 -- derivations; `admits` decides it automaton by automaton: each one that a credential of the set bears is either done without,
 -- by leaving its credentials out, or imposed on every word or owed some word, by its mark (proofs/Admitting.antt).
-use Prim.Native.Nat.{ℕ, zero, suc, _-_, _^_}
+use Prim.Native.Nat.{ℕ, zero, suc, _^_}
 use mathlib.Core.List.{List, [], _∷_}
-use mathlib.Core.Bool.{Bool, true, not}
+use mathlib.Core.Bool.{Bool, true}
 use lib.Bits.{bitOr}
 use lib.Dec.{eqb}
 use Rattle.sets.specs.Logic.{_and_, _or_, pick}
-use Rattle.sets.specs.Sets.{inSet, setOf}
-use Rattle.table.specs.Layout.{automata, automaton, credential, credentials}
+use Rattle.sets.specs.Sets.{inSet}
+use Rattle.table.specs.Layout.{automata, automaton}
 use Rattle.table.specs.declared.Query.{Query}
 use Rattle.derivation.specs.Rules.{goalOf}
 use Rattle.derivation.specs.Forest.{Derives, Forest}
 use Rattle.derivation.specs.Words.{Complies}
 use Rattle.attached.specs.Attached.{automataOf}
 use Rattle.search.specs.Search.{UsesOnly, provable}
+use Rattle.settling.specs.Settling.{withoutAll}
 
 -- some derivation of the queried membership uses only credentials of the set S, and complies
 pub record Admits (t : List ℕ) (q : Query) (S : ℕ) : Type 0 where
@@ -22,14 +23,6 @@ pub record Admits (t : List ℕ) (q : Query) (S : ℕ) : Type 0 where
   pub derives : Derives t (q .depth) [] (goalOf q ∷ []) forest
   pub usesOnly : UsesOnly forest S
   pub complies : Complies t forest
-
--- the automaton of a credential is one of the set L: automaton k counts 2^(k-1), and 0 is none
-unfoldable pub among : ℕ → ℕ → Bool
-among L x = not (eqb x 0) and inSet L (x - 1)
-
--- the credentials of S that bear no automaton of the set L
-unfoldable pub withoutAll : List ℕ → ℕ → ℕ → ℕ
-withoutAll t S L = setOf (λ c. inSet S c and not (among L (credential t (suc c) .automaton))) (credentials t)
 
 -- automaton k + 1 is imposed on every word, or owed some word, by its mark
 unfoldable pub withEvery : List ℕ → ℕ → ℕ → ℕ

@@ -1,12 +1,11 @@
 -- What the functions of src/lib.rt ask and promise each other while they decide one automaton after the other.
-use Prim.Native.Nat.{ℕ, _-_, _^_, _<_, _≤_}
+use Prim.Native.Nat.{ℕ, _-_, _<_, _≤_}
 use mathlib.Core.Path.{_≡_}
 use mathlib.Core.List.{List}
-use mathlib.Core.Bool.{Bool, true, not}
+use mathlib.Core.Bool.{true}
 use lib.Bits.{bitOr}
-use Rattle.sets.specs.Logic.{_and_}
-use Rattle.sets.specs.Sets.{inSet, setOf}
-use Rattle.families.specs.Families.{allSets, covers}
+use Rattle.sets.specs.Sets.{inSet}
+use Rattle.families.specs.Families.{allSets}
 use Rattle.families.specs.declared.Family.{Family}
 use Rattle.table.specs.Layout.{automata}
 use Rattle.table.specs.declared.Query.{Query}
@@ -14,10 +13,7 @@ use Rattle.attached.specs.Attached.{automataOf, markedOf, owedOf}
 use Rattle.members.specs.Members.{Members}
 use Rattle.goals.specs.declared.Terms.{Terms}
 use Rattle.search.specs.Search.{Prepared, TellsMet}
-
--- all automata that a table may have
-abbrev pub allAutomata : ℕ
-allAutomata = 255
+use Rattle.settling.specs.Settling.{allAutomata}
 
 -- the first k automata are to be decided, on the terms of a search: `marks` has those of the table that demand some word
 pub record Undecided (t : List ℕ) (q : Query) (index arcs rows : List ℕ) (terms : Terms) (marks k : ℕ) : Type 0 where
@@ -41,17 +37,3 @@ pub record Known (t : List ℕ) (q : Query) (terms : Terms) (borne : ℕ) (found
 pub record Borne (t : List ℕ) (S k : ℕ) : Type 0 where
   pub some : k ≡ 0 → ⊥
   pub borne : inSet (automataOf t S) (k - 1) ≡ true
-
--- the terms of a search with A imposed and O owed
-pub record Asks (terms : Terms) (A O : ℕ) (more : Terms) : Type 0 where
-  pub allowed-is : more .allowed ≡ terms .allowed
-  pub every-is : more .constraints ≡ A
-  pub owed-is : more .owed ≡ O
-  pub last-is : more .last ≡ terms .last
-
--- automaton j + 1 is one of W, and by what is found it cannot be met together with O; and the first k of these
-unfoldable pub isLacking : Family → ℕ → ℕ → ℕ → Bool
-isLacking found O W j = inSet W j and not (covers found (bitOr O (2 ^ j)))
-
-unfoldable pub lackingOf : Family → ℕ → ℕ → ℕ → ℕ
-lackingOf found O W k = setOf (isLacking found O W) k

@@ -13,19 +13,17 @@ use table::Query;
 use table::layout;
 ghost use mathlib.Core.Path.{_≡_};
 ghost use mathlib.Core.Bool.{false};
-ghost use Prim.Native.Nat.{suc, _-_, _^_, _<_, _≤_};
+ghost use Prim.Native.Nat.{suc, _-_, _<_, _≤_};
 ghost use lib.Bits.{bitOr};
 ghost use lib.Dec.{eqb};
 ghost use Rattle.families.specs.Families.{allSets};
-ghost use Rattle.table.specs.Limits.{mostAutomata};
 ghost use Rattle.table.specs.Layout.{automata, automaton};
-ghost use Rattle.table.specs.Holding.{WellFormed};
 ghost use Rattle.attached.specs.Attached.{markedOf, owedOf};
 ghost use Rattle.search.specs.Search.{Prepared};
+ghost use Rattle.settling.specs.Settling.{allAutomata};
 ghost use Rattle.admission.specs.Admits;
-ghost use Rattle.admission.specs.Admits.{admitsBy, admitsTo, among, withoutAll};
-ghost use Rattle.admission.specs.Deciding.{Asks, Borne, MetFound, Known, Undecided, allAutomata};
-ghost use Rattle.admission.specs.Deciding.{isLacking, lackingOf};
+ghost use Rattle.admission.specs.Admits.{admitsBy, admitsTo};
+ghost use Rattle.admission.specs.Deciding.{Borne, Known, MetFound, Undecided};
 
 const ALL_AUTOMATA: AutomatonSet = 255;
 
@@ -96,7 +94,7 @@ fn admits_over(
     requires { ⌜ Undecided (now table) query (now index) (now arcs) (now rows) terms marks k ⌝ }
     ensures { λ r. ⌜ r ≡ admitsTo (now (table .entry)) query (terms .allowed) (terms .constraints) (terms .owed) k ⌝ }
 {
-    let all = owing_all(table, terms, marks);
+    let all = settling::owing_all(table, terms, marks);
     if all.constraints | all.owed == 0 {
         return admits_free(table, query, index, arcs, rows, terms, marks, k);
     }
@@ -139,9 +137,9 @@ fn admits_found(
     if k == 0 {
         return true;
     }
-    let lost = lacking(found, terms.owed, asked, k);
+    let lost = settling::lacking(found, terms.owed, asked, k);
     if lost != 0 {
-        let fewer = without(table, terms.allowed, lost);
+        let fewer = settling::without(table, terms.allowed, lost);
         return admits_under(
             table,
             query,
@@ -276,7 +274,7 @@ fn owes_one(
     requires { ⌜ Borne (now table) (terms .allowed) k × (automaton (now table) (suc (k - 1)) .mark ≡ 1) ⌝ }
     ensures { λ r. ⌜ r ≡ admitsBy (now (table .entry)) query (terms .allowed) (terms .constraints) (terms .owed) k ⌝ }
 {
-    let more = owing(terms, k);
+    let more = settling::owing(terms, k);
     if found.covers(more.owed) {
         if admits_by(
             table,
@@ -293,7 +291,7 @@ fn owes_one(
             return true;
         }
     }
-    let fewer = without_one(table, terms.allowed, k);
+    let fewer = settling::without_one(table, terms.allowed, k);
     admits_under(
         table,
         query,
@@ -322,7 +320,7 @@ fn imposes_one(
     requires { ⌜ Borne (now table) (terms .allowed) k × (eqb (automaton (now table) (suc (k - 1)) .mark) 1 ≡ false) ⌝ }
     ensures { λ r. ⌜ r ≡ admitsBy (now (table .entry)) query (terms .allowed) (terms .constraints) (terms .owed) k ⌝ }
 {
-    let fewer = without_one(table, terms.allowed, k);
+    let fewer = settling::without_one(table, terms.allowed, k);
     if admits_under(
         table,
         query,
@@ -336,8 +334,8 @@ fn imposes_one(
     ) {
         return true;
     }
-    let more = imposing(terms, k);
-    let all = owing_all(table, more, marks);
+    let more = settling::imposing(terms, k);
+    let all = settling::owing_all(table, more, marks);
     let found = search::query_search(table, query, index, arcs, rows, all);
     admits_found(
         table,
@@ -351,115 +349,4 @@ fn imposes_one(
         found,
         k - 1,
     )
-}
-
-// The terms with all that the set may owe: the automata that it bears and that demand some word.
-fn owing_all(table: &[Number], terms: Terms, marks: AutomatonSet) -> Terms
-    requires { ⌜ WellFormed (now table) ⌝ }
-    requires { ⌜ marks ≡ markedOf (now table) allAutomata ⌝ }
-    ensures { λ r. ⌜ Asks terms (terms .constraints) (bitOr (terms .owed) (owedOf (now (table .entry)) (terms .allowed))) r ⌝ }
-{
-    if marks == 0 {
-        return terms;
-    }
-    let borne = attached::automata_of(table, terms.allowed);
-    Terms {
-        allowed: terms.allowed,
-        constraints: terms.constraints,
-        owed: terms.owed | (borne & marks),
-        last: terms.last,
-    }
-}
-
-// The terms with automaton k owed some word.
-fn owing(terms: Terms, k: usize) -> Terms
-    requires { ⌜ (k ≡ 0 → ⊥) × (k ≤ mostAutomata) ⌝ }
-    ensures { λ r. ⌜ Asks terms (terms .constraints) (bitOr (terms .owed) (2 ^ (k - 1))) r ⌝ }
-{
-    Terms {
-        allowed: terms.allowed,
-        constraints: terms.constraints,
-        owed: sets::with_16(terms.owed, k - 1),
-        last: terms.last,
-    }
-}
-
-// The terms with automaton k imposed on every word.
-fn imposing(terms: Terms, k: usize) -> Terms
-    requires { ⌜ (k ≡ 0 → ⊥) × (k ≤ mostAutomata) ⌝ }
-    ensures { λ r. ⌜ Asks terms (bitOr (terms .constraints) (2 ^ (k - 1))) (terms .owed) r ⌝ }
-{
-    Terms {
-        allowed: terms.allowed,
-        constraints: sets::with_16(terms.constraints, k - 1),
-        owed: terms.owed,
-        last: terms.last,
-    }
-}
-
-// Of the first k automata those that are asked for and cannot be met beside what is owed.
-fn lacking(found: Family, owed: AutomatonSet, asked: AutomatonSet, k: usize) -> AutomatonSet
-    requires { ⌜ (owed < allSets) × (k ≤ mostAutomata) ⌝ }
-    ensures { λ r. ⌜ r ≡ lackingOf found owed asked k ⌝ }
-{
-    let mut lost = 0;
-    let mut j = 0;
-    while j < k {
-        if is_lacking(found, owed, asked, j) {
-            lost = sets::with_16(lost, j);
-        }
-        j += 1;
-    }
-    lost
-}
-
-// Automaton j + 1 is asked for and cannot be met beside what is owed.
-fn is_lacking(found: Family, owed: AutomatonSet, asked: AutomatonSet, j: usize) -> bool
-    requires { ⌜ (owed < allSets) × (j < mostAutomata) ⌝ }
-    ensures { λ r. ⌜ r ≡ isLacking found owed asked j ⌝ }
-{
-    if !sets::has_16(asked, j) {
-        return false;
-    }
-    !found.covers(sets::with_16(owed, j))
-}
-
-// The credentials of the set that bear none of the automata.
-fn without(table: &[Number], set: CredentialSet, automata: AutomatonSet) -> CredentialSet
-    requires { ⌜ WellFormed (now table) ⌝ }
-    ensures { λ r. ⌜ r ≡ withoutAll (now (table .entry)) set automata ⌝ }
-{
-    let n = layout::credentials(table);
-    let mut kept = 0;
-    let mut i = 0;
-    while i < n {
-        if sets::has(set, i) {
-            let credential = layout::credential(table, i + 1);
-            if !is_among(automata, credential.automaton) {
-                kept = sets::with(kept, i);
-            }
-        }
-        i += 1;
-    }
-    kept
-}
-
-// The credentials of the set that do not bear automaton k.
-fn without_one(table: &[Number], set: CredentialSet, k: usize) -> CredentialSet
-    requires { ⌜ WellFormed (now table) ⌝ }
-    requires { ⌜ (k ≡ 0 → ⊥) × (k ≤ mostAutomata) ⌝ }
-    ensures { λ r. ⌜ r ≡ withoutAll (now (table .entry)) set (2 ^ (k - 1)) ⌝ }
-{
-    without(table, set, 1 << (k - 1))
-}
-
-// The automaton of a credential is one of these; 0 is none.
-fn is_among(automata: AutomatonSet, automaton: Number) -> bool
-    requires { ⌜ automaton ≤ mostAutomata ⌝ }
-    ensures { λ r. ⌜ r ≡ among automata automaton ⌝ }
-{
-    if automaton == 0 {
-        return false;
-    }
-    sets::has_16(automata, layout::wide(automaton) - 1)
 }

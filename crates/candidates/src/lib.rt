@@ -40,54 +40,11 @@ pub fn keep(
         (now (sets .exit)) (now (found .exit)) ⌝ }
 {
     if full {
-        if !is_minimal(table, query, index, arcs, set) {
+        if !minimal::is_minimal(table, query, index, arcs, set) {
             return;
         }
     }
     sorted::insert(sets, found, set);
-}
-
-// Whether an admitted set is minimal: without any one of its credentials it is not admitted.
-pub fn is_minimal(
-    table: &[Number],
-    query: Query,
-    index: &[u8],
-    arcs: &[StateSet],
-    set: CredentialSet,
-) -> bool
-    requires { ⌜ Prepared (now table) query (now index) (now arcs) ⌝ }
-    requires { ⌜ set < 2 ^ credentials (now table) ⌝ }
-    requires { ⌜ admits (now table) query set ≡ true ⌝ }
-    ensures { λ r. ⌜ r ≡ isLeast (admits (now (table .entry)) query) set ⌝ }
-{
-    let n = layout::credentials(table);
-    let mut i = 0;
-    while i < n {
-        if is_spare(table, query, index, arcs, set, i) {
-            return false;
-        }
-        i += 1;
-    }
-    true
-}
-
-// Whether a credential of the set is there, and the set is admitted without it.
-fn is_spare(
-    table: &[Number],
-    query: Query,
-    index: &[u8],
-    arcs: &[StateSet],
-    set: CredentialSet,
-    i: usize,
-) -> bool
-    requires { ⌜ Prepared (now table) query (now index) (now arcs) ⌝ }
-    requires { ⌜ i < credentials (now table) ⌝ }
-    ensures { λ r. ⌜ r ≡ (inSet set i and admits (now (table .entry)) query (bitXor set (2 ^ i))) ⌝ }
-{
-    if !sets::has(set, i) {
-        return false;
-    }
-    admission::admits(table, query, index, arcs, set ^ (1 << i))
 }
 
 // Grows a set that is not admitted, credential by credential, while it is not.

@@ -14,7 +14,6 @@ use Rattle.table.specs.Checks.{within}
 use Rattle.table.specs.declared.Role.{Role}
 use Rattle.table.specs.declared.Goal.{Goal}
 use Rattle.sets.proofs.Tests.{and-first, and-second}
-
 use Rattle.derivation.specs.Rules.{asks, premises, premisesBy, usable, when}
 use Rattle.derivation.specs.Held.{given}
 use Rattle.derivation.specs.declared.Premises.{Premises}

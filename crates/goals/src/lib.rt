@@ -3,7 +3,7 @@
 use automata::Moved;
 use automata::StateSets;
 use families::Family;
-use levels::ROW;
+use masks::ROW;
 use sets::AutomatonSet;
 use sets::CredentialSet;
 use sets::StateSet;
@@ -23,7 +23,7 @@ ghost use Rattle.moves.specs.Arcs.{Arcs};
 ghost use Rattle.automata.specs.Together.{acceptingSet};
 ghost use Rattle.members.specs.Places.{isPerson};
 ghost use Rattle.members.specs.Members.{Indexed, Placed, askedCell, lesser, rowCell, tableCells};
-ghost use Rattle.levels.specs.Levels.{askedMembers};
+ghost use Rattle.masks.specs.Masks.{askedMembers};
 ghost use Rattle.goals.specs.Goals;
 ghost use Rattle.goals.specs.Goals.{Left, Trimmed, askedBefore, mayBeProved, usable};
 
@@ -144,7 +144,7 @@ pub fn are_listed(
     ensures { λ r. ⌜ r ≡ inSet (askedMembers (now (index .entry)) (now (rows .entry)) (lesser levels last) i) person ⌝ }
 {
     sets::has(
-        levels::asked_members(index, rows, row_of(levels, last), i),
+        masks::asked_members(index, rows, row_of(levels, last), i),
         person,
     )
 }

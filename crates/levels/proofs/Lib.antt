@@ -1,4 +1,3 @@
 -- Laws that belong to no one function; crates above cite those marked `pub mod`.
-pub mod Masks
 pub mod Rows
 pub mod Reaching

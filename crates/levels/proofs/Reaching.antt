@@ -23,14 +23,15 @@ use Rattle.members.specs.Places.{personAt, roleAt}
 use Rattle.members.specs.Trying.{everyGoal, mayUse, provesBy}
 use Rattle.members.specs.Members.{Indexed, Members, askedCell, lesser, listed, roleCell, rowCell, rowCells, tableCells}
 use Rattle.members.specs.Members.{within}
-use Rattle.levels.specs.Levels.{Copied, FirstLevel, RowGrown, UnchangedUpTo, Named, NamedBy, isRest, mask, provedMembers, restOf}
+use Rattle.masks.specs.Masks.{mask, provedMembers}
+use Rattle.levels.specs.Levels.{Copied, FirstLevel, RowGrown, UnchangedUpTo, Named, NamedBy, isRest, restOf}
 use Rattle.members.proofs.Reading.{numbered}
 use Rattle.members.proofs.Places.{person-is, person-named, person-stands, place-same, role-defined, role-few, same-place}
 use Rattle.members.proofs.Places.{same-self}
 use Rattle.members.proofs.Stepping.{proves-by-mono, within-by, within-closed, within-later, within-more, within-none}
 use Rattle.members.proofs.Stepping.{within-step}
 use Rattle.members.proofs.ByKind.{by-membership, some-role}
-use Rattle.levels.proofs.Masks.{Persons, in-row, listed-is, proved-in-row, proved-is, proved-same}
+use Rattle.masks.proofs.Masks.{Persons, in-row, listed-is, proved-in-row, proved-is, proved-same}
 
 may-parts : (t : List ℕ) (S : ℕ) (g : Goal) (c : ℕ) → mayUse t S g (suc c) ≡ true
     → (inSet S c ≡ true) × (sameRole (credential t (suc c) .role) (g .role) ≡ true)

@@ -19,9 +19,10 @@ use Rattle.table.specs.Limits.{mostCredentials, mostDepth}
 use Rattle.table.specs.Layout.{credential}
 use Rattle.table.specs.declared.Credential.{Credential}
 use Rattle.members.specs.Members.{Blank, Indexed, askedCell, roleCell, rowCell, rowCells, tableCells}
-use Rattle.levels.specs.Levels.{Copied, FirstLevel, RowGrown, NamedBy, ProvedBy, isRest, mask, provedMembers, restOf}
+use Rattle.masks.specs.Masks.{mask, provedMembers}
+use Rattle.levels.specs.Levels.{Copied, FirstLevel, RowGrown, NamedBy, ProvedBy, isRest, restOf}
 use Rattle.members.proofs.Reading.{below-next, kind-read}
-use Rattle.levels.proofs.Masks.{proved-same}
+use Rattle.masks.proofs.Masks.{proved-same}
 
 pub three-ways : {A B C D : Type 0} → (A → D) → (B → D) → (C → D) → A ⊎ (B ⊎ C) → D
 three-ways one two three = ⊎-elim one (⊎-elim two three)

@@ -20,7 +20,8 @@ use Rattle.members.specs.Above.{isAbove, nothingAbove, pairAbove, withGoal, wit
 use Rattle.members.specs.Trying.{everyGoal, mayUse, provedPremises, provesBy}
 use Rattle.goals.specs.Goals.{stepped}
 use Rattle.search.specs.Search.{ends, provable, proves, shares}
-use Rattle.admission.specs.Admits.{admits, admitsBy, admitsTo, among, withEvery, withOwed, withoutAll}
+use Rattle.settling.specs.Settling.{among, withoutAll}
+use Rattle.admission.specs.Admits.{admits, admitsBy, admitsTo, withEvery, withOwed}
 use Rattle.cuts.specs.Cuts.{isLeast}
 use Rattle.sorted.specs.Sorted.{laid, those}
 use Rattle.listing.specs.Minimal.{afterwards, bufferAfter, counted, listing, minimalSets}

@@ -26,7 +26,7 @@ use Rattle.table.specs.declared.Query.{Query}
 use Rattle.admission.specs.Admits.{admits}
 use Rattle.listing.specs.Minimal.{TellsList, afterwards, bufferAfter, isMinimal, minimalSets}
 use Rattle.candidates.specs.Candidates.{Bears}
-use Rattle.candidates.proofs.Growing.{admits-monotone}
+use Rattle.minimal.proofs.Spare.{admits-monotone}
 use Rattle.regions.specs.Below.{Ended, Held, andLeast}
 use Rattle.listing.proofs.Counting.{listed-counted, more-counted, none-counted}
 

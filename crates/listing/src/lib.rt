@@ -57,11 +57,12 @@ fn list_checked(table: &[Number], query: Query, room: usize, sets: &mut [Credent
 {
     let index = indexing::index(table, query);
     let usable = relevance::relevant(table, query, &index);
-    if !admission::admits(table, query, &index, &table[..0], usable) {
+    let none = [0; 1];
+    if !admission::admits(table, query, &index, &none[..0], usable) {
         return refused(Reason::NoMinimalSet);
     }
     if attached::automata_of(table, usable) == 0 {
-        return list_over(table, query, &index, &table[..0], usable, room, sets);
+        return list_over(table, query, &index, &none[..0], usable, room, sets);
     }
     let mut arcs = [0; moves::INDEX_CELLS];
     relevance::make_arcs(table, &index, usable, &mut arcs);

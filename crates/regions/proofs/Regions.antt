@@ -29,7 +29,7 @@ use Rattle.table.specs.Holding.{WellFormed}
 use Rattle.table.specs.declared.Query.{Query}
 use Rattle.admission.specs.Admits.{admits}
 use Rattle.candidates.specs.Candidates.{Grown, InsertedIfLeast}
-use Rattle.candidates.proofs.Growing.{admits-monotone}
+use Rattle.minimal.proofs.Spare.{admits-monotone}
 use Rattle.regions.specs.Below.{Decided, Ended, Held, andLeast}
 
 -- the buffer has room for every set, so the count fits

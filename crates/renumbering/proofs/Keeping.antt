@@ -16,7 +16,7 @@ use Rattle.sorted.proofs.Ascending.{one-place, those-numbers}
 use Rattle.table.specs.Layout.{Numbered}
 use Rattle.table.specs.Checks.{within}
 use Rattle.table.proofs.Fields.{within-range}
-use Rattle.agreement.specs.Agrees.{Renumbers}
+use Rattle.agreement.specs.Agrees.{KeepsOrder, Renumbers}
 use Rattle.renumbering.specs.Kept.{isKept, keptCount, newNumber, oldNumber}
 
 inside : (n i : ℕ) → 1 ≤ i → i ≤ n → within 1 n i ≡ true
@@ -70,3 +70,11 @@ module _ (p : ℕ → Bool) (n : ℕ) where
               rw (sub-one (suc (getD (those p n) (c - 1) 0)), place) (omega arith);
         };
       }
+
+-- and in the same order
+pub kept-in-order : (p : ℕ → Bool) (n : ℕ) → KeepsOrder (isKept p n) (newNumber p)
+unfolding newNumber
+kept-in-order p n c d own own′ less =
+    let range = within-range n c (and-first _ _ own) in
+    let behind = stands-behind p (d - 1) (c - 1) (omega arith) (and-second _ _ own) in
+    omega (arith, behind .0)

@@ -14,7 +14,7 @@ use Rattle.table.specs.Layout.{credentials}
 use Rattle.table.specs.Holding.{WellFormed}
 use Rattle.table.specs.declared.Query.{Query}
 use Rattle.table.proofs.WellFormed.{well-formed}
-use Rattle.agreement.specs.Agrees.{KeepsOrder}
+use Rattle.agreement.specs.Agrees.{Among, KeepsOrder}
 use Rattle.agreement.proofs.Renumbering.{home-again}
 use Rattle.agreement.proofs.Order.{less-on}
 use Rattle.agreement.proofs.Recording.{alike-back}
@@ -24,7 +24,6 @@ use Rattle.listing.proofs.Minimals.{minimal-sets, used-fits}
 use Rattle.renumbering.specs.Lists.{sortedBelow, stands}
 use Rattle.renumbering.specs.Promised.{Both, ListsAlike, ListsInOrder, UsesAmong, counterparts}
 use Rattle.renumbering.proofs.Alike.{minimal-alike}
-
 
 -- a list and its image
 module _ (on : ℕ → ℕ) where
@@ -100,7 +99,8 @@ module _ (t t′ : List ℕ) (q : Query) (mine theirs : ℕ → Bool) (to from :
     image-ascends : Ascending image
     image-ascends i j less l =
         let l′ : j < length (minimalSets t q) = rw long at l in
-        let among = λ (k : ℕ) (there : k < length (minimalSets t q)). all _ (minimal-sets t wf q (b .valid) .only k there .used) in
+        let among : (k : ℕ) → k < length (minimalSets t q) → Among mine (getD (minimalSets t q) k 0) =
+        λ k there. all _ (minimal-sets t wf q (b .valid) .only k there .used) in
         rw (image-at on (minimalSets t q) i (omega arith), image-at on (minimalSets t q) j l′)
         (less-on (credentials t) (credentials t′) mine theirs to from (b .alike .renumbers) order _ _ (among i (omega arith))
         (among j l′) (minimal-sets t wf q (b .valid) .ascending i j less l′))

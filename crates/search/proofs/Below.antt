@@ -27,7 +27,7 @@ use Rattle.automata.specs.declared.Moved.{Moved}
 use Rattle.automata.specs.declared.StateSets.{StateSets}
 use Rattle.members.specs.Above.{nothingAbove, pairAbove, withPair}
 use Rattle.members.specs.declared.above.Above.{Above}
-use Rattle.levels.specs.Levels.{askedMembers}
+use Rattle.masks.specs.Masks.{askedMembers}
 use Rattle.members.specs.Members.{Indexed, askedCell, lesser}
 use Rattle.members.specs.Places.{isPerson}
 use Rattle.failures.specs.Failures.{Joined, Spared}

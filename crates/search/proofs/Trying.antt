@@ -23,7 +23,7 @@ use Rattle.members.specs.Places.{isPerson, roleAt}
 use Rattle.members.specs.Above.{isAbove, pairAbove, withGoal, withPair}
 use Rattle.members.specs.Trying.{mayUse, provesBy}
 use Rattle.members.specs.Members.{Indexed, askedCell, lesser, linkCell, roleCell, rowCell}
-use Rattle.levels.specs.Levels.{askedMask, askedMembers}
+use Rattle.masks.specs.Masks.{askedMask, askedMembers}
 use Rattle.members.proofs.Places.{is-person, place-same, same-place}
 use Rattle.goals.specs.Goals.{askedBefore, stepped, usable}
 use Rattle.search.proofs.Placing.{cell-parts, first-cell, linkedRole, middle-unlisted, middleTried, own-part, part-cell}

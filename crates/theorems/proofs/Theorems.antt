@@ -21,6 +21,7 @@ use Rattle.writing.specs.Writes.{NoneBegins, WritesFirst}
 use Rattle.writing.specs.Promised.{WrittenNoneTwice}
 use Rattle.lines.specs.Printed.{DecimalReads}
 use Rattle.misreadings.specs.Misreadings.{Misreadings}
+use Rattle.renumbering.specs.Promised.{AdmittedAlike, ListsAlike, ListsInOrder, MinimalAlike, VerdictAlike}
 use Rattle.upgrading.specs.Upgrading.{Upgrading as UpgradingLists}
 use Rattle.upgrading.specs.Unmarked.{SameFirst, SameMinimal, SameVerdicts}
 use Rattle.table.proofs.Promised as table
@@ -42,6 +43,7 @@ use Rattle.writing.proofs.Promised as writing-promised
 use Rattle.writing.proofs.WritesFirst as writing
 use Rattle.lines.proofs.Decimals as decimals
 use Rattle.misreadings.proofs.Misreadings as misreadings
+use Rattle.renumbering.proofs.Promised as renumbering
 use Rattle.upgrading.proofs.Upgrading as lists-upgrading
 use Rattle.upgrading.proofs.Unmarked as unmarked
 
@@ -193,10 +195,31 @@ none-excluded = bounding.none-excluded
 pub decimal-reads : DecimalReads
 decimal-reads = decimals.decimal-reads
 
--- APART: no demand and no ticket rests on what follows. It is in words of the search, of an example, or of readings that are not
--- ours. Where no constraint is imposed and none owed, the table of members is exact
+-- APART: no demand and no ticket rests on what follows. It is in words of the search, of the law of agreement, of an example, or of
+-- readings that are not ours. Where no constraint is imposed and none owed, the table of members is exact
 pub members-exact : MembersExact
 members-exact = search.members-are-exact
+
+-- tables whose credentials of some numbers say the same under other numbers: a record that uses none but these is accepted there
+-- with its credentials renumbered,
+pub verdict-alike : VerdictAlike
+verdict-alike = renumbering.verdict-alike
+
+-- a set of these that admits a record does so there,
+pub admitted-alike : AdmittedAlike
+admitted-alike = renumbering.admitted-alike
+
+-- and a minimal set is minimal there;
+pub minimal-alike : MinimalAlike
+minimal-alike = renumbering.minimal-alike
+
+-- where no accepted record uses others, the list there is this one, renumbered and sorted afresh,
+pub lists-alike : ListsAlike
+lists-alike = renumbering.lists-alike
+
+-- and where the renumbering keeps the order, renumbered alone
+pub lists-in-order : ListsInOrder
+lists-in-order = renumbering.lists-in-order
 
 -- a search that leaves a dead branch loses nothing
 pub nothing-lost : NothingLost

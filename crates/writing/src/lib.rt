@@ -49,7 +49,8 @@ fn write_checked(table: &[Number], query: Query, set: CredentialSet, rec: &mut [
 {
     let index = indexing::index(table, query);
     if attached::automata_of(table, set) == 0 {
-        return write_over(table, query, &index, &table[..0], set, rec);
+        let none = [0; 1];
+        return write_over(table, query, &index, &none[..0], set, rec);
     }
     let mut arcs = [0; moves::INDEX_CELLS];
     relevance::make_arcs(table, &index, set, &mut arcs);
@@ -91,7 +92,7 @@ fn is_listed(
     if !admission::admits(table, query, index, arcs, set) {
         return false;
     }
-    candidates::is_minimal(table, query, index, arcs, set)
+    minimal::is_minimal(table, query, index, arcs, set)
 }
 
 // Row 16, or the record: first the terms of the set are settled. A small set gets a small memory, since clearing a large one

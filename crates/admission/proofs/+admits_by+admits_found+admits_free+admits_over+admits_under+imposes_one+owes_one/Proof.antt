@@ -5,7 +5,7 @@
 use mathlib.Core.Path.{_≡_, _∙_, refl, sym}
 use mathlib.Core.Bool.{true}
 use mathlib.Core.Logic.{⊎-elim}
-use Prim.Native.Nat.{ℕ, _*_, _+_, _-_, _<_}
+use Prim.Native.Nat.{ℕ, _*_, _+_, _<_}
 use native.Mathlib.Omega.{arith}
 use denote.Ref.{now}
 use lib.Bits.{bitOr}
@@ -17,9 +17,11 @@ use Rattle.members.specs.Members.{tableCells}
 use Rattle.members.proofs.Reading.{zeros}
 use Rattle.attached.specs.Attached.{owedOf}
 use Rattle.search.specs.Search.{provable}
-use Rattle.admission.specs.Admits.{admitsTo, withoutAll}
-use Rattle.admission.specs.Deciding.{Borne, lackingOf}
-use Rattle.admission.proofs.Deciding.{by-mark, by-no-mark, decided-last, decided-unborne, few-left, fewer-left}
+use Rattle.settling.specs.Settling.{lackingOf, withoutAll}
+use Rattle.settling.proofs.Leaving.{fewer-left}
+use Rattle.admission.specs.Admits.{admitsTo}
+use Rattle.admission.specs.Deciding.{Borne}
+use Rattle.admission.proofs.Deciding.{by-mark, by-no-mark, decided-last, decided-unborne, few-left}
 use Rattle.admission.proofs.Deciding.{free-proved, free-tells, free-unproved, may-seek, sought}
 use Rattle.admission.proofs.Deciding.{imposes-met, imposes-spared, known-with, lost-less, lost-without, may-owe, owes-met}
 use Rattle.admission.proofs.Deciding.{owes-unmet, owes-unproved, owing-few, spared-told, tells-more, tells-owed}
@@ -47,12 +49,12 @@ use Rattle.admission.proofs.+admits_by+admits_found+admits_free+admits_
 use Rattle.admission.proofs.owes_one.Reads as owes-one
 use Rattle.admission.proofs.owes_one.Kinds as owes-one-kinds
 use Rattle.admission.proofs.+admits_by+admits_found+admits_free+admits_over+admits_under+imposes_one+owes_one.Lts-owes_one as owes-one-lts
-use Rattle.admission.proofs.imposing.Reads as imposing-reads
-use Rattle.admission.proofs.lacking.Reads as lacking-reads
-use Rattle.admission.proofs.owing.Reads as owing-reads
-use Rattle.admission.proofs.owing_all.Reads as owing-all-reads
-use Rattle.admission.proofs.without.Reads as without-reads
-use Rattle.admission.proofs.without_one.Reads as without-one-reads
+use Rattle.settling.proofs.imposing.Reads as imposing-reads
+use Rattle.settling.proofs.lacking.Reads as lacking-reads
+use Rattle.settling.proofs.owing.Reads as owing-reads
+use Rattle.settling.proofs.owing_all.Reads as owing-all-reads
+use Rattle.settling.proofs.without.Reads as without-reads
+use Rattle.settling.proofs.without_one.Reads as without-one-reads
 use Rattle.attached.proofs.automata_of.Reads as automata-of-reads
 use Rattle.families.proofs.Family.covers.Reads as covers-reads
 use Rattle.families.proofs.Family.only.Reads as only-reads

@@ -35,6 +35,9 @@ relevant-requires c κs = search needs
 slice-aggregate-admits : tie.Need-slice-aggregate-admits
 slice-aggregate-admits c = search needs
 
+array-share-prefix-none : tie.Need-array-share-prefix-none
+array-share-prefix-none c = search needs
+
 slice-aggregate-admits-2 : tie.Need-slice-aggregate-admits-2
 slice-aggregate-admits-2 c = search needs
 
@@ -61,6 +64,9 @@ automata-of-requires c κs = search needs
 
 slice-aggregate-list-over : tie.Need-slice-aggregate-list-over
 slice-aggregate-list-over c = search needs
+
+array-share-prefix-none-2 : tie.Need-array-share-prefix-none-2
+array-share-prefix-none-2 c = search needs
 
 slice-aggregate-list-over-2 : tie.Need-slice-aggregate-list-over-2
 slice-aggregate-list-over-2 c = search needs
@@ -117,12 +123,14 @@ list-checked-spec =
     slice-aggregate-relevant
     relevant-requires
     slice-aggregate-admits
+    array-share-prefix-none
     slice-aggregate-admits-2
     admits-requires
     refused-requires
     returns
     automata-of-requires
     slice-aggregate-list-over
+    array-share-prefix-none-2
     slice-aggregate-list-over-2
     list-over-requires
     same-length

@@ -5,7 +5,7 @@ use Rattle.sets.proofs.Members.{part-refl}
 use Rattle.sets.proofs.Without.{and-part}
 use Rattle.cuts.proofs.Meeting.{more-same}
 use Rattle.cuts.proofs.Lines.{chosen-fits, full-barren}
-use Rattle.candidates.proofs.Growing.{admits-monotone}
+use Rattle.minimal.proofs.Spare.{admits-monotone}
 use Rattle.regions.proofs.Regions.{decided-cut, decided-left, decided-over, ended-barren}
 use Rattle.regions.proofs.Regions.{ended-kept, held-few, judged-least}
 use Rattle.regions.proofs.decide.Statement.{statement}

@@ -21,6 +21,9 @@ automata-of-requires c κs = search needs
 slice-aggregate-write-over : tie.Need-slice-aggregate-write-over
 slice-aggregate-write-over c = search needs
 
+array-share-prefix-none : tie.Need-array-share-prefix-none
+array-share-prefix-none c = search needs
+
 slice-aggregate-write-over-2 : tie.Need-slice-aggregate-write-over-2
 slice-aggregate-write-over-2 c = search needs
 
@@ -69,6 +72,7 @@ write-checked-spec =
     index-requires
     automata-of-requires
     slice-aggregate-write-over
+    array-share-prefix-none
     slice-aggregate-write-over-2
     write-over-requires
     same-length

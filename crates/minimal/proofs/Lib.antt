@@ -1,0 +1,2 @@
+-- Laws that belong to no one function; crates above cite those marked `pub mod`.
+pub mod Spare
