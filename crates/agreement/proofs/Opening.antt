@@ -7,9 +7,8 @@ use Prim.Native.Nat.{ℕ, zero, suc, _≤_}
 use native.Mathlib.Omega.{arith}
 use native.Mathlib.Decide.{ℕ-discrete}
 use lib.Dec.{eqb}
-use borrow.Author.Tests.{le-leb, ne-eqb}
+use borrow.Author.Tests.{ne-eqb}
 use Rattle.sets.specs.Logic.{_and_, _or_, pick}
-use Rattle.sets.proofs.Tests.{and-both}
 use Rattle.table.specs.Limits.{mostPrincipals}
 use Rattle.table.specs.Encoded.{automatonOf, credentialOf, edgeOf}
 use Rattle.table.specs.Layout.{Numbered, automata, automaton, cell, cells, credential, credentials, edge, edges}
@@ -22,24 +21,20 @@ use Rattle.table.specs.declared.Automaton.{Automaton}
 use Rattle.table.specs.declared.Edge.{Edge}
 use Rattle.table.specs.declared.Goal.{Goal}
 use Rattle.table.specs.declared.Role.{Role}
-use Rattle.table.proofs.Fields.{within-range}
+use Rattle.table.proofs.Fields.{range-within, within-range}
 use Rattle.table.proofs.WellFormed.{wf-cell, wf-credential}
 use Rattle.automata.specs.Automata.{accepts, acceptsFrom, moved, movedBy, runBy, starting}
-use Rattle.derivation.specs.Rules.{asks, asksBy, premises, premisesBy, usable}
+use Rattle.derivation.specs.Rules.{asks, asksBy, premises, premisesBy, usable, usableBy}
 use Rattle.derivation.specs.Words.{demandedBy, isMet}
 use Rattle.agreement.specs.Meaning.{demandsOf, meaning}
 use Rattle.agreement.specs.Agrees.{Carries}
 use Rattle.agreement.specs.Opened.{acceptsOf, isMetOf, meaningOf, numbered, opened, openedBy, premisesOf}
 use Rattle.agreement.proofs.Beside.{parts-alike}
 
-inside : (n i : ℕ) → Numbered n i → within 1 n i ≡ true
-unfolding within
-inside n i h = and-both (le-leb 1 i (h .first)) (le-leb i n (h .last))
-
 -- the records that are there, and where two tables have the same records they are opened alike
 pub numbered-at : {A : Type 0} (n : ℕ) (blank : A) (at : ℕ → A) (i : ℕ) → Numbered n i → numbered n blank at i ≡ at i
 unfolding numbered pick
-numbered-at n blank at i h = rw (inside n i h)
+numbered-at n blank at i h = rw (range-within n i h)
 
 pub numbered-same : {A : Type 0} (n : ℕ) (blank : A) (at at′ : ℕ → A) → ((i : ℕ) → Numbered n i → at i ≡ at′ i)
     → numbered n blank at ≡ numbered n blank at′
@@ -56,7 +51,8 @@ module _ (t : List ℕ) (wf : WellFormed t) where
 
   open-parts : (j : ℕ) → j ≤ cells t → partsBy (opened t .cell) j ≡ partsBy (cell t) j
   open-parts j h =
-      parts-alike (cell t) (opened t .cell) (cells t) (numbered-at (cells t) _ (cell t)) (λ i there. wf-cell t wf i there .next) j h
+      parts-alike (cell t) (opened t .cell) (cells t) (numbered-at (cells t) _ (cell t)) (λ i there. wf-cell t wf i there .next)
+      j h
 
   open-asks : (g : Goal) (c : Credential) (m : ℕ) → (c .kind ≡ 4 → c .first ≤ cells t) → Dec (c .kind ≡ 4)
       → asksBy mostPrincipals (partsBy (opened t .cell)) g c m ≡ asks t g c m
@@ -65,7 +61,7 @@ module _ (t : List ℕ) (wf : WellFormed t) where
   open-asks g c m within-cells (no other) = rw (ne-eqb (c .kind) 4 other)
 
   pub open-premises : (g : Goal) (c m : ℕ) → premisesOf mostPrincipals (opened t) g c m ≡ premises t g c m
-  unfolding premises premisesBy premisesOf usable pick _and_
+  unfolding premises premisesBy premisesOf usable usableBy pick _and_
   open-premises g c m = go (within 1 (credentials t) c) refl
     where
       ask : Goal → Credential → ℕ → Option (List Goal)
@@ -97,7 +93,7 @@ module _ (t : List ℕ) (wf : WellFormed t) where
     open-accepts : (word : List Role) → acceptsOf (opened t) k word ≡ accepts t k word
     unfolding accepts acceptsFrom starting acceptsOf pick
     open-accepts word =
-        rw (numbered-at (automata t) _ (automaton t) k there, inside (automata t) k there, open-move k)
+        rw (numbered-at (automata t) _ (automaton t) k there, range-within (automata t) k there, open-move k)
 
     pub open-met : (ws : List (List Role)) → isMetOf (opened t) k ws ≡ isMet t k ws
     open-met ws =

@@ -91,7 +91,8 @@ module _ (n n′ : ℕ) (mine theirs : ℕ → Bool) (to from : ℕ → ℕ) (r 
   same-above S T c own above j l = rw (setOf-members _ n′ j, setOf-members _ n′ j) (go (theirs (suc j)) refl)
     where
       go : (b : Bool) → theirs (suc j) ≡ b
-          → (ltb j n′ and (theirs (suc j) and inSet S (from (suc j) - 1))) ≡ (ltb j n′ and (theirs (suc j) and inSet T (from (suc j) - 1)))
+          → (ltb j n′ and (theirs (suc j) and inSet S (from (suc j) - 1)))
+          ≡ (ltb j n′ and (theirs (suc j) and inSet T (from (suc j) - 1)))
       go false e = rw e
       go true e =
           let own′ = r .backward .there (suc j) e in
@@ -105,8 +106,9 @@ module _ (n n′ : ℕ) (mine theirs : ℕ → Bool) (to from : ℕ → ℕ) (r 
       let (i, d) = less-decides S T (suc n) beyond less in
       let mine-i = own′ i (d .has) in
       let at = sub-one (suc i) in
+      let back = counterpart-back n n′ mine theirs to from r S (suc i) mine-i in
       decides-less (on S) (on T) (to (suc i) - 1) record {
-        lacks = refuted _ (λ h. false-true (sym (d .lacks) ∙ rw at at (counterpart-back n n′ mine theirs to from r S (suc i) mine-i h)));
+        lacks = refuted _ (λ h. false-true (sym (d .lacks) ∙ rw at at (back h)));
         has = counterpart n n′ mine theirs to from r T (suc i) mine-i (rw at (d .has));
         above = same-above S T (suc i) mine-i (λ j l. d .above j (omega arith));
       }

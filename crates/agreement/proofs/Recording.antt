@@ -7,13 +7,13 @@ use Prim.Native.Nat.{ℕ, suc}
 use native.Mathlib.Omega.{arith}
 use native.Mathlib.Decide.{ℕ-discrete}
 use lib.Dec.{eqb}
-use borrow.Author.Tests.{eqb-true, eq-eqb, le-leb, ne-eqb}
+use borrow.Author.Tests.{eqb-true, eq-eqb, ne-eqb}
 use Rattle.sets.specs.Logic.{_and_, _or_, pick}
 use Rattle.sets.specs.Sets.{inSet}
 use Rattle.sets.proofs.Tests.{and-both, and-first, and-second, same-test}
 use Rattle.sets.proofs.Members.{same-members}
 use Rattle.table.specs.Layout.{Numbered, automata, automaton, credential, credentials, edge, edges, parts, sameRole}
-use Rattle.table.specs.Checks.{within}
+use Rattle.table.proofs.Fields.{range-within}
 use Rattle.table.specs.declared.Goal.{Goal}
 use Rattle.table.specs.declared.Role.{Role}
 use Rattle.table.specs.declared.Edge.{Edge}
@@ -29,10 +29,6 @@ use Rattle.agreement.specs.Records.{Alike, HasEdges, SameAutomaton, Same
 use Rattle.agreement.specs.Promised.{AlikeBack}
 use Rattle.agreement.specs.Records.SameConstraint.{constrained, free}
 use Rattle.agreement.proofs.Tables.{table-numbers}
-
-inside : (n i : ℕ) → Numbered n i → within 1 n i ≡ true
-unfolding within
-inside n i h = and-both (le-leb 1 i (h .first)) (le-leb i n (h .last))
 
 -- automata that have the same edges read a word alike
 leads-alike : (k k′ : ℕ) (r : Role) (x : ℕ) (e e′ : Edge) → SameEdge e e′ k′ → leads k r x e ≡ true → leads k′ r x e′ ≡ true
@@ -56,7 +52,8 @@ moved-among t k t′ k′ has r x s h =
 module _ (t : List ℕ) (k : ℕ) (t′ : List ℕ) (k′ : ℕ) (same : SameAutomaton t k t′ k′) where
   moved-alike : (r : Role) (x : ℕ) → moved t′ k′ r x ≡ moved t k r x
   moved-alike r x =
-      same-members _ _ (λ s. same-test _ _ (moved-among t′ k′ t k (same .edges′) r x s) (moved-among t k t′ k′ (same .edges) r x s))
+      same-members _ _
+      (λ s. same-test _ _ (moved-among t′ k′ t k (same .edges′) r x s) (moved-among t k t′ k′ (same .edges) r x s))
 
   run-alike : (x : ℕ) (word : List Role) → run t′ k′ x word ≡ run t k x word
   unfolding runBy
@@ -66,7 +63,7 @@ module _ (t : List ℕ) (k : ℕ) (t′ : List ℕ) (k′ : ℕ) (same : SameAut
   accepts-alike : (word : List Role) → accepts t′ k′ word ≡ accepts t k word
   unfolding accepts acceptsFrom starting pick
   accepts-alike word =
-      rw (inside _ k (same .there), inside _ k′ (same .there′), same .starting, same .accepting, run-alike)
+      rw (range-within _ k (same .there), range-within _ k′ (same .there′), same .starting, same .accepting, run-alike)
 
   pub met-alike : (ws : List (List Role)) → isMet t′ k′ ws ≡ isMet t k ws
   met-alike ws = ap₂ (λ mark test. demandedBy mark test ws) (same .mark) (fun-ext accepts-alike)

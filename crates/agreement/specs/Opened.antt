@@ -18,7 +18,7 @@ use Rattle.table.specs.declared.Edge.{Edge}
 use Rattle.table.specs.declared.Goal.{Goal}
 use Rattle.table.specs.declared.Role.{Role}
 use Rattle.automata.specs.Automata.{movedBy, runBy}
-use Rattle.derivation.specs.Rules.{asksBy, premisesBy}
+use Rattle.derivation.specs.Rules.{asksBy, premisesBy, usableBy}
 use Rattle.derivation.specs.Words.{demandedBy}
 use Rattle.agreement.specs.Meaning.{Meaning, demandsOf}
 
@@ -58,7 +58,7 @@ opened t =
 -- `most` is the greatest principal
 unfoldable pub premisesOf : (most : ℕ) → Opened → Goal → ℕ → ℕ → Option (List Goal)
 premisesOf most o g c m =
-    premisesBy (within 1 (o .credentials) c) (asksBy most (partsBy (o .cell))) g (o .credential c) m
+    premisesBy (usableBy (o .credentials) c) (asksBy most (partsBy (o .cell))) g (o .credential c) m
 
 unfoldable pub acceptsOf : Opened → ℕ → List Role → Bool
 acceptsOf o k word =

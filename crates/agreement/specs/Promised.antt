@@ -1,4 +1,5 @@
--- The law of agreement for tables, as far as records go: crates/renumbering/specs/Promised.antt has what it says of sets and lists.
+-- The law of agreement for tables, as far as records go. crates/renumbering/specs/Promised.antt has what it says of sets and
+-- lists.
 use Prim.Native.Nat.{ℕ}
 use mathlib.Core.List.{List}
 use mathlib.Core.Bool.{Bool}

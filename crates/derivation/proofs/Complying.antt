@@ -16,7 +16,8 @@ use Rattle.table.specs.declared.Role.{Role}
 use Rattle.table.proofs.WellFormed.{wf-credential, well-formed}
 use Rattle.automata.specs.Automata.{accepts}
 use Rattle.derivation.specs.Forest.{Derives, Forest}
-use Rattle.derivation.specs.Words.{Complies, acceptsAll, acceptsSome, demandedBy, everyWord, isMet, met, someWord, usesAutomaton, words}
+use Rattle.derivation.specs.Words.{Complies, acceptsAll, acceptsSome, demandedBy, everyWord, isMet, met, someWord}
+use Rattle.derivation.specs.Words.{usesAutomaton, words}
 use Rattle.derivation.specs.Promised.{CompliesWhere, MetByEvery, MetBySome, MetUnused, UsedAutomaton}
 use Rattle.derivation.proofs.Using.{named-numbered, uses-reached, uses-shows}
 

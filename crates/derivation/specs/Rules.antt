@@ -54,12 +54,16 @@ asksBy most parts g c m =
     (pick (eqb (c .kind) 4) (intersectionAsks g (parts (c .first)) m) none)))
 
 -- the premises of goal g through a credential, which must be usable and define the goal's role; none where it does not apply
-unfoldable pub premisesBy : (usable : Bool) → (Goal → Credential → ℕ → Option (List Goal)) → Goal → Credential → ℕ → Option (List Goal)
+unfoldable pub premisesBy : (usable : Bool) → (Goal → Credential → ℕ → Option (List Goal)) → Goal → Credential → ℕ
+    → Option (List Goal)
 premisesBy usable asks g c m = pick (usable and sameRole (c .role) (g .role)) (asks g c m) none
 
--- by a table: a derivation may use each of its credentials
+-- which credentials a derivation may use: all that there are
+unfoldable pub usableBy : (credentials : ℕ) → ℕ → Bool
+usableBy credentials c = within 1 credentials c
+
 unfoldable pub usable : List ℕ → ℕ → Bool
-usable t c = within 1 (credentials t) c
+usable t c = usableBy (credentials t) c
 
 abbrev pub asks : List ℕ → Goal → Credential → ℕ → Option (List Goal)
 asks t = asksBy mostPrincipals (parts t)

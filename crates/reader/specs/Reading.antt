@@ -42,7 +42,8 @@ unfoldable pub readerBy : (Goal → ℕ → ℕ → Option (List Goal)) → ℕ 
 readerBy asks zero branch goals rec at =
     readAll (λ g later rest n. entered n (λ ps more k. stop 13 k) later (entryBy asks false g rest)) goals rec at
 readerBy asks (suc levels) branch goals rec at =
-    readAll (λ g later rest n. entered n (readerBy asks levels (g ∷ branch)) later (entryBy asks (fresh branch g) g rest)) goals rec at
+    readAll (λ g later rest n. entered n (readerBy asks levels (g ∷ branch)) later (entryBy asks (fresh branch g) g rest))
+    goals rec at
 
 abbrev pub reader : List ℕ → ℕ → List Goal → List Goal → List ℕ → ℕ → Reading
 reader t levels branch goals rec at = readerBy (premises t) levels branch goals rec at

@@ -7,7 +7,6 @@ use native.Mathlib.Omega.{arith}
 use native.Mathlib.Numerals.{sub-one}
 use lib.ListN.{getD, length, length-append, List·getD-append}
 use lib.Seq.{getD-at}
-use borrow.Author.Tests.{le-leb}
 use Rattle.sets.specs.Logic.{_and_}
 use Rattle.sets.proofs.Tests.{and-both, and-first, and-second}
 use Rattle.sorted.specs.Sorted.{those}
@@ -15,17 +14,14 @@ use Rattle.sorted.proofs.Lists.{those-begin, those-takes}
 use Rattle.sorted.proofs.Ascending.{one-place, those-numbers}
 use Rattle.table.specs.Layout.{Numbered}
 use Rattle.table.specs.Checks.{within}
-use Rattle.table.proofs.Fields.{within-range}
+use Rattle.table.proofs.Fields.{range-within, within-range}
 use Rattle.agreement.specs.Agrees.{KeepsOrder, Renumbers}
 use Rattle.renumbering.specs.Kept.{isKept, keptCount, newNumber, oldNumber}
 
-inside : (n i : ℕ) → 1 ≤ i → i ≤ n → within 1 n i ≡ true
-unfolding within
-inside n i l h = and-both (le-leb 1 i l) (le-leb i n h)
-
 module _ (p : ℕ → Bool) (n : ℕ) where
   -- a number that passes stands behind those before it
-  stands-behind : (i : ℕ) → i < n → p i ≡ true → (length (those p i) < length (those p n)) × (getD (those p n) (length (those p i)) 0 ≡ i)
+  stands-behind : (i : ℕ) → i < n → p i ≡ true
+      → (length (those p i) < length (those p n)) × (getD (those p n) (length (those p i)) 0 ≡ i)
   stands-behind i less passes =
       let (rest, e) = those-begin p (suc i) n less in
       let taken = those-takes p i passes in
@@ -46,7 +42,7 @@ module _ (p : ℕ → Bool) (n : ℕ) where
           there = λ c own.
               let range = within-range n c (and-first _ _ own) in
               let stands = stands-behind (c - 1) (omega arith) (and-second _ _ own) in
-              inside _ _ (omega arith) (omega (arith, stands .0));
+              range-within _ _ (record { first = omega arith; last = omega (arith, stands .0) });
           back = λ c own.
               let range = within-range n c (and-first _ _ own) in
               let stands = stands-behind (c - 1) (omega arith) (and-second _ _ own) in
@@ -58,7 +54,7 @@ module _ (p : ℕ → Bool) (n : ℕ) where
               let range = within-range (keptCount p n) c own in
               let all = those-numbers p n in
               let below = all .below (c - 1) (omega arith) in
-              and-both (inside n _ (omega arith) (omega arith))
+              and-both (range-within n _ (record { first = omega arith; last = omega arith }))
               (rw (sub-one (suc (getD (those p n) (c - 1) 0))) (all .only (c - 1) (omega arith)));
           back = λ c own.
               let range = within-range (keptCount p n) c own in

@@ -1,5 +1,5 @@
--- The law of agreement for tables: what the verifier accepts, which sets admit a record, which are minimal, and the lists. `Alike`
--- is the same seen from the other side (crates/agreement/specs/Promised.antt), so each of these goes both ways.
+-- The law of agreement for tables: what the verifier accepts, which sets admit a record, which are minimal, and the lists.
+-- `Alike` is the same seen from the other side (crates/agreement/specs/Promised.antt), so each of these goes both ways.
 use Prim.Native.Nat.{ℕ, _^_}
 use mathlib.Core.Path.{_≡_}
 use mathlib.Core.List.{List, map}

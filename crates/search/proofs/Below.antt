@@ -13,7 +13,8 @@ use lib.Dec.{eqb, ltb}
 use borrow.Author.Tests.{eqb-true, eqb-false, ltb-true, ltb-false, not-true}
 use Rattle.sets.specs.Logic.{_and_, _or_, anyBelow}
 use Rattle.sets.specs.Sets.{inSet, part}
-use Rattle.sets.proofs.Tests.{and-both, and-first, and-is, and-none, and-second, any-reached, any-shows, false-true, or-either, passed}
+use Rattle.sets.proofs.Tests.{and-both, and-first, and-is, and-none, and-second, any-reached, any-shows, false-true, or-either}
+use Rattle.sets.proofs.Tests.{passed}
 use Rattle.sets.proofs.Tests.{or-second, refuted}
 use Rattle.sets.proofs.Members.{inSet-or, part-le, part-member, part-zero}
 use Rattle.sets.proofs.Without.{part-fails}

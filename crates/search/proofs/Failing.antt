@@ -23,7 +23,8 @@ use Rattle.families.specs.Families.{allSets, covers}
 use Rattle.families.specs.declared.Family.{Family}
 use Rattle.families.proofs.Words.{same-sets}
 use Rattle.families.proofs.Covering.{covers-more}
-use Rattle.failures.specs.Failures.{FamilyAt, SlotHolds, Joined, SlotWritten, BlockingAt, Recalled, SlotIn, Spared, slotCell, slotCells}
+use Rattle.failures.specs.Failures.{FamilyAt, SlotHolds, Joined, SlotWritten, BlockingAt, Recalled, SlotIn, Spared, slotCell}
+use Rattle.failures.specs.Failures.{slotCells}
 use Rattle.members.specs.Members.{Blank}
 use Rattle.search.specs.Search.{goalAt, provesAt}
 use Rattle.search.specs.Failing.{Bounds, Covers, Failed, Fails, Remembered, Wide}

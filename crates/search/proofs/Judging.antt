@@ -12,11 +12,13 @@ use Rattle.sets.specs.Logic.{_and_, _or_, anyBelow}
 use Rattle.sets.specs.Sets.{inSet, part}
 use Rattle.sets.proofs.Tests.{and-both, and-first, and-second, any-none, any-not, any-reached, any-shows, false-true, or-either}
 use Rattle.sets.proofs.Tests.{or-first, or-off, or-second, refuted}
-use Rattle.sets.proofs.Members.{inSet-and, inSet-or, part-antisym, part-le, part-member, part-or, part-refl, part-shown, part-trans}
+use Rattle.sets.proofs.Members.{inSet-and, inSet-or, part-antisym, part-le, part-member, part-or, part-refl, part-shown}
+use Rattle.sets.proofs.Members.{part-trans}
 use Rattle.sets.proofs.Members.{part-zero}
 use Rattle.families.specs.Families.{FamilyOf, Inside, Within, allSets, covers, inFamily, isPart, joins}
 use Rattle.families.specs.declared.Family.{Family}
-use Rattle.families.proofs.Covering.{covers-joined, covers-more, covers-only, covers-own, covers-reached, covers-shows, inside-joined}
+use Rattle.families.proofs.Covering.{covers-joined, covers-more, covers-only, covers-own, covers-reached, covers-shows}
+use Rattle.families.proofs.Covering.{inside-joined}
 use Rattle.families.proofs.Covering.{inside-none, inside-only, inside-or, joins-shows, or-before, or-other}
 use Rattle.members.specs.Above.{nothingAbove}
 use Rattle.members.specs.declared.above.Above.{Above}

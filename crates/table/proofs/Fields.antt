@@ -4,16 +4,16 @@ use mathlib.Core.List.{List}
 use mathlib.Core.Bool.{Bool, true, false}
 use Prim.Native.Nat.{ℕ, _≤_}
 use native.Mathlib.Omega.{arith}
-use borrow.Author.Tests.{leb-true, eqb-true}
+use borrow.Author.Tests.{eqb-true, le-leb, leb-true}
 use Rattle.sets.specs.Logic.{_and_}
 use Rattle.table.specs.Limits.{mostPrincipals, lastState}
 use Rattle.table.specs.Layout.{Numbered, automata, cell, cells, credential, edge, principal}
-use Rattle.table.specs.Checks.{cellTo, credentialTo, edgeTo, goodCell, goodCellTo, goodCredential, goodCredentialTo, goodEdge, goodEdgeTo, isPrincipal, isPrincipalTo, within}
-use Rattle.table.specs.Checks.{meaningOk}
+use Rattle.table.specs.Checks.{cellTo, credentialTo, edgeTo, isPrincipal, isPrincipalTo, meaningOk, within}
+use Rattle.table.specs.Checks.{goodCell, goodCellTo, goodCredential, goodCredentialTo, goodEdge, goodEdgeTo}
 use Rattle.table.specs.declared.Credential.{Credential}
 use Rattle.table.specs.declared.Cell.{Cell}
 use Rattle.table.specs.declared.Edge.{Edge}
-use Rattle.sets.proofs.Tests.{and-first, and-second, and-parts, false-true, or-either}
+use Rattle.sets.proofs.Tests.{and-both, and-first, and-second, and-parts, false-true, or-either}
 use Rattle.table.proofs.Meanings.{kind-4, kind-none}
 
 pub record CredentialRange (q a : ℕ) (c : Credential) : Type 0 where
@@ -35,6 +35,10 @@ within-bounds low high x e = and-parts (leb-true low x) (leb-true x high) e
 
 pub within-range : (n x : ℕ) → within 1 n x ≡ true → Numbered n x
 within-range n x e = let (first, last) = within-bounds 1 n x e in record { first = first; last = last }
+
+pub range-within : (n x : ℕ) → Numbered n x → within 1 n x ≡ true
+unfolding within
+range-within n x h = and-both (le-leb 1 x (h .first)) (le-leb x n (h .last))
 
 pub principal-range : (x : ℕ) → isPrincipal (principal x) ≡ true → Numbered mostPrincipals x
 unfolding isPrincipalTo

@@ -13,7 +13,8 @@ use Rattle.table.specs.Outcome.{Outcome, _andThen_, demandEach}
 use Rattle.table.specs.Outcome.Outcome.{accepted, refused}
 use Rattle.table.specs.Limits.{lastState, mostNames, mostPrincipals}
 use Rattle.table.specs.Layout.{Numbered, automata, cells, credentials, edge, edges}
-use Rattle.table.specs.Checks.{edgeOk, edgeTo, goodCell, goodChain, goodCredential, goodEdge, goodEdgeTo, goodMark, headOutcome, isNameTo}
+use Rattle.table.specs.Checks.{edgeOk, edgeTo, goodCell, goodChain, goodCredential, goodEdge, goodEdgeTo, goodMark}
+use Rattle.table.specs.Checks.{headOutcome, isNameTo}
 use Rattle.table.specs.Checks.{isPrincipal, isPrincipalTo, isRole, isRoleTo, labelOk, tableOutcomeTo, within}
 use Rattle.table.specs.Promised.{AllowedEdge, Allows, FirstNotAllowed, RefusesEdge}
 use Rattle.table.specs.Promised.Allows.{everyOfOwner, everyOther, everyRole, thatRole}

@@ -7,7 +7,8 @@ use Prim.Native.Nat.{ℕ}
 use native.Mathlib.Omega.{arith}
 use Rattle.table.specs.Outcome.{Outcome, _andThen_, demand, demandEach}
 use Rattle.table.specs.Outcome.Outcome.{accepted, refused}
-use Rattle.table.specs.Checks.{RequestRow, TableRow, headOutcome, queryOutcome, queryOutcomeTo, requestOutcome, tableOutcome, tableOutcomeTo}
+use Rattle.table.specs.Checks.{RequestRow, TableRow, headOutcome, queryOutcome, queryOutcomeTo, requestOutcome}
+use Rattle.table.specs.Checks.{tableOutcome, tableOutcomeTo}
 use Rattle.table.specs.Checks.{goodCell, goodChain, goodCredential, goodEdge, goodMark}
 use Rattle.table.specs.Layout.{automata, cells, credentials, edges}
 use Rattle.table.specs.declared.Query.{Query}

@@ -18,7 +18,8 @@ use Rattle.table.specs.Layout.{Numbered, automata, automataBase, cell, c
 use Rattle.table.specs.Layout.{automaton, cellAt, credentialAt, edge, edgeAt, edges, number, tableLength}
 use Rattle.table.specs.Layout.{cellSize, credentialSize, edgeSize, headSize}
 use Rattle.table.specs.Encoded.{credentialOf, edgeOf}
-use Rattle.table.specs.Checks.{chainOk, countsOk, goodCell, goodCellTo, goodChain, goodCredential, goodCredentialTo, goodEdge, goodEdgeTo, goodMark}
+use Rattle.table.specs.Checks.{chainOk, countsOk, goodCell, goodCellTo, goodChain, goodCredential, goodCredentialTo}
+use Rattle.table.specs.Checks.{goodEdge, goodEdgeTo, goodMark}
 use Rattle.table.specs.Checks.{headOutcome, markOk, tableOutcomeTo}
 use Rattle.table.specs.Upgraded.{SameRecords, Upgrading, baseAutomaton, baseEdge, baseHeadOutcome, baseLength}
 use Rattle.table.specs.Upgraded.{baseOutcome, goodBaseEdge, upgraded, withMarks}

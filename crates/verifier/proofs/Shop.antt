@@ -11,7 +11,7 @@ use Rattle.table.proofs.Opened as table
 use Rattle.sets.specs.Sets.{inSet, meets}
 use Rattle.edges.specs.Edges.{leads, matches}
 use Rattle.automata.specs.Automata.{accepts, acceptsFrom, moved, movedBy, runBy, starting}
-use Rattle.derivation.specs.Rules.{asksBy, fresh, premises, premisesBy, sameGoal, usable}
+use Rattle.derivation.specs.Rules.{asksBy, fresh, premises, premisesBy, sameGoal, usable, usableBy}
 use Rattle.derivation.specs.Forest.{countFrom, usedFrom, usedSet}
 use Rattle.derivation.specs.Words.{demandedBy, everyWord, met, someWord, usesBy, wordsBy}
 use Rattle.entering.specs.Entry.{admitted, entryBy}
@@ -20,7 +20,7 @@ use Rattle.verifier.specs.Verdict.{judgedBy, verdict}
 
 -- what a verdict computes with
 unfoldable pub opened : Unit {0}
-unfolding table.opened inSet meets accepts acceptsFrom leads matches moved movedBy runBy starting asksBy fresh premises premisesBy usable sameGoal
+unfolding table.opened inSet meets accepts acceptsFrom leads matches moved movedBy runBy starting asksBy fresh premises premisesBy usable usableBy sameGoal
     countFrom usedFrom usedSet everyWord someWord demandedBy met usesBy wordsBy admitted entered entryBy followed joined readAll
     readerBy judgedBy verdict
 opened = tt
