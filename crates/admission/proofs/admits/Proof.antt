@@ -11,7 +11,7 @@ marked-requires c κs = search rules
 automata-requires : tie.Need-automata-requires
 automata-requires c κs = search rules
 
-admits-under-requires : tie.Need-admits-under-requires
+admits-under-requires : tie.Need-admits_under-requires
 admits-under-requires c κs = (
   c.before.before.before.before.before.requires,
   (c.before.marked.ensures, (omega (arith, c.automata.ensures.same), omega arith)),
@@ -19,7 +19,7 @@ admits-under-requires c κs = (
 
 returns : tie.Need-returns
 unfolding admits
-returns c = rw c.before.automata.ensures.same at c.admits-under.ensures
+returns c = rw c.before.automata.ensures.same at c.admits_under.ensures
 
-pub admits-spec : {M : Type 1} → statement M
-admits-spec = tie.close (tie.spec marked-requires automata-requires admits-under-requires returns)
+pub admits_spec : {M : Type 1} → statement M
+admits_spec = tie.close (tie.spec marked-requires automata-requires admits-under-requires returns)

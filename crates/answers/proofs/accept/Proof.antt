@@ -8,5 +8,5 @@ returns : tie.Need-returns
 unfolding answered
 returns c = refl
 
-pub accept-spec : {M : Type 1} → statement M
-accept-spec = tie.close (tie.spec returns)
+pub accept_spec : {M : Type 1} → statement M
+accept_spec = tie.close (tie.spec returns)

@@ -6,5 +6,5 @@ use Rattle.answers.proofs.query_of.Tie as tie
 returns : tie.Need-returns
 returns c = refl
 
-pub query-of-spec : {M : Type 1} → statement M
-query-of-spec = tie.close (tie.spec returns)
+pub query_of_spec : {M : Type 1} → statement M
+query_of_spec = tie.close (tie.spec returns)

@@ -12,5 +12,5 @@ returns : tie.Need-returns
 unfolding told
 returns c = rw c.number.ensures (answered-refusal c.before.args.why.reason _)
 
-pub refuse-spec : {M : Type 1} → statement M
-refuse-spec = tie.close (tie.spec number-requires returns)
+pub refuse_spec : {M : Type 1} → statement M
+refuse_spec = tie.close (tie.spec number-requires returns)

@@ -9,65 +9,65 @@ use Rattle.arcs.proofs.ask.Statement.{statement}
 use Rattle.arcs.proofs.ask.Tie as tie
 
 -- where there is an index, which has a mark for the row
-abbrev start : tie.Else1 → tie.Start
+abbrev start : tie.Else-arcs-eq0 → tie.Start
 start at = at.before.before.before
 
-mark : (at : tie.Else1) → let from = (start at).args in made_cell from.place < length from.arcs.now
-mark at = let (wf, (index, there)) = (start at).requires in made-cell wf index there at.if1.false
+mark : (at : tie.Else-arcs-eq0) → let from = (start at).args in made_cell from.place < length from.arcs-1.now
+mark at = let (wf, (index, there)) = (start at).requires in made-cell wf index there at.if-arcs-eq0.false
 
-returns : tie.Need-returns
+returns : tie.Need-returns-then-arcs-eq0
 returns c = search rules
 
-add-asked : tie.Need-overflow-add-asked
+add-asked : tie.Need-overflow_add-asked
 add-asked c = search rules
 
-mul-asked : tie.Need-overflow-mul-asked
+mul-asked : tie.Need-offset_bounds-arcs-place
 mul-asked c = search rules
 
-slice-read-asked : tie.Need-slice-read-asked
+slice-read-asked : tie.Need-bounds-arcs-place
 slice-read-asked c = mark c.before
 
-returns-2 : tie.Need-returns-2
+returns-2 : tie.Need-returns-then-asked-eq-MADE
 returns-2 c = search rules
 
-sub-if3 : tie.Need-overflow-sub-if3
+sub-if3 : tie.Need-overflow_sub-t-9
 sub-if3 c = search rules
 
-add-arcs : tie.Need-overflow-add-arcs
+add-arcs : tie.Need-overflow_add-arcs
 add-arcs c = search rules
 
-add-arcs-2 : tie.Need-overflow-add-arcs-2
+add-arcs-2 : tie.Need-overflow_add-arcs-then-asked
 add-arcs-2 c = search rules
 
-mul-arcs : tie.Need-overflow-mul-arcs
+mul-arcs : tie.Need-offset_bounds-arcs-place-then-asked
 mul-arcs c = search rules
 
-slice-write-arcs : tie.Need-slice-write-arcs
+slice-write-arcs : tie.Need-bounds-arcs-place-then-asked
 slice-write-arcs c = mark c.before.before.before
 
-same_length : tie.Need-same-length
+same_length : tie.Need-shape_of-arcs-then-asked
 same_length c = search rules
 
-returns-3 : tie.Need-returns-3
+returns-3 : tie.Need-returns-then-asked
 returns-3 c =
     let at = c.before.before.before in
     let (wf, (index, there)) = (start at).requires in
-    asked-again wf index there at.if1.false c.if3.true
+    asked-again wf index there at.if-arcs-eq0.false c.if-asked.true
 
 fill-requires : tie.Need-fill-requires
 fill-requires c κs =
     let at = c.before.before.before.before in
     let (wf, (index, there)) = (start at).requires in
-    (wf, (index, (there, (index-whole index.room at.if1.false, c.before.before.if2.false))))
+    (wf, (index, (there, (index-whole index.room at.if-arcs-eq0.false, c.before.before.if-asked-eq-MADE.false))))
 
-same-length-2 : tie.Need-same-length-2
+same-length-2 : tie.Need-shape_of-arcs
 same-length-2 c = search rules
 
-returns-4 : tie.Need-returns-4
+returns-4 : tie.Need-returns
 returns-4 c = search rules
 
-pub ask-spec : {M : Type 1} → statement M
-ask-spec =
+pub ask_spec : {M : Type 1} → statement M
+ask_spec =
     tie.close
     (tie.spec
     returns

@@ -10,63 +10,63 @@ use Rattle.arcs.proofs.Beginning.{Begun, begun_all, begun-whole}
 use Rattle.arcs.proofs.begin.Statement.{statement}
 use Rattle.arcs.proofs.begin.Tie as tie
 
-abbrev invariant-loop : tie.invariant-loop
+abbrev invariant-loop : tie.invariant-loop-k
 invariant-loop table arcs₀ a k₀ arcs k = (k ≤ a) × Begun table arcs₀ k arcs
 
-abbrev decreases-loop : tie.decreases-loop
+abbrev decreases-loop : tie.decreases-loop-k
 decreases-loop table arcs₀ a k₀ arcs k = a - k
 
 -- the index has all its cells, however many accepting sets stand
-abbrev start : tie.At-loop invariant-loop decreases-loop → tie.Start invariant-loop decreases-loop
+abbrev start : tie.At-loop-k invariant-loop decreases-loop → tie.Start invariant-loop decreases-loop
 start at = at.before.before.before.before
 
-whole : (at : tie.At-loop invariant-loop decreases-loop) → length at.loop.arcs ≡ index_cells
-whole at = begun-whole (start at).requires.1 at.loop.invariant.1
+whole : (at : tie.At-loop-k invariant-loop decreases-loop) → length at.loop-k.arcs ≡ index_cells
+whole at = begun-whole (start at).requires.1 at.loop-k.invariant.1
 
-automata-requires : tie.Need-automata-requires invariant-loop decreases-loop
+automata-requires : tie.Need-automata-a-requires invariant-loop decreases-loop
 automata-requires c κs = search rules
 
-loop-holds : tie.Need-loop-init invariant-loop decreases-loop
+loop-holds : tie.Need-loop-k-init invariant-loop decreases-loop
 loop-holds c = (omega arith, written_none _ _)
 
-add-automaton : tie.Need-overflow-add-automaton invariant-loop decreases-loop
+add-automaton : tie.Need-overflow_add-k invariant-loop decreases-loop
 add-automaton c = search rules
 
-automaton-requires : tie.Need-automaton-requires invariant-loop decreases-loop
+automaton-requires : tie.Need-automaton-automaton-requires invariant-loop decreases-loop
 automaton-requires c κs = search rules
 
 states-requires : tie.Need-states-requires invariant-loop decreases-loop
 states-requires c κs = search rules
 
-mul-arcs : tie.Need-overflow-mul-arcs invariant-loop decreases-loop
+mul-arcs : tie.Need-offset_bounds-arcs-k invariant-loop decreases-loop
 mul-arcs c = search rules
 
-slice-write-arcs : tie.Need-slice-write-arcs invariant-loop decreases-loop
+slice-write-arcs : tie.Need-bounds-arcs-k invariant-loop decreases-loop
 slice-write-arcs c = omega (arith, whole c.before.before.before)
 
-add-k : tie.Need-overflow-add-k invariant-loop decreases-loop
+add-k : tie.Need-overflow_add-k-in-loop-k invariant-loop decreases-loop
 add-k c = search rules
 
-loop-less : tie.Need-loop-smaller invariant-loop decreases-loop
+loop-less : tie.Need-loop-k-smaller invariant-loop decreases-loop
 loop-less c = search rules
 
-loop-again : tie.Need-loop-preserved invariant-loop decreases-loop
+loop-again : tie.Need-loop-k-preserved invariant-loop decreases-loop
 loop-again c =
     let at = c.before.before.before in
-    let so_far = at.loop.invariant.1 in
-    let read = c.before.automaton.ensures in
+    let so_far = at.loop-k.invariant.1 in
+    let read = c.before.automaton-automaton.ensures in
     (omega arith, written-more _ _ so_far (omega (arith, whole at, so_far.size)) (rw (c.states.ensures, read)))
 
-same_length : tie.Need-same-length invariant-loop decreases-loop
-same_length c = c.before.loop.invariant.1.size
+same_length : tie.Need-shape_of-arcs invariant-loop decreases-loop
+same_length c = c.before.loop-k.invariant.1.size
 
 returns : tie.Need-returns invariant-loop decreases-loop
 returns c =
     let pre = (start c.before).pre in
-    begun_all _ _ _ _ pre.0 pre.1 (omega arith) c.before.loop.invariant.1
+    begun_all _ _ _ _ pre.0 pre.1 (omega arith) c.before.loop-k.invariant.1
 
-pub begin-spec : {M : Type 1} → statement M
-begin-spec =
+pub begin_spec : {M : Type 1} → statement M
+begin_spec =
     tie.close
     (tie.spec
     invariant-loop

@@ -12,110 +12,110 @@ use Rattle.arcs.proofs.Making.{making-past, making-room}
 use Rattle.arcs.proofs.fill.Statement.{statement}
 use Rattle.arcs.proofs.fill.Tie as tie
 
-abbrev invariant-loop : tie.invariant-loop
+abbrev invariant-loop : tie.invariant-loop-k
 invariant-loop table arcs₀ place role e k₀ arcs k = (k ≤ e) × Making table role place k arcs₀ arcs
 
-abbrev decreases-loop : tie.decreases-loop
+abbrev decreases-loop : tie.decreases-loop-k
 decreases-loop table arcs₀ place role e k₀ arcs k = e - k
 
 -- where the edges have been counted, where one has been read, and where it matches and its arc is to be looked for
-abbrev start : tie.After-edges invariant-loop decreases-loop → tie.Start invariant-loop decreases-loop
+abbrev start : tie.After-edges-e invariant-loop decreases-loop → tie.Start invariant-loop decreases-loop
 start at = at.before.before.before.before.before.before.before.before.before
 
-abbrev loop : tie.After-edge invariant-loop decreases-loop → tie.At-loop invariant-loop decreases-loop
+abbrev loop : tie.After-edge-edge invariant-loop decreases-loop → tie.At-loop-k invariant-loop decreases-loop
 loop at = at.before.before
 
-abbrev matched : tie.After-struct-known invariant-loop decreases-loop → tie.Then1 invariant-loop decreases-loop
+abbrev matched : tie.After-struct_known-1 invariant-loop decreases-loop → tie.Then-matches invariant-loop decreases-loop
 matched at = at.before.before
 
-abbrev read : tie.After-struct-known invariant-loop decreases-loop → tie.After-edge invariant-loop decreases-loop
+abbrev read : tie.After-struct_known-1 invariant-loop decreases-loop → tie.After-edge-edge invariant-loop decreases-loop
 read at = (matched at).before.before
 
-in-range : (at : tie.After-edge invariant-loop decreases-loop) → let e = at.edge.result in
+in-range : (at : tie.After-edge-edge invariant-loop decreases-loop) → let e = at.edge-edge.result in
     Numbered most_automata e.automaton × ((e.from ≤ last_state) × (e.to ≤ last_state))
-in-range at = edge-there _ (start (loop at).before).pre.0 _ (omega arith) at.edge.ensures
+in-range at = edge-there _ (start (loop at).before).pre.0 _ (omega arith) at.edge-edge.ensures
 
 clear-requires : tie.Need-clear-requires invariant-loop decreases-loop
 clear-requires c κs = search rules
 
-add-credential : tie.Need-overflow-add-credential invariant-loop decreases-loop
+add-credential : tie.Need-overflow_add-place invariant-loop decreases-loop
 add-credential c = search rules
 
-credential-requires : tie.Need-credential-requires invariant-loop decreases-loop
+credential-requires : tie.Need-credential-credential-requires invariant-loop decreases-loop
 credential-requires c κs = search rules
 
-edges-requires : tie.Need-edges-requires invariant-loop decreases-loop
+edges-requires : tie.Need-edges-e-requires invariant-loop decreases-loop
 edges-requires c κs = search rules
 
-loop-holds : tie.Need-loop-init invariant-loop decreases-loop
+loop-holds : tie.Need-loop-k-init invariant-loop decreases-loop
 loop-holds c =
     let (wf, (index, (there, (full, unmade)))) = (start c).requires in
     (omega arith, making-none c.before.before.before.before.before.clear.ensures _ wf index there full unmade)
 
-add-k : tie.Need-overflow-add-k invariant-loop decreases-loop
+add-k : tie.Need-overflow_add-k invariant-loop decreases-loop
 add-k c = search rules
 
-edge-requires : tie.Need-edge-requires invariant-loop decreases-loop
+edge-requires : tie.Need-edge-edge-requires invariant-loop decreases-loop
 edge-requires c κs = search rules
 
 matches-requires : tie.Need-matches-requires invariant-loop decreases-loop
 matches-requires c κs = search rules
 
-shl-find : tie.Need-overflow-shl-find invariant-loop decreases-loop
+shl-find : tie.Need-overflow_shl-edge invariant-loop decreases-loop
 shl-find c = omega (arith, (in-range (read c)).1.1)
 
-find-requires : tie.Need-find-requires invariant-loop decreases-loop
-find-requires c κs = making-room (loop (read c)).loop.inv.1
+find-requires : tie.Need-find-l-requires invariant-loop decreases-loop
+find-requires c κs = making-room (loop (read c)).loop-k.inv.1
 
 put-requires : tie.Need-put-requires invariant-loop decreases-loop
 put-requires c κs =
     let at = read c.before.before in
     let states = (in-range at).1 in
-    let mask = one_bit 16 at.edge.result.to (omega (arith, states.1)) in
-    let m = (loop at).loop.inv.1 in
-    (making-room m, (making-found m _ at.edge.ensures _ mask c.before.find.ensures states.1, in-range at))
+    let mask = one_bit 16 at.edge-edge.result.to (omega (arith, states.1)) in
+    let m = (loop at).loop-k.inv.1 in
+    (making-room m, (making-found m _ at.edge-edge.ensures _ mask c.before.find-l.ensures states.1, in-range at))
 
-loop-less : tie.Need-loop-smaller invariant-loop decreases-loop
+loop-less : tie.Need-loop-k-smaller-then-matches invariant-loop decreases-loop
 loop-less c = search rules
 
-loop-again : tie.Need-loop-preserved invariant-loop decreases-loop
+loop-again : tie.Need-loop-k-preserved-then-matches invariant-loop decreases-loop
 loop-again c =
     let found = c.before.before.before.before in
     let match = matched found.before in
     let at = read found.before in
     let (own, (from, to)) = in-range at in
     let on = sym match.before.matches.ensures ∙ match.if1.taken in
-    let mask = one_bit 16 at.edge.result.to (omega (arith, to)) in (
+    let mask = one_bit 16 at.edge-edge.result.to (omega (arith, to)) in (
       omega arith,
-      making-more (loop at).loop.inv.1 _ at.edge.ensures _ mask found.find.ensures to own on
+      making-more (loop at).loop-k.inv.1 _ at.edge-edge.ensures _ mask found.find-l.ensures to own on
           c.before.before.put.ensures,
     )
 
-loop-less-2 : tie.Need-loop-smaller-2 invariant-loop decreases-loop
+loop-less-2 : tie.Need-loop-k-smaller invariant-loop decreases-loop
 loop-less-2 c = search rules
 
-loop-again-2 : tie.Need-loop-preserved-2 invariant-loop decreases-loop
+loop-again-2 : tie.Need-loop-k-preserved invariant-loop decreases-loop
 loop-again-2 c =
     let at = c.before.before in
-    let off = sym c.before.matches.ensures ∙ c.if1.false in
-    (omega arith, making-past (loop at).loop.invariant.1 _ at.edge.ensures off)
+    let off = sym c.before.matches.ensures ∙ c.if-matches.false in
+    (omega arith, making-past (loop at).loop-k.invariant.1 _ at.edge-edge.ensures off)
 
-add-arcs : tie.Need-overflow-add-arcs invariant-loop decreases-loop
+add-arcs : tie.Need-overflow_add-arcs invariant-loop decreases-loop
 add-arcs c = search rules
 
-mul-arcs : tie.Need-overflow-mul-arcs invariant-loop decreases-loop
+mul-arcs : tie.Need-offset_bounds-arcs-place invariant-loop decreases-loop
 mul-arcs c = search rules
 
-slice-write-arcs : tie.Need-slice-write-arcs invariant-loop decreases-loop
-slice-write-arcs c = let room = making-room c.before.loop.invariant.1 in omega (arith, room.0, room.1)
+slice-write-arcs : tie.Need-bounds-arcs-place invariant-loop decreases-loop
+slice-write-arcs c = let room = making-room c.before.loop-k.invariant.1 in omega (arith, room.0, room.1)
 
-same_length : tie.Need-same-length invariant-loop decreases-loop
-same_length c = making-length c.before.loop.invariant.1 _ ∙ sym (start c.before.before).pre.1.1.1.0
+same_length : tie.Need-shape_of-arcs invariant-loop decreases-loop
+same_length c = making-length c.before.loop-k.invariant.1 _ ∙ sym (start c.before.before).pre.1.1.1.0
 
 returns : tie.Need-returns invariant-loop decreases-loop
 returns c =
     let at = c.before.before.before.before in
-    let made = making-all _ at.credential.ensures c.before.loop.invariant.1 (omega arith) in
+    let made = making-all _ at.credential-credential.ensures c.before.loop-k.invariant.1 (omega arith) in
     (made.0, made-since at.before.before.before.clear.ensures made.1)
 
 pub fill_spec : {M : Type 1} → statement M

@@ -10,52 +10,52 @@ use Rattle.attached.proofs.Attaching.{automata-next, automaton-few}
 use Rattle.attached.proofs.automata_of.Statement.{statement}
 use Rattle.attached.proofs.automata_of.Tie as tie
 
-abbrev invariant-loop : tie.invariant-loop
+abbrev invariant-loop : tie.invariant-loop-i
 invariant-loop table set n mask₀ i₀ mask i = (i ≤ n) × (mask ≡ automata_up_to table set i)
 
-abbrev decreases-loop : tie.decreases-loop
+abbrev decreases-loop : tie.decreases-loop-i
 decreases-loop table set n mask₀ i₀ mask i = n - i
 
-credentials-requires : tie.Need-credentials-requires invariant-loop decreases-loop
+credentials-requires : tie.Need-credentials-n-requires invariant-loop decreases-loop
 credentials-requires c κs = search rules
 
-loop-holds : tie.Need-loop-init invariant-loop decreases-loop
+loop-holds : tie.Need-loop-i-init invariant-loop decreases-loop
 unfolding automata_up_to
 loop-holds c = (omega arith, refl)
 
-add-credential : tie.Need-overflow-add-credential invariant-loop decreases-loop
+add-credential : tie.Need-overflow_add-i invariant-loop decreases-loop
 add-credential c = search rules
 
-credential-requires : tie.Need-credential-requires invariant-loop decreases-loop
+credential-requires : tie.Need-credential-credential-requires invariant-loop decreases-loop
 credential-requires c κs = search rules
 
 has-requires : tie.Need-has-requires invariant-loop decreases-loop
 has-requires c κs = search rules
 
-with-automaton-requires : tie.Need-with-automaton-requires invariant-loop decreases-loop
+with-automaton-requires : tie.Need-with_automaton-mask-requires invariant-loop decreases-loop
 with-automaton-requires c κs =
-    automaton-few _ c.before.before.before.before.before.before.requires _ (omega arith) _ c.before.credential.ensures
+    automaton-few _ c.before.before.before.before.before.before.requires _ (omega arith) _ c.before.credential-credential.ensures
 
-add-i : tie.Need-overflow-add-i invariant-loop decreases-loop
+add-i : tie.Need-overflow_add-i-in-loop-i invariant-loop decreases-loop
 add-i c = search rules
 
-loop-less : tie.Need-loop-smaller invariant-loop decreases-loop
+loop-less : tie.Need-loop-i-smaller invariant-loop decreases-loop
 loop-less c = search rules
 
-loop-again : tie.Need-loop-preserved invariant-loop decreases-loop
+loop-again : tie.Need-loop-i-preserved invariant-loop decreases-loop
 loop-again c =
-    let so_far = c.before.before.before.before.loop.invariant.1 in
-    let next = automata-next _ _ _ c.before.has.ensures c.before.before.credential.ensures so_far in
-    (omega arith, c.with-automaton.ensures ∙ next)
+    let so_far = c.before.before.before.before.loop-i.invariant.1 in
+    let next = automata-next _ _ _ c.before.has.ensures c.before.before.credential-credential.ensures so_far in
+    (omega arith, c.with_automaton-mask.ensures ∙ next)
 
 returns : tie.Need-returns invariant-loop decreases-loop
 unfolding automata_of
 returns c =
-    let all : c.before.loop.i ≡ credentials c.before.before.before.before.args.table.now = omega arith in
-    rw all at c.before.loop.invariant.1
+    let all : c.before.loop-i.i ≡ credentials c.before.before.before.before.args.table.now = omega arith in
+    rw all at c.before.loop-i.invariant.1
 
-pub automata-of-spec : {M : Type 1} → statement M
-automata-of-spec =
+pub automata_of_spec : {M : Type 1} → statement M
+automata_of_spec =
     tie.close
     (tie.spec
     invariant-loop

@@ -11,44 +11,44 @@ use Rattle.attached.proofs.Attaching.{is_marked, marked_all}
 use Rattle.attached.proofs.marked.Statement.{statement}
 use Rattle.attached.proofs.marked.Tie as tie
 
-abbrev invariant-loop : tie.invariant-loop
+abbrev invariant-loop : tie.invariant-loop-k
 invariant-loop table set a mask₀ k₀ mask k = (k ≤ a) × (mask ≡ set_of (is_marked table set) k)
 
-abbrev decreases-loop : tie.decreases-loop
+abbrev decreases-loop : tie.decreases-loop-k
 decreases-loop table set a mask₀ k₀ mask k = a - k
 
-automata-requires : tie.Need-automata-requires invariant-loop decreases-loop
+automata-requires : tie.Need-automata-a-requires invariant-loop decreases-loop
 automata-requires c κs = search rules
 
-loop-holds : tie.Need-loop-init invariant-loop decreases-loop
+loop-holds : tie.Need-loop-k-init invariant-loop decreases-loop
 unfolding set_of
 loop-holds c = (omega arith, refl)
 
-is-marked-requires : tie.Need-is-marked-requires invariant-loop decreases-loop
+is-marked-requires : tie.Need-is_marked-requires invariant-loop decreases-loop
 is-marked-requires c κs = search rules
 
-with-16-requires : tie.Need-with-16-requires invariant-loop decreases-loop
+with-16-requires : tie.Need-with_16-mask-requires invariant-loop decreases-loop
 with-16-requires c κs = search rules
 
-add-k : tie.Need-overflow-add-k invariant-loop decreases-loop
+add-k : tie.Need-overflow_add-k invariant-loop decreases-loop
 add-k c = search rules
 
-loop-less : tie.Need-loop-smaller invariant-loop decreases-loop
+loop-less : tie.Need-loop-k-smaller invariant-loop decreases-loop
 loop-less c = search rules
 
-loop-again : tie.Need-loop-preserved invariant-loop decreases-loop
+loop-again : tie.Need-loop-k-preserved invariant-loop decreases-loop
 loop-again c =
-    let test = c.before.is-marked.ensures in
-    let so_far = c.before.before.before.loop.invariant.1 in
-    let mask = ⊎_elim (λ w. w.2 ∙ w.1.ensures ∙ set_more _ _ _ so_far (sym test ∙ w.0.taken))
-    (λ w. w.1 ∙ set-not _ _ _ so_far (sym test ∙ w.0.left)) c.if1.branch in
+    let test = c.before.is_marked.ensures in
+    let so_far = c.before.before.before.loop-k.invariant.1 in
+    let mask = ⊎_elim (λ w. w.mask-is ∙ w.with_16-mask.ensures ∙ set_more _ _ _ so_far (sym test ∙ w.if-is_marked.true))
+    (λ w. w.mask-is ∙ set-not _ _ _ so_far (sym test ∙ w.if-is_marked.false)) c.if-is_marked.branch-raw in
     (omega arith, mask)
 
 returns : tie.Need-returns invariant-loop decreases-loop
-returns c = c.before.loop.invariant.1 ∙ marked_all _ _ _ (omega arith)
+returns c = c.before.loop-k.invariant.1 ∙ marked_all _ _ _ (omega arith)
 
-pub marked-spec : {M : Type 1} → statement M
-marked-spec =
+pub marked_spec : {M : Type 1} → statement M
+marked_spec =
     tie.close
     (tie.spec
     invariant-loop

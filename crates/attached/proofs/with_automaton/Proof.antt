@@ -5,32 +5,32 @@ use Rattle.sets.specs.Logic.{◌and◌, pick}
 use Rattle.attached.proofs.with_automaton.Statement.{statement}
 use Rattle.attached.proofs.with_automaton.Tie as tie
 
-returns : tie.Need-returns
+returns : tie.Need-returns-then-not-member
 unfolding ◌and◌ pick
-returns c = rw (not-true c.before.args.member c.if1.true)
+returns c = rw (not-true c.before.args.member c.if-not-member.true)
 
-returns-2 : tie.Need-returns-2
+returns-2 : tie.Need-returns-then-automaton-eq0
 unfolding ◌and◌ pick
-returns-2 c = rw (not-false c.before.before.args.member c.before.if1.false, eq-eqb _ 0 c.if2.true)
+returns-2 c = rw (not-false c.before.before.args.member c.before.if-not-member.false, eq-eqb _ 0 c.if-automaton-eq0.true)
 
 wide-requires : tie.Need-wide-requires
 wide-requires c κs = search rules
 
-sub-with-16 : tie.Need-overflow-sub-with-16
+sub-with-16 : tie.Need-overflow_sub-wide
 sub-with-16 c = search rules
 
-with-16-requires : tie.Need-with-16-requires
+with-16-requires : tie.Need-with_16-requires
 with-16-requires c κs = search rules
 
-returns-3 : tie.Need-returns-3
+returns-3 : tie.Need-returns
 unfolding ◌and◌ pick
 returns-3 c =
     let args = c.before.before.before.before.args in
-    let member = not-false args.member c.before.before.before.if1.false in
-    let some = ne_eqb args.automaton 0 c.before.before.if2.false in
-    rw (member, some, ← c.before.wide.ensures.0) c.with-16.ensures
+    let member = not-false args.member c.before.before.before.if-not-member.false in
+    let some = ne_eqb args.automaton 0 c.before.before.if-automaton-eq0.false in
+    rw (member, some, ← c.before.wide.ensures.0) c.with_16.ensures
 
-pub with-automaton-spec : {M : Type 1} → statement M
-with-automaton-spec =
+pub with_automaton_spec : {M : Type 1} → statement M
+with_automaton_spec =
     tie.close
     (tie.spec returns returns-2 wide-requires sub-with-16 with-16-requires returns-3)

@@ -5,35 +5,35 @@ use Rattle.checks.specs.Told.{table_told}
 use Rattle.bwlchareg.proofs.bwlchareg_check.Statement.{statement}
 use Rattle.bwlchareg.proofs.bwlchareg_check.Tie as tie
 
-check-table-requires : tie.Need-check-table-requires
+check-table-requires : tie.Need-check_table-requires
 check-table-requires c κs = search rules
 
-enum_told : tie.Need-enum-told
+enum_told : tie.Need-enum_told-1
 enum_told c = search rules
 
 accept-requires : tie.Need-accept-requires
 accept-requires c κs = search rules
 
-enum-known-why : tie.Need-enum-known-why
+enum-known-why : tie.Need-enum_known-why
 enum-known-why c = search rules
 
 refuse-requires : tie.Need-refuse-requires
 refuse-requires c κs = search rules
 
-returns : tie.Need-returns
+returns : tie.Need-returns-in-Accepted
 unfolding table_told
 returns c =
     let found = c.before.before in
-    told-as table_told c.accept.ensures found.enum_told.given.1 found.before.before.check-table.ensures
+    told-as table_told c.accept.ensures found.in-Accepted.is found.before.before.check_table.ensures
 
-returns-2 : tie.Need-returns-2
+returns-2 : tie.Need-returns-in-Refused
 unfolding table_told
 returns-2 c =
     let found = c.before.before.before in
-    told-as table_told c.refuse.ensures found.why.given.1 found.before.before.check-table.ensures
+    told-as table_told c.refuse.ensures found.in-Refused.is found.before.before.check_table.ensures
 
-pub bwlchareg-check-spec : {M : Type 1} → statement M
-bwlchareg-check-spec =
+pub bwlchareg_check_spec : {M : Type 1} → statement M
+bwlchareg_check_spec =
     tie.close
     (tie.spec
     check-table-requires

@@ -9,48 +9,48 @@ use Rattle.bwlchareg.proofs.bwlchareg_check_query.Tie as tie
 
 -- the place where `check_request` has answered, the one where the call was asked, and the answer for what was asked
 abbrev Answered : Type 0
-Answered = tie.After-check-request
+Answered = tie.After-check_request
 
 abbrev asked : Answered → tie.Start
 asked c = c.before.before.before
 
 answer : (c : Answered) → let from = (asked c).args in
-    query_told c.check-request.result
+    query_told c.check_request.result
     ≡ request_outcome from.table.now (as_query from.principal from.owner from.name from.depth)
-answer c = rw c.before.query-of.ensures at c.check-request.ensures
+answer c = rw c.before.query_of-query.ensures at c.check_request.ensures
 
-query-of-requires : tie.Need-query-of-requires
+query-of-requires : tie.Need-query_of-query-requires
 query-of-requires c κs = search rules
 
-check-request-requires : tie.Need-check-request-requires
+check-request-requires : tie.Need-check_request-requires
 check-request-requires c κs = search rules
 
-enum_told : tie.Need-enum-told
+enum_told : tie.Need-enum_told-1
 enum_told c = search rules
 
 accept-requires : tie.Need-accept-requires
 accept-requires c κs = search rules
 
-enum-known-why : tie.Need-enum-known-why
+enum-known-why : tie.Need-enum_known-why
 enum-known-why c = search rules
 
 refuse-requires : tie.Need-refuse-requires
 refuse-requires c κs = search rules
 
-returns : tie.Need-returns
+returns : tie.Need-returns-in-Valid
 unfolding query_told
 returns c =
     let found = c.before.before in
-    told-as query_told c.accept.ensures found.enum_told.given.1 (answer found.before.before)
+    told-as query_told c.accept.ensures found.in-Valid.is (answer found.before.before)
 
-returns-2 : tie.Need-returns-2
+returns-2 : tie.Need-returns-in-Refused
 unfolding query_told
 returns-2 c =
     let found = c.before.before.before in
-    told-as query_told c.refuse.ensures found.why.given.1 (answer found.before.before)
+    told-as query_told c.refuse.ensures found.in-Refused.is (answer found.before.before)
 
-pub bwlchareg-check-query-spec : {M : Type 1} → statement M
-bwlchareg-check-query-spec =
+pub bwlchareg_check_query_spec : {M : Type 1} → statement M
+bwlchareg_check_query_spec =
     tie.close
     (tie.spec
     query-of-requires

@@ -17,50 +17,50 @@ asked c = c.before.before.before.before.before
 
 answer : (c : Answered) → let from = (asked c).args in
     let query = as_query from.principal from.owner from.name from.depth in
-    (listing_told c.list.result ≡ listing from.table.now query (length from.sets.now))
-    × (c.list.new.1.1.0 ≡ buffer_after from.table.now query from.sets.now)
-answer c = rw c.before.before.query-of.ensures at c.list.ensures
+    (listing_told c.list.result ≡ listing from.table.now query (length from.sets-1.now))
+    × (c.list.new.1.1.0 ≡ buffer_after from.table.now query from.sets-1.now)
+answer c = rw c.before.before.query_of-query.ensures at c.list.ensures
 
-query-of-requires : tie.Need-query-of-requires
+query-of-requires : tie.Need-query_of-query-requires
 query-of-requires c κs = search rules
 
 list-requires : tie.Need-list-requires
 list-requires c κs = search rules
 
-enum-known-count : tie.Need-enum-known-count
+enum-known-count : tie.Need-enum_known-count
 enum-known-count c = search rules
 
 accept-requires : tie.Need-accept-requires
 accept-requires c κs = search rules
 
-enum-known-why : tie.Need-enum-known-why
+enum-known-why : tie.Need-enum_known-why
 enum-known-why c = search rules
 
 refuse-requires : tie.Need-refuse-requires
 refuse-requires c κs = search rules
 
-same_length : tie.Need-same-length
+same_length : tie.Need-shape_of-sets-in-Listed
 same_length c = search rules
 
-returns : tie.Need-returns
+returns : tie.Need-returns-in-Listed
 unfolding listing_told
 returns c =
     let found = c.before.before.before in
     let (outcome, buffer) = answer found.before.before.before.before in
-    (told-as listing_told c.accept.ensures found.count.given.1 outcome, buffer)
+    (told-as listing_told c.accept.ensures found.in-Listed.is outcome, buffer)
 
-same-length-2 : tie.Need-same-length-2
+same-length-2 : tie.Need-shape_of-sets-in-Refused
 same-length-2 c = search rules
 
-returns-2 : tie.Need-returns-2
+returns-2 : tie.Need-returns-in-Refused
 unfolding listing_told
 returns-2 c =
     let found = c.before.before.before in
     let (outcome, buffer) = answer found.before.before.before.before in
-    (told-as listing_told c.refuse.ensures found.why.given.1 outcome, buffer)
+    (told-as listing_told c.refuse.ensures found.in-Refused.is outcome, buffer)
 
-pub bwlchareg-list-spec : {M : Type 1} → statement M
-bwlchareg-list-spec =
+pub bwlchareg_list_spec : {M : Type 1} → statement M
+bwlchareg_list_spec =
     tie.close
     (tie.spec
     query-of-requires

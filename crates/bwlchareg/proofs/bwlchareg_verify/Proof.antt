@@ -17,43 +17,43 @@ asked c = c.before.before.before.before
 answer : (c : Answered) → let from = (asked c).args in
     verdict_told c.verify.result
     ≡ verdict from.table.now (as_query from.principal from.owner from.name from.depth) from.rec.now
-answer c = rw c.before.query-of.ensures at c.verify.ensures
+answer c = rw c.before.query_of-query.ensures at c.verify.ensures
 
-query-of-requires : tie.Need-query-of-requires
+query-of-requires : tie.Need-query_of-query-requires
 query-of-requires c κs = search rules
 
 verify-requires : tie.Need-verify-requires
 verify-requires c κs = search rules
 
-enum-known-used : tie.Need-enum-known-used
+enum-known-used : tie.Need-enum_known-used
 enum-known-used c = search rules
 
-cast-accept : tie.Need-overflow-cast-accept
+cast-accept : tie.Need-overflow_cast-used
 cast-accept c = search rules
 
 accept-requires : tie.Need-accept-requires
 accept-requires c κs = search rules
 
-enum-known-why : tie.Need-enum-known-why
+enum-known-why : tie.Need-enum_known-why
 enum-known-why c = search rules
 
 refuse-requires : tie.Need-refuse-requires
 refuse-requires c κs = search rules
 
-returns : tie.Need-returns
+returns : tie.Need-returns-in-Accepted
 unfolding verdict_told
 returns c =
     let found = c.before.before.before in
-    told-as verdict_told c.accept.ensures found.used.given.1 (answer found.before.before)
+    told-as verdict_told c.accept.ensures found.in-Accepted.is (answer found.before.before)
 
-returns-2 : tie.Need-returns-2
+returns-2 : tie.Need-returns-in-Refused
 unfolding verdict_told
 returns-2 c =
     let found = c.before.before.before in
-    told-as verdict_told c.refuse.ensures found.why.given.1 (answer found.before.before)
+    told-as verdict_told c.refuse.ensures found.in-Refused.is (answer found.before.before)
 
-pub bwlchareg-verify-spec : {M : Type 1} → statement M
-bwlchareg-verify-spec =
+pub bwlchareg_verify_spec : {M : Type 1} → statement M
+bwlchareg_verify_spec =
     tie.close
     (tie.spec
     query-of-requires

@@ -18,50 +18,50 @@ asked c = c.before.before.before.before.before
 
 answer : (c : Answered) → let from = (asked c).args in
     let query = as_query from.principal from.owner from.name from.depth in
-    (written_told c.write.result ≡ writing from.table.now query from.set (length from.rec.now))
-    × (c.write.new.1.1.1.0 ≡ record_after from.table.now query from.set from.rec.now)
-answer c = rw c.before.before.query-of.ensures at c.write.ensures
+    (written_told c.write.result ≡ writing from.table.now query from.set (length from.rec-1.now))
+    × (c.write.new.1.1.1.0 ≡ record_after from.table.now query from.set from.rec-1.now)
+answer c = rw c.before.before.query_of-query.ensures at c.write.ensures
 
-query-of-requires : tie.Need-query-of-requires
+query-of-requires : tie.Need-query_of-query-requires
 query-of-requires c κs = search rules
 
 write-requires : tie.Need-write-requires
 write-requires c κs = search rules
 
-enum-known-len : tie.Need-enum-known-len
+enum-known-len : tie.Need-enum_known-len
 enum-known-len c = search rules
 
 accept-requires : tie.Need-accept-requires
 accept-requires c κs = search rules
 
-enum-known-why : tie.Need-enum-known-why
+enum-known-why : tie.Need-enum_known-why
 enum-known-why c = search rules
 
 refuse-requires : tie.Need-refuse-requires
 refuse-requires c κs = search rules
 
-same_length : tie.Need-same-length
+same_length : tie.Need-shape_of-rec-in-Length
 same_length c = search rules
 
-returns : tie.Need-returns
+returns : tie.Need-returns-in-Length
 unfolding written_told
 returns c =
     let found = c.before.before.before in
     let (outcome, buffer) = answer found.before.before.before.before in
-    (told-as written_told c.accept.ensures found.len.given.1 outcome, buffer)
+    (told-as written_told c.accept.ensures found.in-Length.is outcome, buffer)
 
-same-length-2 : tie.Need-same-length-2
+same-length-2 : tie.Need-shape_of-rec-in-Refused
 same-length-2 c = search rules
 
-returns-2 : tie.Need-returns-2
+returns-2 : tie.Need-returns-in-Refused
 unfolding written_told
 returns-2 c =
     let found = c.before.before.before in
     let (outcome, buffer) = answer found.before.before.before.before in
-    (told-as written_told c.refuse.ensures found.why.given.1 outcome, buffer)
+    (told-as written_told c.refuse.ensures found.in-Refused.is outcome, buffer)
 
-pub bwlchareg-write-spec : {M : Type 1} → statement M
-bwlchareg-write-spec =
+pub bwlchareg_write_spec : {M : Type 1} → statement M
+bwlchareg_write_spec =
     tie.close
     (tie.spec
     query-of-requires

@@ -11,45 +11,45 @@ use Rattle.candidates.proofs.Growing.{grown-on, grown-same}
 use Rattle.candidates.proofs.grown.Statement.{statement}
 use Rattle.candidates.proofs.grown.Tie as tie
 
-abbrev invariant-loop : tie.invariant-loop
+abbrev invariant-loop : tie.invariant-loop-i
 invariant-loop table query index arcs usable cuts count sets found chosen n set₀ i₀ set i =
     (i ≤ n) × (n ≡ credentials table) × Grown (admits table query) (credentials table) chosen set
 
-abbrev decreases-loop : tie.decreases-loop
+abbrev decreases-loop : tie.decreases-loop-i
 decreases-loop table query index arcs usable cuts count sets found chosen n set₀ i₀ set i = n - i
 
-credentials-requires : tie.Need-credentials-requires invariant-loop decreases-loop
+credentials-requires : tie.Need-credentials-n-requires invariant-loop decreases-loop
 credentials-requires c κs = search rules
 
-loop-holds : tie.Need-loop-init invariant-loop decreases-loop
+loop-holds : tie.Need-loop-i-init invariant-loop decreases-loop
 loop-holds c =
     let pre = c.before.before.before.before.before.before.requires in
-    (omega arith, c.credentials.ensures.same, grown-same pre.1.1.1.0 pre.1.1.1.1)
+    (omega arith, c.credentials-n.ensures.same, grown-same pre.1.1.1.0 pre.1.1.1.1)
 
-grown-by-requires : tie.Need-grown-by-requires invariant-loop decreases-loop
+grown-by-requires : tie.Need-grown_by-set-requires invariant-loop decreases-loop
 grown-by-requires c κs =
     let pre = c.before.before.before.before.before.before.before.before.requires in
-    let loop = c.before.loop in
+    let loop = c.before.loop-i in
     (pre.0, (pre.1.0, (pre.1.1.0, (loop.invariant.2.fits, (loop.invariant.2.fails, omega (arith, loop.invariant.1))))))
 
-add-i : tie.Need-overflow-add-i invariant-loop decreases-loop
+add-i : tie.Need-overflow_add-i invariant-loop decreases-loop
 add-i c = search rules
 
-loop-less : tie.Need-loop-smaller invariant-loop decreases-loop
+loop-less : tie.Need-loop-i-smaller invariant-loop decreases-loop
 loop-less c = search rules
 
-loop-again : tie.Need-loop-preserved invariant-loop decreases-loop
+loop-again : tie.Need-loop-i-preserved invariant-loop decreases-loop
 loop-again c =
-    let loop = c.before.before.loop in
-    (omega arith, loop.invariant.1, grown-on loop.invariant.2 c.grown-by.ensures)
+    let loop = c.before.before.loop-i in
+    (omega arith, loop.invariant.1, grown-on loop.invariant.2 c.grown_by-set.ensures)
 
 returns : tie.Need-returns invariant-loop decreases-loop
 returns c =
-    let loop = c.before.loop in
+    let loop = c.before.loop-i in
     loop.invariant.2
 
-pub grown-spec : {M : Type 1} → statement M
-grown-spec =
+pub grown_spec : {M : Type 1} → statement M
+grown_spec =
     tie.close
     (tie.spec
     invariant-loop

@@ -9,39 +9,39 @@ use Rattle.candidates.proofs.grown_by.Tie as tie
 has-requires : tie.Need-has-requires
 has-requires c κs = search rules
 
-returns : tie.Need-returns
+returns : tie.Need-returns-then-has
 returns c =
     let pre = c.before.before.before.before.before.before.before.requires in
     grown-same pre.1.1.1.0 pre.1.1.1.1.0
 
-with-requires : tie.Need-with-requires
+with-requires : tie.Need-with-more-requires
 with-requires c κs = search rules
 
 has-requires-2 : tie.Need-has-requires-2
 has-requires-2 c κs = search rules
 
-returns-2 : tie.Need-returns-2
+returns-2 : tie.Need-returns-then-not-has
 returns-2 c =
     let pre = c.before.before.before.before.before.before.before.before.before.before.requires in
-    let with = c.before.before.with in
-    let out = failed c.before.has2.ensures c.if2.true in
+    let with = c.before.before.with-more in
+    let out = failed c.before.has-2.ensures c.if-not-has.true in
     grown-more _ _ _ pre.1.1.1.0 pre.1.1.1.1.1 with.ensures
     (beyond-fails _ _ _ pre.1.0 out pre.1.1.1.1.0 with.ensures)
 
-meets-all-requires : tie.Need-meets-all-requires
+meets-all-requires : tie.Need-meets_all-requires
 meets-all-requires c κs = search rules
 
-returns-3 : tie.Need-returns-3
+returns-3 : tie.Need-returns-then-not-meets_all
 returns-3 c =
     let pre = c.before.before.before.before.before.before.before.before.before.before.before.before.requires in
-    let with = c.before.before.before.before.with in
-    let unmet = failed c.before.meets-all.ensures c.if3.true in
+    let with = c.before.before.before.before.with-more in
+    let unmet = failed c.before.meets_all.ensures c.if-not-meets_all.true in
     grown-unmet _ _ _ pre.1.1.1.0 pre.1.1.1.1.1 pre.1.1.0 with.ensures unmet
 
-has-listed-requires : tie.Need-has-listed-requires
+has-listed-requires : tie.Need-has_listed-requires
 has-listed-requires c κs = search rules
 
-returns-4 : tie.Need-returns-4
+returns-4 : tie.Need-returns-then-has_listed
 returns-4 c =
     let pre = c.before.before.before.before.before.before.before.before.before.before.before.before.before.before.requires in
     grown-same pre.1.1.1.0 pre.1.1.1.1.0
@@ -49,22 +49,22 @@ returns-4 c =
 admits-requires : tie.Need-admits-requires
 admits-requires c κs = search rules
 
-returns-5 : tie.Need-returns-5
+returns-5 : tie.Need-returns-then-admits
 returns-5 c =
     let at_with = c.before.before.before.before.before.before.before.before in
     let pre = at_with.before.before.before.before.before.before.before.before.requires in
     grown-same pre.1.1.1.0 pre.1.1.1.1.0
 
-returns-6 : tie.Need-returns-6
+returns-6 : tie.Need-returns
 returns-6 c =
     let at_with = c.before.before.before.before.before.before.before.before in
-    let with = at_with.with in
+    let with = at_with.with-more in
     let pre = at_with.before.before.before.before.before.before.before.before.requires in
-    let fails = sym (pre.1.0 _) ∙ sym c.before.admits.ensures ∙ c.if5.false in
+    let fails = sym (pre.1.0 _) ∙ sym c.before.admits.ensures ∙ c.if-admits.false in
     grown-more _ _ _ pre.1.1.1.0 pre.1.1.1.1.1 with.ensures fails
 
-pub grown-by-spec : {M : Type 1} → statement M
-grown-by-spec =
+pub grown_by_spec : {M : Type 1} → statement M
+grown_by_spec =
     tie.close
     (tie.spec
     has-requires

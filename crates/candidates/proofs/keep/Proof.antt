@@ -8,27 +8,27 @@ use Rattle.candidates.proofs.Growing.{kept-least, kept-not}
 use Rattle.candidates.proofs.keep.Statement.{statement}
 use Rattle.candidates.proofs.keep.Tie as tie
 
-is-minimal-requires : tie.Need-is-minimal-requires
+is-minimal-requires : tie.Need-is_minimal-requires
 is-minimal-requires c κs = search rules
 
-returns : tie.Need-returns
+returns : tie.Need-returns-then-not-is_minimal
 returns c =
-    let is-minimal = c.before.is-minimal in
-    kept-not (sym is-minimal.ensures ∙ not-true _ c.if2.true)
+    let is-minimal = c.before.is_minimal in
+    kept-not (sym is-minimal.ensures ∙ not-true _ c.if-not-is_minimal.true)
 
 insert-requires : tie.Need-insert-requires
 insert-requires c κs = search rules
 
-same_length : tie.Need-same-length
+same_length : tie.Need-shape_of-sets
 same_length c = search rules
 
-returns-2 : tie.Need-returns-2
+returns-2 : tie.Need-returns
 returns-2 c =
     let pre = c.before.before.before.before.before.before.before.before.before.before.requires in
-    let if1 = c.before.before.before.before.before.if1 in
+    let if1 = c.before.before.before.before.before.if-full in
     let insert = c.before.before.insert in
     kept-least
-    (⊎_elim (λ w. sym w.1.ensures ∙ not-false _ w.2.left) (λ w. pre.1.1.1.0 w.left) if1.branch)
+    (⊎_elim (λ w. sym w.1.ensures ∙ not-false _ w.2.left) (λ w. pre.1.1.1.0 w.left) if1.branch-raw)
     insert.ensures
 
 pub keep_spec : {M : Type 1} → statement M

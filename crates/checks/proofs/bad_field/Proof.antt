@@ -8,5 +8,5 @@ returns : tie.Need-returns
 unfolding query_told
 returns c = search rules
 
-pub bad-field-spec : {M : Type 1} → statement M
-bad-field-spec = tie.close (tie.spec returns)
+pub bad_field_spec : {M : Type 1} → statement M
+bad_field_spec = tie.close (tie.spec returns)

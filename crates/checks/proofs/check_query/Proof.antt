@@ -10,81 +10,81 @@ use Rattle.checks.proofs.check_query.Statement.{statement}
 use Rattle.checks.proofs.check_query.Tie as tie
 
 -- which fields have passed at each place where the code goes on
-principal-ok : (c : tie.Else1) → is_principal c.before.before.args.query.principal ≡ true
-principal-ok c = passed c.before.is-principal.ensures c.if1.false
+principal-ok : (c : tie.Else-not-is_principal) → is_principal c.before.before.args.query.principal ≡ true
+principal-ok c = passed c.before.is_principal.ensures c.if-not-is_principal.false
 
-owner-ok : (c : tie.Else2) → is_principal c.before.before.before.before.args.query.owner ≡ true
-owner-ok c = passed c.before.is-principal2.ensures c.if2.false
+owner-ok : (c : tie.Else-not-is_principal-2) → is_principal c.before.before.before.before.args.query.owner ≡ true
+owner-ok c = passed c.before.is_principal-2.ensures c.if-not-is_principal-2.false
 
-name-ok : (c : tie.Else3) → is_name c.before.before.before.before.before.before.args.query.name ≡ true
-name-ok c = passed c.before.is_name.ensures c.if3.false
+name-ok : (c : tie.Else-not-is_name) → is_name c.before.before.before.before.before.before.args.query.name ≡ true
+name-ok c = passed c.before.is_name.ensures c.if-not-is_name.false
 
-abbrev owner-asked : tie.Else2 → tie.Else1
+abbrev owner-asked : tie.Else-not-is_principal-2 → tie.Else-not-is_principal
 owner-asked c = c.before.before
 
-abbrev name-asked : tie.Else3 → tie.Else2
+abbrev name-asked : tie.Else-not-is_name → tie.Else-not-is_principal-2
 name-asked c = c.before.before
 
-is-principal-requires : tie.Need-is-principal-requires
+is-principal-requires : tie.Need-is_principal-requires
 is-principal-requires c κs = search rules
 
-bad-field-requires : tie.Need-bad-field-requires
+bad-field-requires : tie.Need-bad_field-requires
 bad-field-requires c κs = search rules
 
-returns : tie.Need-returns
+returns : tie.Need-returns-then-not-is_principal
 returns c =
-    let bad = failed c.before.before.is-principal.ensures c.before.if1.true in
-    c.bad-field.ensures ∙ principal-refused _ bad
+    let bad = failed c.before.before.is_principal.ensures c.before.if-not-is_principal.true in
+    c.bad_field.ensures ∙ principal-refused _ bad
 
-is-principal-requires-2 : tie.Need-is-principal-requires-2
+is-principal-requires-2 : tie.Need-is_principal-requires-2
 is-principal-requires-2 c κs = search rules
 
-bad-field-requires-2 : tie.Need-bad-field-requires-2
+bad-field-requires-2 : tie.Need-bad_field-requires-then-not-is_principal-2
 bad-field-requires-2 c κs = search rules
 
-returns-2 : tie.Need-returns-2
+returns-2 : tie.Need-returns-then-not-is_principal-2
 returns-2 c =
-    let bad = failed c.before.before.is-principal2.ensures c.before.if2.true in
-    c.bad-field2.ensures ∙ owner-refused _ (principal-ok c.before.before.before) bad
+    let bad = failed c.before.before.is_principal-2.ensures c.before.if-not-is_principal-2.true in
+    c.bad_field-then-not-is_principal-2.ensures ∙ owner-refused _ (principal-ok c.before.before.before) bad
 
-is-name-requires : tie.Need-is-name-requires
+is-name-requires : tie.Need-is_name-requires
 is-name-requires c κs = search rules
 
-bad-field-requires-3 : tie.Need-bad-field-requires-3
+bad-field-requires-3 : tie.Need-bad_field-requires-then-not-is_name
 bad-field-requires-3 c κs = search rules
 
-returns-3 : tie.Need-returns-3
+returns-3 : tie.Need-returns-then-not-is_name
 returns-3 c =
     let at = c.before.before.before in
-    let bad = failed c.before.before.is_name.ensures c.before.if3.true in
-    c.bad-field3.ensures ∙ name-refused _ (principal-ok (owner-asked at)) (owner-ok at) bad
+    let bad = failed c.before.before.is_name.ensures c.before.if-not-is_name.true in
+    c.bad_field-then-not-is_name.ensures ∙ name-refused _ (principal-ok (owner-asked at)) (owner-ok at) bad
 
-cast-within : tie.Need-overflow-cast-within
+cast-within : tie.Need-overflow_cast-within
 cast-within c = search rules
 
 within-requires : tie.Need-within-requires
 within-requires c κs = search rules
 
-bad-field-requires-4 : tie.Need-bad-field-requires-4
+bad-field-requires-4 : tie.Need-bad_field-requires-then-not-within
 bad-field-requires-4 c κs = search rules
 
-returns-4 : tie.Need-returns-4
+returns-4 : tie.Need-returns-then-not-within
 returns-4 c =
     let at = c.before.before.before in
     let owner = name-asked at in
-    let bad = failed c.before.before.within.ensures c.before.if4.true in
-    c.bad-field4.ensures ∙ depth-refused _ (principal-ok (owner-asked owner)) (owner-ok owner) (name-ok at) bad
+    let bad = failed c.before.before.within.ensures c.before.if-not-within.true in
+    c.bad_field-then-not-within.ensures ∙ depth-refused _ (principal-ok (owner-asked owner)) (owner-ok owner) (name-ok at) bad
 
-returns-5 : tie.Need-returns-5
+returns-5 : tie.Need-returns
 unfolding query_told
 returns-5 c =
     let at = c.before.before in
     let owner = name-asked at in
-    let depth = passed c.before.within.ensures c.if4.false in
+    let depth = passed c.before.within.ensures c.if-not-within.false in
     query-valid _ (principal-ok (owner-asked owner)) (owner-ok owner) (name-ok at) depth
 
-pub check-query-spec : {M : Type 1} → statement M
-check-query-spec =
+pub check_query_spec : {M : Type 1} → statement M
+check_query_spec =
     tie.close
     (tie.spec
     is-principal-requires

@@ -8,32 +8,32 @@ use Rattle.checks.proofs.Told.{stage-passed, stage-stops}
 use Rattle.checks.proofs.check_request.Statement.{statement}
 use Rattle.checks.proofs.check_request.Tie as tie
 
-check-table-requires : tie.Need-check-table-requires
+check-table-requires : tie.Need-check_table-requires
 check-table-requires c κs = search rules
 
-enum_told : tie.Need-enum-told
+enum_told : tie.Need-enum_told-1
 enum_told c = search rules
 
-check-query-requires : tie.Need-check-query-requires
+check-query-requires : tie.Need-check_query-requires
 check-query-requires c κs = search rules
 
-enum-known-why : tie.Need-enum-known-why
+enum-known-why : tie.Need-enum_known-why
 enum-known-why c = search rules
 
-returns : tie.Need-returns
+returns : tie.Need-returns-in-Accepted
 unfolding request_outcome
 returns c =
-    let check-table = c.before.before.before.check-table in
-    c.check-query.ensures ∙ then-on (stage-passed check-table.ensures c.before.enum_told.given.1)
+    let check-table = c.before.before.before.check_table in
+    c.check_query.ensures ∙ then-on (stage-passed check-table.ensures c.before.in-Accepted.is)
 
-returns-2 : tie.Need-returns-2
+returns-2 : tie.Need-returns-in-Refused
 unfolding request_outcome query_told table_told
 returns-2 c =
-    let check-table = c.before.before.before.check-table in
-    let known = c.before.why.given.1 in
+    let check-table = c.before.before.before.check_table in
+    let known = c.before.in-Refused.is in
     sym (ap table_told known) ∙ stage-stops check-table.ensures _ known
 
-pub check-request-spec : {M : Type 1} → statement M
-check-request-spec =
+pub check_request_spec : {M : Type 1} → statement M
+check_request_spec =
     tie.close
     (tie.spec check-table-requires enum_told check-query-requires enum-known-why returns returns-2)

@@ -43,22 +43,22 @@ rows_empty t edges marks = row-empty _ _ 17 marks ∙ then-on (sym (row-empty _ 
 
 -- the places where a later row is asked, each with the one before it, and the table there
 abbrev AskedCredentials : Type 0
-AskedCredentials = tie.After-enum-told
+AskedCredentials = tie.In-Accepted
 
 abbrev AskedCells : Type 0
-AskedCells = tie.Else1
+AskedCells = tie.Else-credential-ne0
 
 abbrev AskedChains : Type 0
-AskedChains = tie.Else2
+AskedChains = tie.Else-cell-ne0
 
 abbrev AskedEdges : Type 0
-AskedEdges = tie.Else3
+AskedEdges = tie.Else-chain-ne0
 
 abbrev SomeAutomata : Type 0
-SomeAutomata = tie.Else4
+SomeAutomata = tie.Else-edges-automata-eq0
 
 abbrev AskedMarks : Type 0
-AskedMarks = tie.Else5
+AskedMarks = tie.Else-edge-ne0
 
 abbrev credentials-asked : AskedCells → AskedCredentials
 credentials-asked c = c.before.before
@@ -92,22 +92,22 @@ at-marks c = at-edges (edges-asked (some-asked c))
 
 -- the row before has passed
 head_passed : (c : AskedCredentials) → head_outcome (at-credentials c) ≡ accepted 0
-head_passed c = stage-passed c.before.before.check-head.ensures c.enum_told.given.1
+head_passed c = stage-passed c.before.before.check_head-head.ensures c.in-Accepted.is
 
 credentials-passed : (c : AskedCells) → row_outcome (at_cells c) row.Credentials 4 ≡ accepted 0
 unfolding row_outcome
-credentials-passed c = row-passed _ _ _ 4 c.before.first-bad.ensures c.if1.false
+credentials-passed c = row-passed _ _ _ 4 c.before.first_bad-credential.ensures c.if-credential-ne0.false
 
 cells-passed : (c : AskedChains) → row_outcome (at-chains c) row.Cells 5 ≡ accepted 0
 unfolding row_outcome
-cells-passed c = row-passed _ _ _ 5 c.before.first-bad2.ensures c.if2.false
+cells-passed c = row-passed _ _ _ 5 c.before.first_bad-cell.ensures c.if-cell-ne0.false
 
 chains-passed : (c : AskedEdges) → demand_each (good_chain (at-edges c)) (credentials (at-edges c)) 6 ≡ accepted 0
-chains-passed c = row-passed _ _ _ 6 c.before.first-bad-chain.ensures c.if3.false
+chains-passed c = row-passed _ _ _ 6 c.before.first_bad_chain-chain.ensures c.if-chain-ne0.false
 
 edges-passed : (c : AskedMarks) → row_outcome (at-marks c) row.Edges 7 ≡ accepted 0
 unfolding row_outcome
-edges-passed c = row-passed _ _ _ 7 c.before.first-bad3.ensures c.if5.false
+edges-passed c = row-passed _ _ _ 7 c.before.first_bad-edge.ensures c.if-edge-ne0.false
 
 -- so the rows from here on decide
 credentials-left : (c : AskedCredentials) → from-credentials (at-credentials c) ≡ table_outcome (at-credentials c)
@@ -131,55 +131,55 @@ has-size c = sized _ 0 (head_passed c)
 edges-sized : (c : AskedEdges) → Sized (at-edges c)
 edges-sized c = has-size (credentials-asked (cells-asked (chains-asked c)))
 
-check-head-requires : tie.Need-check-head-requires
+check-head-requires : tie.Need-check_head-head-requires
 check-head-requires c κs = search rules
 
-enum_told : tie.Need-enum-told
+enum_told : tie.Need-enum_told-1
 enum_told c = search rules
 
-enum-told-2 : tie.Need-enum-told-2
+enum-told-2 : tie.Need-enum_told-in_default
 enum-told-2 c = search rules
 
-returns : tie.Need-returns
-returns c = stage-stops c.before.before.check-head.ensures _ c.enum-told2.given.1 ∙ by_rows _
+returns : tie.Need-returns-in_default
+returns c = stage-stops c.before.before.check_head-head.ensures _ c.in_default.is ∙ by_rows _
 
-first-bad-requires : tie.Need-first-bad-requires
+first-bad-requires : tie.Need-first_bad-credential-requires
 first-bad-requires c κs = has-size c
 
 refused-requires : tie.Need-refused-requires
 refused-requires c κs = search rules
 
-returns-2 : tie.Need-returns-2
+returns-2 : tie.Need-returns-then-credential-ne0
 unfolding row_outcome number_of
 returns-2 c =
-    let bad = row-stops _ _ _ 4 c.before.before.first-bad.ensures c.before.if1.true in
+    let bad = row-stops _ _ _ 4 c.before.before.first_bad-credential.ensures c.before.if-credential-ne0.true in
     c.refused.ensures ∙ refused-then _ bad ∙ credentials-left c.before.before.before
 
-first-bad-requires-2 : tie.Need-first-bad-requires-2
+first-bad-requires-2 : tie.Need-first_bad-cell-requires
 first-bad-requires-2 c κs = has-size (credentials-asked c)
 
-refused-requires-2 : tie.Need-refused-requires-2
+refused-requires-2 : tie.Need-refused-requires-then-cell-ne0
 refused-requires-2 c κs = search rules
 
-returns-3 : tie.Need-returns-3
+returns-3 : tie.Need-returns-then-cell-ne0
 unfolding row_outcome number_of
 returns-3 c =
-    let bad = row-stops _ _ _ 5 c.before.before.first-bad2.ensures c.before.if2.true in
-    c.refused2.ensures ∙ refused-then _ bad ∙ cells_left c.before.before.before
+    let bad = row-stops _ _ _ 5 c.before.before.first_bad-cell.ensures c.before.if-cell-ne0.true in
+    c.refused-then-cell-ne0.ensures ∙ refused-then _ bad ∙ cells_left c.before.before.before
 
-first-bad-chain-requires : tie.Need-first-bad-chain-requires
+first-bad-chain-requires : tie.Need-first_bad_chain-chain-requires
 first-bad-chain-requires c κs =
     let at = cells-asked c in
     (has-size (credentials-asked at), (credentials-passed at, cells-passed c))
 
-refused-requires-3 : tie.Need-refused-requires-3
+refused-requires-3 : tie.Need-refused-requires-then-chain-ne0
 refused-requires-3 c κs = search rules
 
-returns-4 : tie.Need-returns-4
+returns-4 : tie.Need-returns-then-chain-ne0
 unfolding number_of
 returns-4 c =
-    let bad = row-stops _ _ _ 6 c.before.before.first-bad-chain.ensures c.before.if3.true in
-    c.refused3.ensures ∙ refused-then _ bad ∙ chains-left c.before.before.before
+    let bad = row-stops _ _ _ 6 c.before.before.first_bad_chain-chain.ensures c.before.if-chain-ne0.true in
+    c.refused-then-chain-ne0.ensures ∙ refused-then _ bad ∙ chains-left c.before.before.before
 
 edges-requires : tie.Need-edges-requires
 edges-requires c κs = (edges-sized c).counted
@@ -187,49 +187,49 @@ edges-requires c κs = (edges-sized c).counted
 automata-requires : tie.Need-automata-requires
 automata-requires c κs = (edges-sized c.before).counted
 
-add-if4 : tie.Need-overflow-add-if4
+add-if4 : tie.Need-overflow_add-edges
 add-if4 c = search rules
 
-returns-5 : tie.Need-returns-5
+returns-5 : tie.Need-returns-then-edges-automata-eq0
 unfolding row_outcome records table_told
 returns-5 c =
     let at = c.before.before.before in
     let edges = c.before.before.edges.ensures in
     let automata = c.before.automata.ensures in
-    rows_empty _ (omega (arith, c.if4.true, edges.same)) (omega (arith, c.if4.true, automata.same)) ∙ edges-left at
+    rows_empty _ (omega (arith, c.if-edges-automata-eq0.true, edges.same)) (omega (arith, c.if-edges-automata-eq0.true, automata.same)) ∙ edges-left at
 
-first-bad-requires-3 : tie.Need-first-bad-requires-3
+first-bad-requires-3 : tie.Need-first_bad-edge-requires
 first-bad-requires-3 c κs = edges-sized (edges-asked c)
 
-refused-requires-4 : tie.Need-refused-requires-4
+refused-requires-4 : tie.Need-refused-requires-then-edge-ne0
 refused-requires-4 c κs = search rules
 
-returns-6 : tie.Need-returns-6
+returns-6 : tie.Need-returns-then-edge-ne0
 unfolding row_outcome number_of
 returns-6 c =
-    let bad = row-stops _ _ _ 7 c.before.before.first-bad3.ensures c.before.if5.true in
-    c.refused4.ensures ∙ refused-then _ bad ∙ edges-left (edges-asked c.before.before.before)
+    let bad = row-stops _ _ _ 7 c.before.before.first_bad-edge.ensures c.before.if-edge-ne0.true in
+    c.refused-then-edge-ne0.ensures ∙ refused-then _ bad ∙ edges-left (edges-asked c.before.before.before)
 
-first-bad-requires-4 : tie.Need-first-bad-requires-4
+first-bad-requires-4 : tie.Need-first_bad-mark-requires
 first-bad-requires-4 c κs = edges-sized (edges-asked (some-asked c))
 
-refused-requires-5 : tie.Need-refused-requires-5
+refused-requires-5 : tie.Need-refused-requires-then-mark-ne0
 refused-requires-5 c κs = search rules
 
-returns-7 : tie.Need-returns-7
+returns-7 : tie.Need-returns-then-mark-ne0
 unfolding row_outcome number_of
 returns-7 c =
-    let bad = row-stops _ _ _ 17 c.before.before.first-bad4.ensures c.before.if6.true in
-    c.refused5.ensures ∙ bad ∙ marks-left c.before.before.before
+    let bad = row-stops _ _ _ 17 c.before.before.first_bad-mark.ensures c.before.if-mark-ne0.true in
+    c.refused-then-mark-ne0.ensures ∙ bad ∙ marks-left c.before.before.before
 
-returns-8 : tie.Need-returns-8
+returns-8 : tie.Need-returns
 unfolding row_outcome table_told
 returns-8 c =
-    let passed = row-passed _ _ _ 17 c.before.first-bad4.ensures c.if6.false in
+    let passed = row-passed _ _ _ 17 c.before.first_bad-mark.ensures c.if-mark-ne0.false in
     sym passed ∙ marks-left c.before.before
 
-pub check-table-spec : {M : Type 1} → statement M
-check-table-spec =
+pub check_table_spec : {M : Type 1} → statement M
+check_table_spec =
     tie.close
     (tie.spec
     check-head-requires

@@ -9,38 +9,38 @@ use borrow.Author.Rules.{rules}
 use Rattle.choice.proofs.last_usable.Statement.{statement}
 use Rattle.choice.proofs.last_usable.Tie as tie
 
-abbrev invariant-loop : tie.invariant-loop
+abbrev invariant-loop : tie.invariant-loop-i
 invariant-loop index allowed place n last₀ i₀ last i = (i ≤ n) × (last < n) × NoneBehind index allowed place last i
 
-abbrev decreases-loop : tie.decreases-loop
+abbrev decreases-loop : tie.decreases-loop-i
 decreases-loop index allowed place n last₀ i₀ last i = n - i
 
-loop-holds : tie.Need-loop-init invariant-loop decreases-loop
+loop-holds : tie.Need-loop-i-init invariant-loop decreases-loop
 loop-holds c = (omega arith, omega arith, none_yet _ _ _ _)
 
-may-use-requires : tie.Need-may-use-requires invariant-loop decreases-loop
+may-use-requires : tie.Need-may_use-requires invariant-loop decreases-loop
 may-use-requires c κs = search rules
 
-add-i : tie.Need-overflow-add-i invariant-loop decreases-loop
+add-i : tie.Need-overflow_add-i invariant-loop decreases-loop
 add-i c = search rules
 
-loop-less : tie.Need-loop-smaller invariant-loop decreases-loop
+loop-less : tie.Need-loop-i-smaller invariant-loop decreases-loop
 loop-less c = search rules
 
-loop-again : tie.Need-loop-preserved invariant-loop decreases-loop
+loop-again : tie.Need-loop-i-preserved invariant-loop decreases-loop
 loop-again c =
-    let so_far = c.before.before.before.loop.invariant in
-    let told = sym c.before.may-use.ensures in
-    ⊎_elim (λ w. (omega arith, omega arith, rw w.1 (none_first _ _ _ _)))
-    (λ w. (omega arith, omega arith, rw w.1 (none-next _ _ _ _ _ so_far.2 (told ∙ w.0.left)))) c.if1.branch
+    let so_far = c.before.before.before.loop-i.invariant in
+    let told = sym c.before.may_use.ensures in
+    ⊎_elim (λ w. (omega arith, omega arith, rw w.last-is (none_first _ _ _ _)))
+    (λ w. (omega arith, omega arith, rw w.last-is (none-next _ _ _ _ _ so_far.2 (told ∙ w.if-may_use.false)))) c.if-may_use.branch-raw
 
 returns : tie.Need-returns invariant-loop decreases-loop
 returns c =
-    let loop = c.before.loop in
+    let loop = c.before.loop-i in
     let all : loop.i ≡ c.before.before.before.args.n = omega arith in
     record { few = loop.invariant.1; none = rw all at loop.invariant.2 }
 
-pub last-usable-spec : {M : Type 1} → statement M
-last-usable-spec =
+pub last_usable_spec : {M : Type 1} → statement M
+last_usable_spec =
     tie.close
     (tie.spec invariant-loop decreases-loop loop-holds may-use-requires add-i loop-less loop-again returns)

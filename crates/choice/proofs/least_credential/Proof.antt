@@ -18,19 +18,19 @@ use borrow.Author.Rules.{rules}
 use Rattle.choice.proofs.least_credential.Statement.{statement}
 use Rattle.choice.proofs.least_credential.Tie as tie
 
-abbrev invariant-loop : tie.invariant-loop
+abbrev invariant-loop : tie.invariant-loop-i
 invariant-loop table index arcs rows terms wanted person place levels states above memory₀ last i₀ memory i =
     (i ≤ last) × (any_below (proves_with table terms.allowed (suits_all table terms wanted levels above states)
     (suits_word table terms wanted states) (goal_at table person place)) i ≡ false)
     × ((length memory ≡ length memory₀) × Remembered table terms.allowed terms.constraints terms.owed memory)
 
-abbrev decreases-loop : tie.decreases-loop
+abbrev decreases-loop : tie.decreases-loop-i
 decreases-loop table index arcs rows terms wanted person place levels states above memory₀ last i₀ memory i = last - i
 
 credentials-requires : tie.Need-credentials-requires invariant-loop decreases-loop
 credentials-requires c κs = search rules
 
-last-usable-requires : tie.Need-last-usable-requires invariant-loop decreases-loop
+last-usable-requires : tie.Need-last_usable-last-requires invariant-loop decreases-loop
 last-usable-requires c κs =
     let pre = c.before.before.before.before.before.before.requires in
     let n = c.credentials.ensures in
@@ -38,7 +38,7 @@ last-usable-requires c κs =
 
 -- the place behind the last credential that may be used, and the one where the function was asked
 abbrev Found : Type 0
-Found = tie.After-last-usable invariant-loop decreases-loop
+Found = tie.After-last_usable-last invariant-loop decreases-loop
 
 abbrev asked : Found → tie.Start invariant-loop decreases-loop
 asked at = at.before.before.before.before.before.before.before
@@ -46,82 +46,82 @@ asked at = at.before.before.before.before.before.before.before
 wide : (at : tie.Start invariant-loop decreases-loop) → length at.args.above.persons ≡ most_credentials
 wide at = search rules
 
-loop-holds : tie.Need-loop-init invariant-loop decreases-loop
+loop-holds : tie.Need-loop-i-init invariant-loop decreases-loop
 unfolding any_below
 loop-holds c = (omega arith, refl, (refl, (asked c).requires.1.1.1.0))
 
-may-use-requires : tie.Need-may-use-requires invariant-loop decreases-loop
+may-use-requires : tie.Need-may_use-requires invariant-loop decreases-loop
 may-use-requires c κs = search rules
 
-inside : (at : Found) (i : ℕ) → i < at.last-usable.result → i < credentials (asked at).args.table.now
-inside at i l = omega (arith, l, at.last-usable.ensures.few, at.before.credentials.ensures.same)
+inside : (at : Found) (i : ℕ) → i < at.last_usable-last.result → i < credentials (asked at).args.table.now
+inside at i l = omega (arith, l, at.last_usable-last.ensures.few, at.before.credentials.ensures.same)
 
-credential-search-requires : tie.Need-credential-search-requires invariant-loop decreases-loop
+credential-search-requires : tie.Need-credential_search-answer-requires invariant-loop decreases-loop
 credential-search-requires c κs =
     let test = c.before.before.before in
     let loop = test.before in
     let pre = (asked loop.before).pre in
-    (pre.0, (tried-at pre.1.0.0 _ (inside loop.before _ test.loop-test.true), loop.loop.invariant.2.1))
+    (pre.0, (tried-at pre.1.0.0 _ (inside loop.before _ test.loop-i-test.true), loop.loop-i.invariant.2.1))
 
 meets-requires : tie.Need-meets-requires invariant-loop decreases-loop
 meets-requires c κs = search rules
 
-same_length : tie.Need-same-length invariant-loop decreases-loop
+same_length : tie.Need-shape_of-memory-then-meets invariant-loop decreases-loop
 same_length c =
-    c.before.before.before.memory.given ∙ c.before.before.before.before.before.before.before.before.before.loop.invariant.2.0
+    c.before.before.before.memory-1.given ∙ c.before.before.before.before.before.before.before.before.before.loop-i.invariant.2.0
 
-returns : tie.Need-returns invariant-loop decreases-loop
+returns : tie.Need-returns-then-meets invariant-loop decreases-loop
 returns c =
     let asking = c.before.before.before.before in
     let way = asking.before.before in
     let loop = way.before.before.before in
     let pre = (asked loop.before).pre in
-    let there = inside loop.before _ way.before.before.loop-test.true in
-    let (judged, remembered) = asking.credential-search.ensures in
+    let there = inside loop.before _ way.before.before.loop-i-test.true in
+    let (judged, remembered) = asking.credential_search-answer.ensures in
     let proved = own-wanted _ _ _ _ _ _ _ _ pre.1.1.0 (judged-told (wide (asked loop.before)) judged) c.before.meets.ensures in (
-      chosen-here pre.0.indexed pre.1.0.0 pre.1.0.1 _ _ _ _ there loop.loop.invariant.1
-          (passes-here pre.0.indexed pre.1.0.0 pre.1.0.1 _ _ _ _ there way.before.may-use.ensures
-          way.if1.true proved c.if2.true),
+      chosen-here pre.0.indexed pre.1.0.0 pre.1.0.1 _ _ _ _ there loop.loop-i.invariant.1
+          (passes-here pre.0.indexed pre.1.0.0 pre.1.0.1 _ _ _ _ there way.before.may_use.ensures
+          way.if-may_use.true proved c.if-meets.true),
       remembered,
     )
 
-add-i : tie.Need-overflow-add-i invariant-loop decreases-loop
+add-i : tie.Need-overflow_add-i invariant-loop decreases-loop
 add-i c = search rules
 
-loop-less : tie.Need-loop-smaller invariant-loop decreases-loop
+loop-less : tie.Need-loop-i-smaller invariant-loop decreases-loop
 loop-less c = search rules
 
-loop-again : tie.Need-loop-preserved invariant-loop decreases-loop
+loop-again : tie.Need-loop-i-preserved invariant-loop decreases-loop
 loop-again c =
     let loop = c.before.before.before in
     let pre = (asked loop.before).pre in
-    let (_, so_far, remembered) = loop.loop.invariant in
-    let next = c.before.before.loop-test.true in
+    let (_, so_far, remembered) = loop.loop-i.invariant in
+    let next = c.before.before.loop-i-test.true in
     let there = inside loop.before _ next in
-    let may-use = c.before.may-use.ensures in (
+    let may-use = c.before.may_use.ensures in (
       omega (arith, next),
       ⊎_elim (λ way. next-failed pre.0.indexed pre.1.0.0 pre.1.0.1 _ _ _ _ there may-use way.0.taken
           (own-wanted _ _ _ _ _ _ _ _ pre.1.1.0 (judged-told (wide (asked loop.before)) way.2.ensures.0) way.5.ensures) so_far way.6.left)
-          (λ way. next-skipped pre.0.indexed pre.1.0.0 pre.1.0.1 _ _ _ _ there may-use so_far way.0.left)
-          c.if1.branch,
-      ⊎_elim (λ way. rw way.7 (way.3.given ∙ remembered.0, way.2.ensures.1)) (λ way. rw way.1 remembered) c.if1.branch,
+          (λ way. next-skipped pre.0.indexed pre.1.0.0 pre.1.0.1 _ _ _ _ there may-use so_far way.if-may_use.false)
+          c.if-may_use.branch-raw,
+      ⊎_elim (λ way. rw way.7 (way.3.given ∙ remembered.0, way.2.ensures.1)) (λ way. rw way.memory-is remembered) c.if-may_use.branch-raw,
     )
 
-same-length-2 : tie.Need-same-length-2 invariant-loop decreases-loop
+same-length-2 : tie.Need-shape_of-memory invariant-loop decreases-loop
 same-length-2 c = search rules
 
-returns-2 : tie.Need-returns-2 invariant-loop decreases-loop
+returns-2 : tie.Need-returns invariant-loop decreases-loop
 returns-2 c =
     let at = c.before.before in
     let pre = (asked at).requires in
-    let (within, so_far, (same, remembered)) = c.before.loop.invariant in (
+    let (within, so_far, (same, remembered)) = c.before.loop-i.invariant in (
       chosen_last pre.0.indexed pre.1.0.0 pre.1.0.1 _ _ _ _ _ _ at.before.credentials.ensures.same
-          at.last-usable.ensures (omega (arith, c.loop-test.false, within)) so_far pre.1.1.1.1,
+          at.last_usable-last.ensures (omega (arith, c.loop-i-test.false, within)) so_far pre.1.1.1.1,
       remembered,
     )
 
-pub least-credential-spec : {M : Type 1} → statement M
-least-credential-spec =
+pub least_credential_spec : {M : Type 1} → statement M
+least_credential_spec =
     tie.close
     (tie.spec
     invariant-loop

@@ -4,19 +4,19 @@ use borrow.Author.Rules.{rules}
 use Rattle.choice.proofs.linked.Statement.{statement}
 use Rattle.choice.proofs.linked.Tie as tie
 
-add-credential : tie.Need-overflow-add-credential
+add-credential : tie.Need-overflow_add-j
 add-credential c = search rules
 
-credential-requires : tie.Need-credential-requires
+credential-requires : tie.Need-credential-middle-requires
 credential-requires c κs = search rules
 
-asked-cell-requires : tie.Need-asked-cell-requires
+asked-cell-requires : tie.Need-asked_cell-first-requires
 asked-cell-requires c κs = search rules
 
-link-cell-requires : tie.Need-link-cell-requires
+link-cell-requires : tie.Need-link_cell-second-requires
 link-cell-requires c κs = search rules
 
-link-asked-requires : tie.Need-link-asked-requires
+link-asked-requires : tie.Need-link_asked-requires
 link-asked-requires c κs = search rules
 
 made-requires : tie.Need-made-requires
@@ -27,11 +27,11 @@ returns c =
     let second = c.before.before in
     let first = second.before in
     let index = first.before.before.before.before.args.index in
-    made-linked _ index.now _ _ _ _ first.before.credential.ensures first.asked-cell.ensures.0
-    second.link-cell.ensures.0 _ c.before.link-asked.ensures.1 _ c.made.ensures
+    made-linked _ index.now _ _ _ _ first.before.credential-middle.ensures first.asked_cell-first.ensures.0
+    second.link_cell-second.ensures.0 _ c.before.link_asked.ensures.1 _ c.made.ensures
 
-pub linked-spec : {M : Type 1} → statement M
-linked-spec =
+pub linked_spec : {M : Type 1} → statement M
+linked_spec =
     tie.close
     (tie.spec
     add-credential

@@ -5,17 +5,17 @@ use borrow.Author.Rules.{rules}
 use Rattle.cuts.proofs.if_single.Statement.{statement}
 use Rattle.cuts.proofs.if_single.Tie as tie
 
-returns : tie.Need-returns
-returns c k = none_only _ k c.if1.true
+returns : tie.Need-returns-then-set-eq0
+returns c k = none_only _ k c.if-set-eq0.true
 
-sub-if2 : tie.Need-overflow-sub-if2
+sub-if2 : tie.Need-overflow_sub-set
 sub-if2 c = search rules
 
-returns-2 : tie.Need-returns-2
-returns-2 c k = several-only _ k c.if2.true
+returns-2 : tie.Need-returns-then-set-ne0
+returns-2 c k = several-only _ k c.if-set-ne0.true
 
-returns-3 : tie.Need-returns-3
-returns-3 c k = single-only _ k c.if2.false
+returns-3 : tie.Need-returns
+returns-3 c k = single-only _ k c.if-set-ne0.false
 
-pub if-single-spec : {M : Type 1} → statement M
-if-single-spec = tie.close (tie.spec returns sub-if2 returns-2 returns-3)
+pub if_single_spec : {M : Type 1} → statement M
+if_single_spec = tie.close (tie.spec returns sub-if2 returns-2 returns-3)

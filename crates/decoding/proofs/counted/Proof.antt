@@ -7,15 +7,15 @@ use Rattle.decoding.specs.Decoding.{most_bytes}
 use Rattle.decoding.proofs.counted.Statement.{statement}
 use Rattle.decoding.proofs.counted.Tie as tie
 
-returns : tie.Need-returns
-returns c = sym (take_all _ _ c.if1.true)
+returns : tie.Need-returns-then-bytes-le-MOST_BYTES
+returns c = sym (take_all _ _ c.if-bytes-le-MOST_BYTES.true)
 
-slice-aggregate-result : tie.Need-slice-aggregate-result
+slice-aggregate-result : tie.Need-slice_bounds-result-end
 slice-aggregate-result c =
-    let more = c.before.if1.false in
+    let more = c.before.if-bytes-le-MOST_BYTES.false in
     sym (length-take-le most_bytes c.before.before.args.bytes.now (omega arith))
 
-returns-2 : tie.Need-returns-2
+returns-2 : tie.Need-returns
 returns-2 c = search rules
 
 pub counted_spec : {M : Type 1} → statement M

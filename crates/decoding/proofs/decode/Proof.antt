@@ -8,65 +8,65 @@ use Rattle.decoding.proofs.Decoded.{Decoded, decoded-all, decoded-next, decoded-
 use Rattle.decoding.proofs.decode.Statement.{statement}
 use Rattle.decoding.proofs.decode.Tie as tie
 
-abbrev invariant-loop : tie.invariant-loop
+abbrev invariant-loop : tie.invariant-loop-i
 invariant-loop bytes numbers₀ half i₀ numbers i =
     (i ≤ half) × (half ≡ length bytes / 2) × (half ≤ length numbers₀) × (length numbers ≡ length numbers₀)
     × Decoded bytes numbers₀ numbers i
 
-abbrev decreases-loop : tie.decreases-loop
+abbrev decreases-loop : tie.decreases-loop-i
 decreases-loop bytes numbers₀ half i₀ numbers i = half - i
 
-loop-holds : tie.Need-loop-init invariant-loop decreases-loop
+loop-holds : tie.Need-loop-i-init invariant-loop decreases-loop
 loop-holds c = (omega arith, refl, omega arith, refl, decoded-none _ _)
 
-mul-number-of : tie.Need-overflow-mul-number-of invariant-loop decreases-loop
+mul-number-of : tie.Need-overflow_mul-i invariant-loop decreases-loop
 mul-number-of c = omega arith
 
-shared-slice-read-number-of : tie.Need-shared-slice-read-number-of invariant-loop decreases-loop
+shared-slice-read-number-of : tie.Need-bounds-bytes-i invariant-loop decreases-loop
 shared-slice-read-number-of c = omega arith
 
-mul-number-of-2 : tie.Need-overflow-mul-number-of-2 invariant-loop decreases-loop
+mul-number-of-2 : tie.Need-overflow_mul-i-in-loop-i invariant-loop decreases-loop
 mul-number-of-2 c = omega arith
 
-add-number-of : tie.Need-overflow-add-number-of invariant-loop decreases-loop
+add-number-of : tie.Need-overflow_add-i invariant-loop decreases-loop
 add-number-of c = omega arith
 
-shared-slice-read-number-of-2 : tie.Need-shared-slice-read-number-of-2 invariant-loop decreases-loop
+shared-slice-read-number-of-2 : tie.Need-bounds-bytes-i-in-loop-i invariant-loop decreases-loop
 shared-slice-read-number-of-2 c = omega arith
 
-number-of-requires : tie.Need-number-of-requires invariant-loop decreases-loop
+number-of-requires : tie.Need-number_of-requires invariant-loop decreases-loop
 number-of-requires c κs = tt
 
-mul-numbers : tie.Need-overflow-mul-numbers invariant-loop decreases-loop
+mul-numbers : tie.Need-offset_bounds-numbers-i invariant-loop decreases-loop
 mul-numbers c = omega arith
 
-slice-write-numbers : tie.Need-slice-write-numbers invariant-loop decreases-loop
+slice-write-numbers : tie.Need-bounds-numbers-i invariant-loop decreases-loop
 slice-write-numbers c = omega arith
 
-add-i : tie.Need-overflow-add-i invariant-loop decreases-loop
+add-i : tie.Need-overflow_add-i-in-loop-i invariant-loop decreases-loop
 add-i c = omega arith
 
-loop-less : tie.Need-loop-smaller invariant-loop decreases-loop
+loop-less : tie.Need-loop-i-smaller invariant-loop decreases-loop
 loop-less c = omega arith
 
-loop-again : tie.Need-loop-preserved invariant-loop decreases-loop
+loop-again : tie.Need-loop-i-preserved invariant-loop decreases-loop
 loop-again c =
-    let loop = c.before.before.before.before.loop in (
-      omega (arith, c.before.before.before.loop-test),
+    let loop = c.before.before.before.before.loop-i in (
+      omega (arith, c.before.before.before.loop-i-test),
       refl,
       loop.invariant.2,
       simp length-set loop.invariant.3,
-      decoded-next loop.invariant.4 _ c.before.before.before.loop-test.true (omega arith) c.number_of_lem.ensures,
+      decoded-next loop.invariant.4 _ c.before.before.before.loop-i-test.true (omega arith) c.number_of_lem.ensures,
     )
 
-same_length : tie.Need-same-length invariant-loop decreases-loop
-same_length c = c.before.loop.invariant.3
+same_length : tie.Need-shape_of-numbers invariant-loop decreases-loop
+same_length c = c.before.loop-i.invariant.3
 
 returns : tie.Need-returns invariant-loop decreases-loop
-returns c = let loop = c.before.loop in decoded-all loop.invariant.4 loop.invariant.0 c.loop-test.false
+returns c = let loop = c.before.loop-i in decoded-all loop.invariant.4 loop.invariant.0 c.loop-i-test.false
 
-pub decode-spec : {M : Type 1} → statement M
-decode-spec =
+pub decode_spec : {M : Type 1} → statement M
+decode_spec =
     tie.close
     (tie.spec
     invariant-loop

@@ -6,5 +6,5 @@ use Rattle.derivation.proofs.goal_of.Tie as tie
 returns : tie.Need-returns
 returns c = refl
 
-pub goal-of-spec : {M : Type 1} → statement M
-goal-of-spec = tie.close (tie.spec returns)
+pub goal_of_spec : {M : Type 1} → statement M
+goal_of_spec = tie.close (tie.spec returns)

@@ -4,13 +4,13 @@ use Rattle.sets.proofs.Members.{meets-not, meets-some}
 use Rattle.edges.proofs.given.Statement.{statement}
 use Rattle.edges.proofs.given.Tie as tie
 
-returns : tie.Need-returns
+returns : tie.Need-returns-then-set-from-ne0
 unfolding pick
-returns c = rw (meets-some _ _ c.if1.true)
+returns c = rw (meets-some _ _ c.if-set-from-ne0.true)
 
-returns-2 : tie.Need-returns-2
+returns-2 : tie.Need-returns
 unfolding pick
-returns-2 c = rw (meets-not _ _ c.if1.false)
+returns-2 c = rw (meets-not _ _ c.if-set-from-ne0.false)
 
-pub given-spec : {M : Type 1} → statement M
-given-spec = tie.close (tie.spec returns returns-2)
+pub given_spec : {M : Type 1} → statement M
+given_spec = tie.close (tie.spec returns returns-2)

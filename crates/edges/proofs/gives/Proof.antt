@@ -5,34 +5,34 @@ use Rattle.edges.proofs.Masks.{gives-matching, gives_none, gives_other}
 use Rattle.edges.proofs.gives.Statement.{statement}
 use Rattle.edges.proofs.gives.Tie as tie
 
-shl-given : tie.Need-overflow-shl-given
+shl-given : tie.Need-overflow_shl-edge
 shl-given c = search rules
 
-shl-given-2 : tie.Need-overflow-shl-given-2
+shl-given-2 : tie.Need-overflow_shl-edge-2
 shl-given-2 c = search rules
 
-given-requires : tie.Need-given-requires
+given-requires : tie.Need-given-to-requires
 given-requires c κs = search rules
 
-returns : tie.Need-returns
+returns : tie.Need-returns-then-to-eq0
 returns c =
-    gives_none _ _ _ c.before.before.before.before.requires c.before.given.ensures c.if1.true
+    gives_none _ _ _ c.before.before.before.before.requires c.before.given-to.ensures c.if-to-eq0.true
 
 matches-requires : tie.Need-matches-requires
 matches-requires c κs = search rules
 
-returns-2 : tie.Need-returns-2
+returns-2 : tie.Need-returns-then-matches
 returns-2 c =
     let at = c.before.before.before in
-    let on = sym c.before.matches.ensures ∙ c.if2.true in
-    gives-matching _ _ _ at.before.before.before.requires at.given.ensures on
+    let on = sym c.before.matches.ensures ∙ c.if-matches.true in
+    gives-matching _ _ _ at.before.before.before.requires at.given-to.ensures on
 
-returns-3 : tie.Need-returns-3
+returns-3 : tie.Need-returns
 returns-3 c =
     let at = c.before.before.before in
-    let off = sym c.before.matches.ensures ∙ c.if2.false in
-    gives_other _ _ _ at.before.before.before.requires at.given.ensures off
+    let off = sym c.before.matches.ensures ∙ c.if-matches.false in
+    gives_other _ _ _ at.before.before.before.requires at.given-to.ensures off
 
-pub gives-spec : {M : Type 1} → statement M
-gives-spec =
+pub gives_spec : {M : Type 1} → statement M
+gives_spec =
     tie.close (tie.spec shl-given shl-given-2 given-requires returns matches-requires returns-2 returns-3)

@@ -5,18 +5,18 @@ use Rattle.sets.specs.Logic.{pick}
 use Rattle.entering.proofs.after_node.Statement.{statement}
 use Rattle.entering.proofs.after_node.Tie as tie
 
-returns : tie.Need-returns
+returns : tie.Need-returns-then-len-ne0
 unfolding pick
-returns c = let more = ne_eqb _ 0 c.if1.true in (rw more, rw more)
+returns c = let more = ne_eqb _ 0 c.if-len-ne0.true in (rw more, rw more)
 
-accepting-requires : tie.Need-accepting-requires
+accepting-requires : tie.Need-accepting-accepting-requires
 accepting-requires c κs = search rules
 
-returns-2 : tie.Need-returns-2
+returns-2 : tie.Need-returns
 unfolding pick
 returns-2 c =
-    let ends = eq-eqb _ 0 c.before.if1.false in
-    (rw (ends, c.accepting.ensures), rw (ends, c.accepting.ensures))
+    let ends = eq-eqb _ 0 c.before.if-len-ne0.false in
+    (rw (ends, c.accepting-accepting.ensures), rw (ends, c.accepting-accepting.ensures))
 
-pub after-node-spec : {M : Type 1} → statement M
-after-node-spec = tie.close (tie.spec returns accepting-requires returns-2)
+pub after_node_spec : {M : Type 1} → statement M
+after_node_spec = tie.close (tie.spec returns accepting-requires returns-2)

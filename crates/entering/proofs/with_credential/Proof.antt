@@ -6,7 +6,7 @@ use Rattle.entering.proofs.with_credential.Tie as tie
 wide-requires : tie.Need-wide-requires
 wide-requires c κs = search rules
 
-sub-with : tie.Need-overflow-sub-with
+sub-with : tie.Need-overflow_sub-wide
 sub-with c = search rules
 
 with-requires : tie.Need-with-requires
@@ -15,5 +15,5 @@ with-requires c κs = search rules
 returns : tie.Need-returns
 returns c = rw (← c.before.wide.ensures.0) c.with.ensures
 
-pub with-credential-spec : {M : Type 1} → statement M
-with-credential-spec = tie.close (tie.spec wide-requires sub-with with-requires returns)
+pub with_credential_spec : {M : Type 1} → statement M
+with_credential_spec = tie.close (tie.spec wide-requires sub-with with-requires returns)

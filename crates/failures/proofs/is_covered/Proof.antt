@@ -8,53 +8,53 @@ use borrow.Author.Rules.{rules}
 use Rattle.failures.proofs.is_covered.Statement.{statement}
 use Rattle.failures.proofs.is_covered.Tie as tie
 
-abbrev invariant-loop : tie.invariant-loop
+abbrev invariant-loop : tie.invariant-loop-r
 invariant-loop memory k above from r₀ r = (r ≤ most_credentials) × CoveredTo memory k above r
 
-abbrev decreases-loop : tie.decreases-loop
+abbrev decreases-loop : tie.decreases-loop-r
 decreases-loop memory k above from r₀ r = most_credentials - r
 
-mul-from : tie.Need-overflow-mul-from invariant-loop decreases-loop
+mul-from : tie.Need-overflow_mul-from invariant-loop decreases-loop
 mul-from c = search rules
 
-add-from : tie.Need-overflow-add-from invariant-loop decreases-loop
+add-from : tie.Need-overflow_add-from invariant-loop decreases-loop
 add-from c = search rules
 
-loop-holds : tie.Need-loop-init invariant-loop decreases-loop
+loop-holds : tie.Need-loop-r-init invariant-loop decreases-loop
 loop-holds c = (omega arith, covered_none _ _ _)
 
-add-blocking : tie.Need-overflow-add-blocking invariant-loop decreases-loop
+add-blocking : tie.Need-overflow_add-blocking invariant-loop decreases-loop
 add-blocking c = search rules
 
-mul-blocking : tie.Need-overflow-mul-blocking invariant-loop decreases-loop
+mul-blocking : tie.Need-offset_bounds-memory-from invariant-loop decreases-loop
 mul-blocking c = search rules
 
-shared-slice-read-blocking : tie.Need-shared-slice-read-blocking invariant-loop decreases-loop
+shared-slice-read-blocking : tie.Need-bounds-memory-from invariant-loop decreases-loop
 shared-slice-read-blocking c = search rules
 
-mul-if1 : tie.Need-overflow-mul-if1 invariant-loop decreases-loop
+mul-if1 : tie.Need-offset_bounds-above-r invariant-loop decreases-loop
 mul-if1 c = search rules
 
-element-copy-out-if1 : tie.Need-element-copy-out-if1 invariant-loop decreases-loop
+element-copy-out-if1 : tie.Need-bounds-above-r invariant-loop decreases-loop
 element-copy-out-if1 c = search rules
 
-returns : tie.Need-returns invariant-loop decreases-loop
+returns : tie.Need-returns-then-blocking-above invariant-loop decreases-loop
 returns c = λ wrong. absurd (false-true wrong)
 
-add_r : tie.Need-overflow-add-r invariant-loop decreases-loop
+add_r : tie.Need-overflow_add-r invariant-loop decreases-loop
 add_r c = search rules
 
-loop-less : tie.Need-loop-smaller invariant-loop decreases-loop
+loop-less : tie.Need-loop-r-smaller invariant-loop decreases-loop
 loop-less c = search rules
 
-loop-again : tie.Need-loop-preserved invariant-loop decreases-loop
-loop-again c = (omega arith, covered_next _ _ _ _ c.before.before.before.before.loop.invariant.1 c.if1.false)
+loop-again : tie.Need-loop-r-preserved invariant-loop decreases-loop
+loop-again c = (omega arith, covered_next _ _ _ _ c.before.before.before.before.loop-r.invariant.1 c.if-blocking-above.false)
 
-returns-2 : tie.Need-returns-2 invariant-loop decreases-loop
-returns-2 c = λ told r l. c.before.loop.invariant.1.each r (omega arith)
+returns-2 : tie.Need-returns invariant-loop decreases-loop
+returns-2 c = λ told r l. c.before.loop-r.invariant.1.each r (omega arith)
 
-pub is-covered-spec : {M : Type 1} → statement M
-is-covered-spec =
+pub is_covered_spec : {M : Type 1} → statement M
+is_covered_spec =
     tie.close
     (tie.spec
     invariant-loop

@@ -7,63 +7,63 @@ use borrow.Author.Rules.{rules}
 use Rattle.failures.proofs.keep.Statement.{statement}
 use Rattle.failures.proofs.keep.Tie as tie
 
-mul_at : tie.Need-overflow-mul-at
+mul_at : tie.Need-overflow_mul-at
 mul_at c = search rules
 
-cast-memory : tie.Need-overflow-cast-memory
+cast-memory : tie.Need-overflow_cast-memory
 cast-memory c = search rules
 
-mul-memory : tie.Need-overflow-mul-memory
+mul-memory : tie.Need-offset_bounds-memory-at
 mul-memory c = search rules
 
-slice-write-memory : tie.Need-slice-write-memory
+slice-write-memory : tie.Need-bounds-memory-at
 slice-write-memory c = search rules
 
-cast-memory-2 : tie.Need-overflow-cast-memory-2
+cast-memory-2 : tie.Need-overflow_cast-memory-2
 cast-memory-2 c = search rules
 
-add-memory : tie.Need-overflow-add-memory
+add-memory : tie.Need-overflow_add-memory
 add-memory c = search rules
 
-mul-memory-2 : tie.Need-overflow-mul-memory-2
+mul-memory-2 : tie.Need-offset_bounds-memory-at-2
 mul-memory-2 c = search rules
 
-slice-write-memory-2 : tie.Need-slice-write-memory-2
+slice-write-memory-2 : tie.Need-bounds-memory-at-2
 slice-write-memory-2 c = simp length-set (omega arith)
 
-cast-memory-3 : tie.Need-overflow-cast-memory-3
+cast-memory-3 : tie.Need-overflow_cast-memory-3
 cast-memory-3 c = search rules
 
-add-memory-2 : tie.Need-overflow-add-memory-2
+add-memory-2 : tie.Need-overflow_add-memory-2
 add-memory-2 c = search rules
 
-mul-memory-3 : tie.Need-overflow-mul-memory-3
+mul-memory-3 : tie.Need-offset_bounds-memory-at-3
 mul-memory-3 c = search rules
 
-slice-write-memory-3 : tie.Need-slice-write-memory-3
+slice-write-memory-3 : tie.Need-bounds-memory-at-3
 slice-write-memory-3 c = simp length-set (omega arith)
 
-put-states-requires : tie.Need-put-states-requires
+put-states-requires : tie.Need-put_states-requires
 put-states-requires c κs = search rules
 
-put-blocking-requires : tie.Need-put-blocking-requires
+put-blocking-requires : tie.Need-put_blocking-requires
 put-blocking-requires c κs =
     let pre = c.before.before.before.before.before.before.requires.0 in
-    rw c.before.before.before.put-states.ensures.room (simp length-set pre)
+    rw c.before.before.before.put_states.ensures.room (simp length-set pre)
 
-put-family-requires : tie.Need-put-family-requires
+put-family-requires : tie.Need-put_family-requires
 put-family-requires c κs =
     let blocking = c.before.before.before in
     let states = blocking.before.before.before.before in
     let pre = states.before.before.before.requires.0 in
-    rw (blocking.put-blocking.ensures.room, states.put-states.ensures.room) (simp length-set pre)
+    rw (blocking.put_blocking.ensures.room, states.put_states.ensures.room) (simp length-set pre)
 
-same_length : tie.Need-same-length
+same_length : tie.Need-shape_of-memory
 same_length c =
     let family = c.before.before in
     let blocking = family.before.before.before.before in
     let states = blocking.before.before.before.before in
-    family.put-family.ensures.room ∙ blocking.put-blocking.ensures.room ∙ states.put-states.ensures.room ∙ simp length-set
+    family.put_family.ensures.room ∙ blocking.put_blocking.ensures.room ∙ states.put_states.ensures.room ∙ simp length-set
 
 returns : tie.Need-returns
 returns c =
@@ -71,8 +71,8 @@ returns c =
     let blocking = family.before.before.before.before in
     let states = blocking.before.before.before.before in
     let pre = states.before.before.before.requires.0 in
-    kept _ _ _ _ _ _ _ _ _ _ _ _ (head-written _ _ _ _ _ pre) states.put-states.ensures
-    blocking.put-blocking.ensures family.put-family.ensures
+    kept _ _ _ _ _ _ _ _ _ _ _ _ (head-written _ _ _ _ _ pre) states.put_states.ensures
+    blocking.put_blocking.ensures family.put_family.ensures
 
 pub keep_spec : {M : Type 1} → statement M
 keep_spec =

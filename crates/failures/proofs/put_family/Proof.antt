@@ -10,53 +10,53 @@ use borrow.Author.Rules.{rules}
 use Rattle.failures.proofs.put_family.Statement.{statement}
 use Rattle.failures.proofs.put_family.Tie as tie
 
-abbrev invariant-loop : tie.invariant-loop
+abbrev invariant-loop : tie.invariant-loop-j
 invariant-loop memory₀ k found from j₀ memory j = (j ≤ family_words) × Written (family_cell k 0) j found.words memory₀ memory
 
-abbrev decreases-loop : tie.decreases-loop
+abbrev decreases-loop : tie.decreases-loop-j
 decreases-loop memory₀ k found from j₀ memory j = family_words - j
 
-mul-from : tie.Need-overflow-mul-from invariant-loop decreases-loop
+mul-from : tie.Need-overflow_mul-from invariant-loop decreases-loop
 mul-from c = search rules
 
-add-from : tie.Need-overflow-add-from invariant-loop decreases-loop
+add-from : tie.Need-overflow_add-from invariant-loop decreases-loop
 add-from c = search rules
 
-loop-holds : tie.Need-loop-init invariant-loop decreases-loop
+loop-holds : tie.Need-loop-j-init invariant-loop decreases-loop
 loop-holds c = (omega arith, written_none _ _ _)
 
-mul-memory : tie.Need-overflow-mul-memory invariant-loop decreases-loop
+mul-memory : tie.Need-offset_bounds-found-j invariant-loop decreases-loop
 mul-memory c = search rules
 
-element-copy-out-memory : tie.Need-element-copy-out-memory invariant-loop decreases-loop
+element-copy-out-memory : tie.Need-bounds-found-j invariant-loop decreases-loop
 element-copy-out-memory c = search rules
 
-add-memory : tie.Need-overflow-add-memory invariant-loop decreases-loop
+add-memory : tie.Need-overflow_add-memory invariant-loop decreases-loop
 add-memory c = search rules
 
-mul-memory-2 : tie.Need-overflow-mul-memory-2 invariant-loop decreases-loop
+mul-memory-2 : tie.Need-offset_bounds-memory-from invariant-loop decreases-loop
 mul-memory-2 c = search rules
 
-slice-write-memory : tie.Need-slice-write-memory invariant-loop decreases-loop
-slice-write-memory c = omega (arith, c.before.before.loop.invariant.1.room)
+slice-write-memory : tie.Need-bounds-memory-from invariant-loop decreases-loop
+slice-write-memory c = omega (arith, c.before.before.loop-j.invariant.1.room)
 
-add-j : tie.Need-overflow-add-j invariant-loop decreases-loop
+add-j : tie.Need-overflow_add-j invariant-loop decreases-loop
 add-j c = search rules
 
-loop-less : tie.Need-loop-smaller invariant-loop decreases-loop
+loop-less : tie.Need-loop-j-smaller invariant-loop decreases-loop
 loop-less c = search rules
 
-loop-again : tie.Need-loop-preserved invariant-loop decreases-loop
-loop-again c = (omega arith, written_next _ _ _ _ _ _ _ c.before.before.loop.invariant.1 refl (omega arith) refl)
+loop-again : tie.Need-loop-j-preserved invariant-loop decreases-loop
+loop-again c = (omega arith, written_next _ _ _ _ _ _ _ c.before.before.loop-j.invariant.1 refl (omega arith) refl)
 
-same_length : tie.Need-same-length invariant-loop decreases-loop
-same_length c = c.before.loop.invariant.1.room
+same_length : tie.Need-shape_of-memory invariant-loop decreases-loop
+same_length c = c.before.loop-j.invariant.1.room
 
 returns : tie.Need-returns invariant-loop decreases-loop
-returns c = let all : c.before.loop.j ≡ family_words = omega arith in rw all at c.before.loop.invariant.1
+returns c = let all : c.before.loop-j.j ≡ family_words = omega arith in rw all at c.before.loop-j.invariant.1
 
-pub put-family-spec : {M : Type 1} → statement M
-put-family-spec =
+pub put_family_spec : {M : Type 1} → statement M
+put_family_spec =
     tie.close
     (tie.spec
     invariant-loop

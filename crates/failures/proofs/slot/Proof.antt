@@ -17,61 +17,61 @@ sum_fits sum set small few = record { fits = omega (arith, few.fits) }
 masked : (x count : ℕ) → 0 < count → bit_and x (count - 1) < count
 masked x count some = omega (arith, and_le_r x (count - 1))
 
-abbrev invariant-loop : tie.invariant-loop
+abbrev invariant-loop : tie.invariant-loop-j
 invariant-loop person place states count sum₀ j₀ sum j = (j ≤ most_automata) × (sum < 2097152)
 
-abbrev decreases-loop : tie.decreases-loop
+abbrev decreases-loop : tie.decreases-loop-j
 decreases-loop person place states count sum₀ j₀ sum j = most_automata - j
 
-mul-sum : tie.Need-overflow-mul-sum invariant-loop decreases-loop
+mul-sum : tie.Need-overflow_mul-sum invariant-loop decreases-loop
 mul-sum c = search rules
 
-add-sum : tie.Need-overflow-add-sum invariant-loop decreases-loop
+add-sum : tie.Need-overflow_add-sum invariant-loop decreases-loop
 add-sum c = search rules
 
-loop-holds : tie.Need-loop-init invariant-loop decreases-loop
+loop-holds : tie.Need-loop-j-init invariant-loop decreases-loop
 loop-holds c = (omega arith, omega arith)
 
-mul-sum-2 : tie.Need-overflow-mul-sum-2 invariant-loop decreases-loop
+mul-sum-2 : tie.Need-overflow_mul-sum-in-loop-j invariant-loop decreases-loop
 mul-sum-2 c = search rules
 
-mul-sum-3 : tie.Need-overflow-mul-sum-3 invariant-loop decreases-loop
+mul-sum-3 : tie.Need-offset_bounds-states-j invariant-loop decreases-loop
 mul-sum-3 c = search rules
 
-element-copy-out-sum : tie.Need-element-copy-out-sum invariant-loop decreases-loop
+element-copy-out-sum : tie.Need-bounds-states-j invariant-loop decreases-loop
 element-copy-out-sum c = search rules
 
-cast-sum : tie.Need-overflow-cast-sum invariant-loop decreases-loop
+cast-sum : tie.Need-overflow_cast-sum invariant-loop decreases-loop
 cast-sum c = search rules
 
-add-sum-2 : tie.Need-overflow-add-sum-2 invariant-loop decreases-loop
-add-sum-2 c = sum_fits _ _ c.before.before.loop.invariant.1 (search rules)
+add-sum-2 : tie.Need-overflow_add-sum-in-loop-j invariant-loop decreases-loop
+add-sum-2 c = sum_fits _ _ c.before.before.loop-j.invariant.1 (search rules)
 
-add-j : tie.Need-overflow-add-j invariant-loop decreases-loop
+add-j : tie.Need-overflow_add-j invariant-loop decreases-loop
 add-j c = search rules
 
-loop-less : tie.Need-loop-smaller invariant-loop decreases-loop
+loop-less : tie.Need-loop-j-smaller invariant-loop decreases-loop
 loop-less c = search rules
 
-loop-again : tie.Need-loop-preserved invariant-loop decreases-loop
+loop-again : tie.Need-loop-j-preserved invariant-loop decreases-loop
 loop-again c = (omega arith, omega arith)
 
-add-result : tie.Need-overflow-add-result invariant-loop decreases-loop
+add-result : tie.Need-overflow_add-result invariant-loop decreases-loop
 add-result c = search rules
 
-add-result-2 : tie.Need-overflow-add-result-2 invariant-loop decreases-loop
+add-result-2 : tie.Need-overflow_add-result-2 invariant-loop decreases-loop
 add-result-2 c = search rules
 
-sub-result : tie.Need-overflow-sub-result invariant-loop decreases-loop
+sub-result : tie.Need-overflow_sub-result invariant-loop decreases-loop
 sub-result c = search rules
 
 returns : tie.Need-returns invariant-loop decreases-loop
 returns c =
-    let sum = c.before.loop.sum in
+    let sum = c.before.loop-j.sum in
     masked (sum + sum / 128 + sum / 128 / 128) _ c.before.before.requires.1
 
-pub slot-spec : {M : Type 1} → statement M
-slot-spec =
+pub slot_spec : {M : Type 1} → statement M
+slot_spec =
     tie.close
     (tie.spec
     invariant-loop

@@ -7,37 +7,37 @@ use borrow.Author.Rules.{rules}
 use Rattle.failures.proofs.without.Statement.{statement}
 use Rattle.failures.proofs.without.Tie as tie
 
-mul-others : tie.Need-overflow-mul-others
+mul-others : tie.Need-offset_bounds-all-place
 mul-others c = search rules
 
-element-copy-out-others : tie.Need-element-copy-out-others
+element-copy-out-others : tie.Need-bounds-all-place
 element-copy-out-others c = search rules
 
 has-requires : tie.Need-has-requires
 has-requires c κs = search rules
 
-returns : tie.Need-returns
-returns c = spared-none _ _ _ (failed c.before.has.ensures c.if1.true)
+returns : tie.Need-returns-then-not-has
+returns c = spared-none _ _ _ (failed c.before.has.ensures c.if-not-has.true)
 
-cast-persons : tie.Need-overflow-cast-persons
+cast-persons : tie.Need-overflow_cast-persons
 cast-persons c = search rules
 
-shl-persons : tie.Need-overflow-shl-persons
+shl-persons : tie.Need-overflow_shl-persons
 shl-persons c = search rules
 
-mul-persons : tie.Need-overflow-mul-persons
+mul-persons : tie.Need-offset_bounds-persons-place
 mul-persons c = search rules
 
-array-write-persons : tie.Need-array-write-persons
+array-write-persons : tie.Need-bounds-persons-place
 array-write-persons c = search rules
 
-returns-2 : tie.Need-returns-2
+returns-2 : tie.Need-returns
 returns-2 c =
-    let there = passed c.before.before.has.ensures c.before.if1.false in
+    let there = passed c.before.before.has.ensures c.before.if-not-has.false in
     spared-one _ _ _ (search rules) (omega arith) there _ (one_bit 32 _ (omega arith))
 
-pub without-spec : {M : Type 1} → statement M
-without-spec =
+pub without_spec : {M : Type 1} → statement M
+without_spec =
     tie.close
     (tie.spec
     mul-others

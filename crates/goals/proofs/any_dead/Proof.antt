@@ -8,5 +8,5 @@ returns : tie.Need-returns
 unfolding meets
 returns c = refl
 
-pub any-dead-spec : {M : Type 1} → statement M
-any-dead-spec = tie.close (tie.spec returns)
+pub any_dead_spec : {M : Type 1} → statement M
+any_dead_spec = tie.close (tie.spec returns)

@@ -4,10 +4,10 @@ use borrow.Author.Rules.{rules}
 use Rattle.goals.proofs.are_listed.Statement.{statement}
 use Rattle.goals.proofs.are_listed.Tie as tie
 
-row-of-requires : tie.Need-row-of-requires
+row-of-requires : tie.Need-row_of-requires
 row-of-requires c κs = search rules
 
-asked-members-requires : tie.Need-asked-members-requires
+asked-members-requires : tie.Need-asked_members-requires
 asked-members-requires c κs =
     let pre = c.before.before.before.requires in
     record {
@@ -23,8 +23,8 @@ has-requires c κs = search rules
 returns : tie.Need-returns
 returns c =
     let row = c.before.before.row_of.ensures in
-    let set = rw row at c.before.asked-members.ensures in
+    let set = rw row at c.before.asked_members.ensures in
     rw set at c.has.ensures
 
-pub are-listed-spec : {M : Type 1} → statement M
-are-listed-spec = tie.close (tie.spec row-of-requires asked-members-requires has-requires returns)
+pub are_listed_spec : {M : Type 1} → statement M
+are_listed_spec = tie.close (tie.spec row-of-requires asked-members-requires has-requires returns)

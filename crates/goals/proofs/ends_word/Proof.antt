@@ -6,49 +6,49 @@ use Rattle.goals.proofs.Testing.{and-few, other-named, word-ends, word-rejected}
 use Rattle.goals.proofs.ends_word.Statement.{statement}
 use Rattle.goals.proofs.ends_word.Tie as tie
 
-asked-cell-requires : tie.Need-asked-cell-requires
+asked-cell-requires : tie.Need-asked_cell-requires
 asked-cell-requires c κs = search rules
 
 none-requires : tie.Need-none-requires
 none-requires c κs = search rules
 
-returns : tie.Need-returns
+returns : tie.Need-returns-then-asked_cell-person
 returns c =
     let named = c.before.before in
     let args = named.before.before.before.before.args in
     let accepting = accepting_set args.table.now args.states in
-    other-named _ _ named.asked-cell.ensures.0 args.terms.constraints args.terms.owed accepting _
-    c.before.if1.true c.none.ensures
+    other-named _ _ named.asked_cell.ensures.0 args.terms.constraints args.terms.owed accepting _
+    c.before.if-asked_cell-person.true c.none.ensures
 
-accepting-requires : tie.Need-accepting-requires
+accepting-requires : tie.Need-accepting-accepting-requires
 accepting-requires c κs = search rules
 
-none-requires-2 : tie.Need-none-requires-2
+none-requires-2 : tie.Need-none-requires-then-terms-accepting
 none-requires-2 c κs = search rules
 
-returns-2 : tie.Need-returns-2
+returns-2 : tie.Need-returns-then-terms-accepting
 returns-2 c =
     let asked = c.before.before.before.before in
     let named = asked.before.before in
     let args = named.before.before.before.before.args in
     let accepting = accepting_set args.table.now args.states in
-    word-rejected _ _ named.asked-cell.ensures.0 args.terms.constraints args.terms.owed accepting _
-    asked.before.if1.false asked.accepting.ensures c.before.if2.true c.none2.ensures
+    word-rejected _ _ named.asked_cell.ensures.0 args.terms.constraints args.terms.owed accepting _
+    asked.before.if-asked_cell-person.false asked.accepting-accepting.ensures c.before.if-terms-accepting.true c.none-then-terms-accepting.ensures
 
 only-requires : tie.Need-only-requires
 only-requires c κs = and-few _ _ c.before.before.before.before.before.before.before.before.before.before.requires.1.1.1.1
 
-returns-3 : tie.Need-returns-3
+returns-3 : tie.Need-returns
 returns-3 c =
     let asked = c.before.before.before.before.before in
     let named = asked.before.before in
     let args = named.before.before.before.before.args in
     let accepting = accepting_set args.table.now args.states in
-    word-ends _ _ named.asked-cell.ensures.0 args.terms.constraints args.terms.owed accepting _
-    asked.before.if1.false asked.accepting.ensures c.before.before.if2.false c.only.ensures
+    word-ends _ _ named.asked_cell.ensures.0 args.terms.constraints args.terms.owed accepting _
+    asked.before.if-asked_cell-person.false asked.accepting-accepting.ensures c.before.before.if-terms-accepting.false c.only.ensures
 
-pub ends-word-spec : {M : Type 1} → statement M
-ends-word-spec =
+pub ends_word_spec : {M : Type 1} → statement M
+ends_word_spec =
     tie.close
     (tie.spec
     asked-cell-requires

@@ -13,50 +13,50 @@ use borrow.Author.Rules.{rules}
 use Rattle.goals.proofs.is_asked_before.Statement.{statement}
 use Rattle.goals.proofs.is_asked_before.Tie as tie
 
-abbrev invariant-loop : tie.invariant-loop
+abbrev invariant-loop : tie.invariant-loop-j
 invariant-loop index i k place j₀ j =
     (j ≤ k) × (any_below (λ j. eqb (get_or index (asked_cell i j) 0) (get_or index (asked_cell i k) 0)) j ≡ false)
 
-abbrev decreases-loop : tie.decreases-loop
+abbrev decreases-loop : tie.decreases-loop-j
 decreases-loop index i k place j₀ j = k - j
 
-asked-cell-requires : tie.Need-asked-cell-requires invariant-loop decreases-loop
+asked-cell-requires : tie.Need-asked_cell-place-requires invariant-loop decreases-loop
 asked-cell-requires c κs = search rules
 
-loop-holds : tie.Need-loop-init invariant-loop decreases-loop
+loop-holds : tie.Need-loop-j-init invariant-loop decreases-loop
 unfolding any_below
 loop-holds c = (omega arith, refl)
 
-asked-cell-requires-2 : tie.Need-asked-cell-requires-2 invariant-loop decreases-loop
+asked-cell-requires-2 : tie.Need-asked_cell-requires invariant-loop decreases-loop
 asked-cell-requires-2 c κs = search rules
 
-returns : tie.Need-returns invariant-loop decreases-loop
+returns : tie.Need-returns-then-asked_cell-place invariant-loop decreases-loop
 returns c =
     let loop = c.before.before in
-    let place = loop.before.before.asked-cell.ensures.0 in
-    asked_here _ _ _ _ loop.loop-test.true (sym c.before.asked-cell2.ensures.0 ∙ c.if1.true ∙ place)
+    let place = loop.before.before.asked_cell-place.ensures.0 in
+    asked_here _ _ _ _ loop.loop-j-test.true (sym c.before.asked_cell.ensures.0 ∙ c.if-asked_cell-place.true ∙ place)
 
-add-j : tie.Need-overflow-add-j invariant-loop decreases-loop
+add-j : tie.Need-overflow_add-j invariant-loop decreases-loop
 add-j c = search rules
 
-loop-less : tie.Need-loop-smaller invariant-loop decreases-loop
+loop-less : tie.Need-loop-j-smaller invariant-loop decreases-loop
 loop-less c = search rules
 
-loop-again : tie.Need-loop-preserved invariant-loop decreases-loop
+loop-again : tie.Need-loop-j-preserved invariant-loop decreases-loop
 loop-again c =
     let loop = c.before.before.before in
     let asked = loop.before in
     let args = asked.before.before.args in (
       omega arith,
-      asked-next args.index.now args.i args.k _ loop.loop.invariant.1 c.before.asked-cell2.ensures.0
-          asked.asked-cell.ensures.0 c.if1.false,
+      asked-next args.index.now args.i args.k _ loop.loop-j.invariant.1 c.before.asked_cell.ensures.0
+          asked.asked_cell-place.ensures.0 c.if-asked_cell-place.false,
     )
 
-returns-2 : tie.Need-returns-2 invariant-loop decreases-loop
-returns-2 c = asked-nowhere _ _ _ _ (omega arith) c.before.loop.invariant.1
+returns-2 : tie.Need-returns invariant-loop decreases-loop
+returns-2 c = asked-nowhere _ _ _ _ (omega arith) c.before.loop-j.invariant.1
 
-pub is-asked-before-spec : {M : Type 1} → statement M
-is-asked-before-spec =
+pub is_asked_before_spec : {M : Type 1} → statement M
+is_asked_before_spec =
     tie.close
     (tie.spec
     invariant-loop

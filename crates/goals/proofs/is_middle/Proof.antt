@@ -4,32 +4,32 @@ use borrow.Author.Rules.{rules}
 use Rattle.goals.proofs.is_middle.Statement.{statement}
 use Rattle.goals.proofs.is_middle.Tie as tie
 
-is-listed-requires : tie.Need-is-listed-requires
+is-listed-requires : tie.Need-is_listed-requires
 is-listed-requires c κs = search rules
 
-returns : tie.Need-returns
-returns c = and-missed c.before.is-listed.ensures _ c.if1.true
+returns : tie.Need-returns-then-not-is_listed
+returns c = and-missed c.before.is_listed.ensures _ c.if-not-is_listed.true
 
-is-listed-requires-2 : tie.Need-is-listed-requires-2
+is-listed-requires-2 : tie.Need-is_listed-requires-2
 is-listed-requires-2 c κs = search rules
 
-returns-2 : tie.Need-returns-2
+returns-2 : tie.Need-returns-then-not-is_listed-2
 returns-2 c =
     let at = c.before.before in
-    and-missed-second at.before.is-listed.ensures at.if1.false c.before.is-listed2.ensures _ c.if2.true
+    and-missed-second at.before.is_listed.ensures at.if-not-is_listed.false c.before.is_listed-2.ensures _ c.if-not-is_listed-2.true
 
-is-person-requires : tie.Need-is-person-requires
+is-person-requires : tie.Need-is_person-requires
 is-person-requires c κs = search rules
 
-returns-3 : tie.Need-returns-3
+returns-3 : tie.Need-returns
 returns-3 c =
     let second = c.before.before in
     let at = second.before in
-    and-third at.before.is-listed.ensures at.if1.false second.is-listed2.ensures c.before.if2.false
-    c.is-person.ensures
+    and-third at.before.is_listed.ensures at.if-not-is_listed.false second.is_listed-2.ensures c.before.if-not-is_listed-2.false
+    c.is_person.ensures
 
-pub is-middle-spec : {M : Type 1} → statement M
-is-middle-spec =
+pub is_middle_spec : {M : Type 1} → statement M
+is_middle_spec =
     tie.close
     (tie.spec
     is-listed-requires

@@ -6,5 +6,5 @@ use Rattle.goals.proofs.left_owed.Tie as tie
 returns : tie.Need-returns
 returns c = left-those _ _ c.requires
 
-pub left-owed-spec : {M : Type 1} → statement M
-left-owed-spec = tie.close (tie.spec returns)
+pub left_owed_spec : {M : Type 1} → statement M
+left_owed_spec = tie.close (tie.spec returns)

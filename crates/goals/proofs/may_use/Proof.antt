@@ -9,15 +9,15 @@ use Rattle.goals.proofs.may_use.Tie as tie
 has-requires : tie.Need-has-requires
 has-requires c κs = search rules
 
-returns : tie.Need-returns
-returns c = unallowed _ _ _ _ (failed c.before.has.ensures c.if1.true)
+returns : tie.Need-returns-then-not-has
+returns c = unallowed _ _ _ _ (failed c.before.has.ensures c.if-not-has.true)
 
-role-cell-requires : tie.Need-role-cell-requires
+role-cell-requires : tie.Need-role_cell-requires
 role-cell-requires c κs = search rules
 
-returns-2 : tie.Need-returns-2
+returns-2 : tie.Need-returns
 returns-2 c =
-    allowed-defines _ _ _ _ (passed c.before.before.has.ensures c.before.if1.false) _ c.role-cell.ensures.0
+    allowed-defines _ _ _ _ (passed c.before.before.has.ensures c.before.if-not-has.false) _ c.role_cell.ensures.0
 
-pub may-use-spec : {M : Type 1} → statement M
-may-use-spec = tie.close (tie.spec has-requires returns role-cell-requires returns-2)
+pub may_use_spec : {M : Type 1} → statement M
+may_use_spec = tie.close (tie.spec has-requires returns role-cell-requires returns-2)

@@ -4,14 +4,14 @@ use borrow.Author.Rules.{rules}
 use Rattle.goals.proofs.stepped.Statement.{statement}
 use Rattle.goals.proofs.stepped.Tie as tie
 
-returns : tie.Need-returns
-returns c = stays _ _ _ _ c.if1.true
+returns : tie.Need-returns-then-asked-eq0
+returns c = stays _ _ _ _ c.if-asked-eq0.true
 
 moved-requires : tie.Need-moved-requires
 moved-requires c κs = search rules
 
-returns-2 : tie.Need-returns-2
-returns-2 c = moves _ _ _ _ _ c.before.if1.false c.moved.ensures
+returns-2 : tie.Need-returns
+returns-2 c = moves _ _ _ _ _ c.before.if-asked-eq0.false c.moved.ensures
 
-pub stepped-spec : {M : Type 1} → statement M
-stepped-spec = tie.close (tie.spec returns moved-requires returns-2)
+pub stepped_spec : {M : Type 1} → statement M
+stepped_spec = tie.close (tie.spec returns moved-requires returns-2)

@@ -10,13 +10,13 @@ has-requires c κs = search rules
 only-requires : tie.Need-only-requires
 only-requires c κs = search rules
 
-returns : tie.Need-returns
+returns : tie.Need-returns-then-has
 returns c =
     let tested = c.before.before in
-    trimmed-one _ _ _ tested.before.requires tested.has.ensures c.before.if1.true c.only.ensures
+    trimmed-one _ _ _ tested.before.requires tested.has.ensures c.before.if-has.true c.only.ensures
 
-returns-2 : tie.Need-returns-2
+returns-2 : tie.Need-returns
 returns-2 c = trimmed-none _ _
 
-pub trimmed-spec : {M : Type 1} → statement M
-trimmed-spec = tie.close (tie.spec has-requires only-requires returns returns-2)
+pub trimmed_spec : {M : Type 1} → statement M
+trimmed_spec = tie.close (tie.spec has-requires only-requires returns returns-2)

@@ -8,16 +8,16 @@ use Rattle.indexing.proofs.asked.Tie as tie
 parts-requires : tie.Need-parts-requires
 parts-requires c κs =
     let pre = c.before.before.requires in
-    (pre.0, (pre.1.first c.if1.true, pre.1.chained c.if1.true))
+    (pre.0, (pre.1.first c.if-kind-eq-INTERSECTION_CONTAINMENT.true, pre.1.chained c.if-kind-eq-INTERSECTION_CONTAINMENT.true))
 
-returns : tie.Need-returns
-returns c = asked-parts _ _ _ c.before.if1.true c.parts.ensures
+returns : tie.Need-returns-then-kind-eq-INTERSECTION_CONTAINMENT
+returns c = asked-parts _ _ _ c.before.if-kind-eq-INTERSECTION_CONTAINMENT.true c.parts.ensures
 
-one-asked-requires : tie.Need-one-asked-requires
+one-asked-requires : tie.Need-one_asked-place-requires
 one-asked-requires c κs = search rules
 
-returns-2 : tie.Need-returns-2
-returns-2 c = asked-once _ _ _ c.one-asked.ensures
+returns-2 : tie.Need-returns
+returns-2 c = asked-once _ _ _ c.one_asked-place.ensures
 
-pub asked-spec : {M : Type 1} → statement M
-asked-spec = tie.close (tie.spec parts-requires returns one-asked-requires returns-2)
+pub asked_spec : {M : Type 1} → statement M
+asked_spec = tie.close (tie.spec parts-requires returns one-asked-requires returns-2)

@@ -11,43 +11,43 @@ use borrow.Author.Rules.{rules}
 use Rattle.indexing.proofs.index.Statement.{statement}
 use Rattle.indexing.proofs.index.Tie as tie
 
-abbrev invariant-loop : tie.invariant-loop
+abbrev invariant-loop : tie.invariant-loop-i
 invariant-loop table query n index₀ i₀ index i = (i ≤ n) × Filled table index i
 
-abbrev decreases-loop : tie.decreases-loop
+abbrev decreases-loop : tie.decreases-loop-i
 decreases-loop table query n index₀ i₀ index i = n - i
 
-credentials-requires : tie.Need-credentials-requires invariant-loop decreases-loop
+credentials-requires : tie.Need-credentials-n-requires invariant-loop decreases-loop
 credentials-requires c κs = search rules
 
-loop-holds : tie.Need-loop-init invariant-loop decreases-loop
+loop-holds : tie.Need-loop-i-init invariant-loop decreases-loop
 loop-holds c = (omega arith, filled_none _)
 
-add-credential : tie.Need-overflow-add-credential invariant-loop decreases-loop
+add-credential : tie.Need-overflow_add-i invariant-loop decreases-loop
 add-credential c = search rules
 
-credential-requires : tie.Need-credential-requires invariant-loop decreases-loop
+credential-requires : tie.Need-credential-credential-requires invariant-loop decreases-loop
 credential-requires c κs = search rules
 
-slice-aggregate-put : tie.Need-slice-aggregate-put invariant-loop decreases-loop
+slice-aggregate-put : tie.Need-slice_bounds-put-end invariant-loop decreases-loop
 slice-aggregate-put c = search rules
 
-role-at-requires : tie.Need-role-at-requires invariant-loop decreases-loop
+role-at-requires : tie.Need-role_at-requires invariant-loop decreases-loop
 role-at-requires c κs = search rules
 
 asked-requires : tie.Need-asked-requires invariant-loop decreases-loop
 asked-requires c κs =
     let pre = c.before.before.before.before.before.before.before.requires in
-    (pre, whole _ pre _ (record { first = omega arith; last = omega arith }) _ c.before.before.credential.ensures)
+    (pre, whole _ pre _ (record { first = omega arith; last = omega arith }) _ c.before.before.credential-credential.ensures)
 
 put-requires : tie.Need-put-requires invariant-loop decreases-loop
 put-requires c κs =
     let asks = c.asked.ensures in (
-      record { cells = c.before.before.before.before.before.loop.invariant.1.room; there = omega arith },
-      record { defined = c.before.role-at.ensures.few; room = asks.room; each = asks.few },
+      record { cells = c.before.before.before.before.before.loop-i.invariant.1.room; there = omega arith },
+      record { defined = c.before.role_at.ensures.few; room = asks.room; each = asks.few },
     )
 
-slice-aggregate-links : tie.Need-slice-aggregate-links invariant-loop decreases-loop
+slice-aggregate-links : tie.Need-slice_bounds-links-end invariant-loop decreases-loop
 slice-aggregate-links c = search rules
 
 links-requires : tie.Need-links-requires invariant-loop decreases-loop
@@ -55,54 +55,54 @@ links-requires c κs =
     let put = c.before.before.before.before in
     let turn = put.before.before.before.before.before in
     let head = turn.before.before in
-    let room = put.put.ensures.written.room ∙ turn.before.loop.invariant.1.room in
-    let inside = turn.loop-test.true in
-    let few = head.credentials.ensures.few in
+    let room = put.put.ensures.written.room ∙ turn.before.loop-i.invariant.1.room in
+    let inside = turn.loop-i-test.true in
+    let few = head.credentials-n.ensures.few in
     (head.before.before.requires, record { cells = room; there = omega (arith, inside, few) })
 
-add-i : tie.Need-overflow-add-i invariant-loop decreases-loop
+add-i : tie.Need-overflow_add-i-in-loop-i invariant-loop decreases-loop
 add-i c = search rules
 
-loop-less : tie.Need-loop-smaller invariant-loop decreases-loop
+loop-less : tie.Need-loop-i-smaller invariant-loop decreases-loop
 loop-less c = search rules
 
-loop-again : tie.Need-loop-preserved invariant-loop decreases-loop
+loop-again : tie.Need-loop-i-preserved invariant-loop decreases-loop
 loop-again c =
     let put = c.before.before.before in
     let found = put.before.before in
     let turn = found.before.before.before.before in
     let few = turn.before.before.before.requires.sized.counted.few_credentials in
-    let read = found.before.before.credential.ensures in (
+    let read = found.before.before.credential-credential.ensures in (
       omega arith,
       filled_next _ few _ (omega arith) _ read _ _ _ _ _ put.put.ensures
-          (⊎_elim (λ w. rw w.4 (links-written _ _ _ _ _ w.2.ensures)) (λ w. rw w.1 (links-none _ _ _ _ w.0.left))
-          c.if1.branch)
-          found.role-at.ensures put.before.asked.ensures turn.loop.invariant.1,
+          (⊎_elim (λ w. rw w.index-is (links-written _ _ _ _ _ w.links.ensures)) (λ w. rw w.index-is (links-none _ _ _ _ w.if-credential-eq-LINKING_CONTAINMENT.false))
+          c.if-credential-eq-LINKING_CONTAINMENT.branch-raw)
+          found.role_at.ensures put.before.asked.ensures turn.loop-i.invariant.1,
     )
 
-role-at-requires-2 : tie.Need-role-at-requires-2 invariant-loop decreases-loop
+role-at-requires-2 : tie.Need-role_at-requires-2 invariant-loop decreases-loop
 role-at-requires-2 c κs = search rules
 
-array-write-index : tie.Need-array-write-index invariant-loop decreases-loop
+array-write-index : tie.Need-bounds-index-500 invariant-loop decreases-loop
 array-write-index c = search rules
 
-person-at-requires : tie.Need-person-at-requires invariant-loop decreases-loop
+person-at-requires : tie.Need-person_at-requires invariant-loop decreases-loop
 person-at-requires c κs = search rules
 
-array-write-index-2 : tie.Need-array-write-index-2 invariant-loop decreases-loop
+array-write-index-2 : tie.Need-bounds-index-501 invariant-loop decreases-loop
 array-write-index-2 c = search rules
 
 returns : tie.Need-returns invariant-loop decreases-loop
 returns c =
     let start = c.before.before.before.before.before.before.before.before in
-    let loop = c.before.before.before.before.before.loop in
+    let loop = c.before.before.before.before.before.loop-i in
     let all : loop.i ≡ credentials start.args.table.now = omega arith in
     let filled = rw all at loop.invariant.1 in
     let few = start.requires.sized.counted.few_credentials in
-    index-made _ _ few filled _ _ _ c.before.role-at2.ensures c.person-at.ensures
+    index-made _ _ few filled _ _ _ c.before.role_at-2.ensures c.person_at.ensures
 
-pub index-spec : {M : Type 1} → statement M
-index-spec =
+pub index_spec : {M : Type 1} → statement M
+index_spec =
     tie.close
     (tie.spec
     invariant-loop

@@ -3,11 +3,11 @@ use Rattle.indexing.proofs.Indexing.{names-by, names-not}
 use Rattle.indexing.proofs.is_naming.Statement.{statement}
 use Rattle.indexing.proofs.is_naming.Tie as tie
 
-returns : tie.Need-returns
-returns c = names-not _ _ c.if1.true
+returns : tie.Need-returns-then-c-ne-SIMPLE_MEMBERSHIP
+returns c = names-not _ _ c.if-c-ne-SIMPLE_MEMBERSHIP.true
 
-returns-2 : tie.Need-returns-2
-returns-2 c = names-by _ _ c.before.if1.false
+returns-2 : tie.Need-returns
+returns-2 c = names-by _ _ c.before.if-c-ne-SIMPLE_MEMBERSHIP.false
 
-pub is-naming-spec : {M : Type 1} → statement M
-is-naming-spec = tie.close (tie.spec returns returns-2)
+pub is_naming_spec : {M : Type 1} → statement M
+is_naming_spec = tie.close (tie.spec returns returns-2)

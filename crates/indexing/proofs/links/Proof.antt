@@ -10,65 +10,65 @@ use borrow.Author.Rules.{rules}
 use Rattle.indexing.proofs.links.Statement.{statement}
 use Rattle.indexing.proofs.links.Tie as tie
 
-abbrev invariant-loop : tie.invariant-loop
+abbrev invariant-loop : tie.invariant-loop-j
 invariant-loop table name i index₀ n j₀ index j = (j ≤ n) × Linked table name i j index₀ index
 
-abbrev decreases-loop : tie.decreases-loop
+abbrev decreases-loop : tie.decreases-loop-j
 decreases-loop table name i index₀ n j₀ index j = n - j
 
-credentials-requires : tie.Need-credentials-requires invariant-loop decreases-loop
+credentials-requires : tie.Need-credentials-n-requires invariant-loop decreases-loop
 credentials-requires c κs = search rules
 
-loop-holds : tie.Need-loop-init invariant-loop decreases-loop
+loop-holds : tie.Need-loop-j-init invariant-loop decreases-loop
 loop-holds c = (omega arith, linked-none _ _ _ _)
 
-add-credential : tie.Need-overflow-add-credential invariant-loop decreases-loop
+add-credential : tie.Need-overflow_add-j invariant-loop decreases-loop
 add-credential c = search rules
 
-credential-requires : tie.Need-credential-requires invariant-loop decreases-loop
+credential-requires : tie.Need-credential-credential-requires invariant-loop decreases-loop
 credential-requires c κs = search rules
 
-role-at-requires : tie.Need-role-at-requires invariant-loop decreases-loop
+role-at-requires : tie.Need-role_at-requires invariant-loop decreases-loop
 role-at-requires c κs = search rules
 
-mul-index : tie.Need-overflow-mul-index invariant-loop decreases-loop
+mul-index : tie.Need-overflow_mul-index invariant-loop decreases-loop
 mul-index c = search rules
 
-add-index : tie.Need-overflow-add-index invariant-loop decreases-loop
+add-index : tie.Need-overflow_add-index invariant-loop decreases-loop
 add-index c = search rules
 
-add-index-2 : tie.Need-overflow-add-index-2 invariant-loop decreases-loop
+add-index-2 : tie.Need-overflow_add-index-then-credential-eq-SIMPLE_MEMBERSHIP invariant-loop decreases-loop
 add-index-2 c = search rules
 
-slice-write-index : tie.Need-slice-write-index invariant-loop decreases-loop
+slice-write-index : tie.Need-bounds-index-i invariant-loop decreases-loop
 slice-write-index c = search rules
 
-add-j : tie.Need-overflow-add-j invariant-loop decreases-loop
+add-j : tie.Need-overflow_add-j-in-loop-j invariant-loop decreases-loop
 add-j c = search rules
 
-loop-less : tie.Need-loop-smaller invariant-loop decreases-loop
+loop-less : tie.Need-loop-j-smaller invariant-loop decreases-loop
 loop-less c = search rules
 
-loop-again : tie.Need-loop-preserved invariant-loop decreases-loop
+loop-again : tie.Need-loop-j-preserved invariant-loop decreases-loop
 loop-again c =
-    let so_far = c.before.before.before.before.loop.invariant.1 in
-    let read = c.before.before.credential.ensures in
+    let so_far = c.before.before.before.before.loop-j.invariant.1 in
+    let read = c.before.before.credential-credential.ensures in
     let room = c.before.before.before.before.before.before.before.before.requires.1 in (
       omega arith,
-      ⊎_elim (λ w. rw w.2 (linked-next _ _ _ _ _ _ so_far _ read room (omega arith) _ w.1.ensures))
-          (λ w. rw w.1 (linked-other _ _ _ _ _ _ so_far _ read w.0.left)) c.if1.branch,
+      ⊎_elim (λ w. rw w.index-is (linked-next _ _ _ _ _ _ so_far _ read room (omega arith) _ w.role_at.ensures))
+          (λ w. rw w.index-is (linked-other _ _ _ _ _ _ so_far _ read w.if-credential-eq-SIMPLE_MEMBERSHIP.false)) c.if-credential-eq-SIMPLE_MEMBERSHIP.branch-raw,
     )
 
-same_length : tie.Need-same-length invariant-loop decreases-loop
+same_length : tie.Need-shape_of-index invariant-loop decreases-loop
 same_length c = search rules
 
 returns : tie.Need-returns invariant-loop decreases-loop
 returns c =
-    let all : c.before.loop.j ≡ credentials c.before.before.before.before.before.args.table.now = omega arith in
-    rw all at c.before.loop.invariant.1
+    let all : c.before.loop-j.j ≡ credentials c.before.before.before.before.before.args.table.now = omega arith in
+    rw all at c.before.loop-j.invariant.1
 
-pub links-spec : {M : Type 1} → statement M
-links-spec =
+pub links_spec : {M : Type 1} → statement M
+links_spec =
     tie.close
     (tie.spec
     invariant-loop

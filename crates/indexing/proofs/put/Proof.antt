@@ -9,51 +9,51 @@ use borrow.Author.Rules.{rules}
 use Rattle.indexing.proofs.put.Statement.{statement}
 use Rattle.indexing.proofs.put.Tie as tie
 
-abbrev invariant-loop : tie.invariant-loop
+abbrev invariant-loop : tie.invariant-loop-k
 invariant-loop index₀ i role asked at k₀ index k = (k ≤ most_parts) × Copied i asked k index₀ index
 
-abbrev decreases-loop : tie.decreases-loop
+abbrev decreases-loop : tie.decreases-loop-k
 decreases-loop index₀ i role asked at k₀ index k = most_parts - k
 
-mul_at : tie.Need-overflow-mul-at invariant-loop decreases-loop
+mul_at : tie.Need-overflow_mul-at invariant-loop decreases-loop
 mul_at c = search rules
 
-loop-holds : tie.Need-loop-init invariant-loop decreases-loop
+loop-holds : tie.Need-loop-k-init invariant-loop decreases-loop
 loop-holds c = (omega arith, copied_none _ _ _ _ c.requires.0 c.requires.1)
 
-array-read-index : tie.Need-array-read-index invariant-loop decreases-loop
+array-read-index : tie.Need-bounds-asked-k invariant-loop decreases-loop
 array-read-index c = search rules
 
-add-index : tie.Need-overflow-add-index invariant-loop decreases-loop
+add-index : tie.Need-overflow_add-index invariant-loop decreases-loop
 add-index c = search rules
 
-add-index-2 : tie.Need-overflow-add-index-2 invariant-loop decreases-loop
+add-index-2 : tie.Need-overflow_add-index-in-loop-k invariant-loop decreases-loop
 add-index-2 c = search rules
 
-slice-write-index : tie.Need-slice-write-index invariant-loop decreases-loop
+slice-write-index : tie.Need-bounds-index-at invariant-loop decreases-loop
 slice-write-index c = search rules
 
-add-k : tie.Need-overflow-add-k invariant-loop decreases-loop
+add-k : tie.Need-overflow_add-k invariant-loop decreases-loop
 add-k c = search rules
 
-loop-less : tie.Need-loop-smaller invariant-loop decreases-loop
+loop-less : tie.Need-loop-k-smaller invariant-loop decreases-loop
 loop-less c = search rules
 
-loop-again : tie.Need-loop-preserved invariant-loop decreases-loop
+loop-again : tie.Need-loop-k-preserved invariant-loop decreases-loop
 loop-again c =
     let pre = c.before.before.requires in
-    (omega arith, copied_next _ _ _ _ pre.0 pre.1 _ _ (omega arith) c.before.loop.invariant.1)
+    (omega arith, copied_next _ _ _ _ pre.0 pre.1 _ _ (omega arith) c.before.loop-k.invariant.1)
 
-slice-write-index-2 : tie.Need-slice-write-index-2 invariant-loop decreases-loop
+slice-write-index-2 : tie.Need-bounds-index-at-2 invariant-loop decreases-loop
 slice-write-index-2 c = search rules
 
-same_length : tie.Need-same-length invariant-loop decreases-loop
-same_length c = simp length-set c.before.loop.invariant.1.written.room
+same_length : tie.Need-shape_of-index invariant-loop decreases-loop
+same_length c = simp length-set c.before.loop-k.invariant.1.written.room
 
 returns : tie.Need-returns invariant-loop decreases-loop
 returns c =
-    let all : c.before.loop.k ≡ most_parts = omega arith in
-    copied-put _ _ _ _ c.before.before.requires.0 c.before.before.requires.1 _ (rw all at c.before.loop.invariant.1)
+    let all : c.before.loop-k.k ≡ most_parts = omega arith in
+    copied-put _ _ _ _ c.before.before.requires.0 c.before.before.requires.1 _ (rw all at c.before.loop-k.invariant.1)
 
 pub put_spec : {M : Type 1} → statement M
 put_spec =

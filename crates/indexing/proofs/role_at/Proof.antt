@@ -12,57 +12,57 @@ use borrow.Author.Rules.{rules}
 use Rattle.indexing.proofs.role_at.Statement.{statement}
 use Rattle.indexing.proofs.role_at.Tie as tie
 
-abbrev invariant-loop : tie.invariant-loop
+abbrev invariant-loop : tie.invariant-loop-i
 invariant-loop table role n i₀ i = (i ≤ n) × (any_below (defines table role) i ≡ false)
 
-abbrev decreases-loop : tie.decreases-loop
+abbrev decreases-loop : tie.decreases-loop-i
 decreases-loop table role n i₀ i = n - i
 
-credentials-requires : tie.Need-credentials-requires invariant-loop decreases-loop
+credentials-requires : tie.Need-credentials-n-requires invariant-loop decreases-loop
 credentials-requires c κs = search rules
 
-loop-holds : tie.Need-loop-init invariant-loop decreases-loop
+loop-holds : tie.Need-loop-i-init invariant-loop decreases-loop
 unfolding any_below
 loop-holds c = (omega arith, refl)
 
-add-credential : tie.Need-overflow-add-credential invariant-loop decreases-loop
+add-credential : tie.Need-overflow_add-i invariant-loop decreases-loop
 add-credential c = search rules
 
-credential-requires : tie.Need-credential-requires invariant-loop decreases-loop
+credential-requires : tie.Need-credential-credential-requires invariant-loop decreases-loop
 credential-requires c κs = search rules
 
 same-requires : tie.Need-same-requires invariant-loop decreases-loop
 same-requires c κs = search rules
 
-cast-result : tie.Need-overflow-cast-result invariant-loop decreases-loop
+cast-result : tie.Need-overflow_cast-result invariant-loop decreases-loop
 cast-result c = search rules
 
-returns : tie.Need-returns invariant-loop decreases-loop
+returns : tie.Need-returns-then-same invariant-loop decreases-loop
 unfolding role_at
 returns c =
-    place_found _ _ _ (omega arith) c.before.before.before.before.loop.invariant.1 (omega arith)
-    (told-role _ _ _ c.before.before.credential.ensures _ c.before.same.ensures ∙ c.if1.true)
+    place_found _ _ _ (omega arith) c.before.before.before.before.loop-i.invariant.1 (omega arith)
+    (told-role _ _ _ c.before.before.credential-credential.ensures _ c.before.same.ensures ∙ c.if-same.true)
 
-add-i : tie.Need-overflow-add-i invariant-loop decreases-loop
+add-i : tie.Need-overflow_add-i-in-loop-i invariant-loop decreases-loop
 add-i c = search rules
 
-loop-less : tie.Need-loop-smaller invariant-loop decreases-loop
+loop-less : tie.Need-loop-i-smaller invariant-loop decreases-loop
 loop-less c = search rules
 
-loop-again : tie.Need-loop-preserved invariant-loop decreases-loop
+loop-again : tie.Need-loop-i-preserved invariant-loop decreases-loop
 loop-again c =
-    let passed = told-role _ _ _ c.before.before.credential.ensures _ c.before.same.ensures ∙ c.if1.false in
-    (omega arith, any_next _ _ c.before.before.before.before.loop.invariant.1 passed)
+    let passed = told-role _ _ _ c.before.before.credential-credential.ensures _ c.before.same.ensures ∙ c.if-same.false in
+    (omega arith, any_next _ _ c.before.before.before.before.loop-i.invariant.1 passed)
 
-cast-result-2 : tie.Need-overflow-cast-result-2 invariant-loop decreases-loop
+cast-result-2 : tie.Need-overflow_cast-result-2 invariant-loop decreases-loop
 cast-result-2 c = search rules
 
-returns-2 : tie.Need-returns-2 invariant-loop decreases-loop
+returns-2 : tie.Need-returns invariant-loop decreases-loop
 unfolding role_at
-returns-2 c = place-behind _ _ _ (omega arith) c.before.loop.invariant.1 (omega arith) _ (omega arith)
+returns-2 c = place-behind _ _ _ (omega arith) c.before.loop-i.invariant.1 (omega arith) _ (omega arith)
 
-pub role-at-spec : {M : Type 1} → statement M
-role-at-spec =
+pub role_at_spec : {M : Type 1} → statement M
+role_at_spec =
     tie.close
     (tie.spec
     invariant-loop

@@ -15,10 +15,10 @@ use Rattle.input.proofs.list_input.Tie as tie
 
 -- the places where the bytes that count are read, where they are an input, and where its numbers are decoded
 abbrev Read : Type 0
-Read = tie.After-counted
+Read = tie.After-counted-read
 
 abbrev WholeRead : Type 0
-WholeRead = tie.Else2
+WholeRead = tie.Else-half-lt-QUERY_SIZE
 
 abbrev NumbersDecoded : Type 0
 NumbersDecoded = tie.After-decode
@@ -37,7 +37,7 @@ abbrev bytes : Read → List ℕ
 bytes c = (start c).args.bytes.now
 
 abbrev counting : Read → List ℕ
-counting c = c.counted.result.now
+counting c = c.counted-read.result.now
 
 abbrev decoding : NumbersDecoded → List ℕ
 decoding c = counting (read (whole-read c))
@@ -46,57 +46,57 @@ abbrev places : NumbersDecoded → List ℕ
 places c = c.decode.new.1.0
 
 few : (c : Read) → length (counting c) / 2 ≤ 2048
-few c = read-few (bytes c) _ c.counted.ensures
+few c = read-few (bytes c) _ c.counted-read.ensures
 
 is-whole : (c : WholeRead) → is_whole (counting (read c)) ≡ true
-is-whole c = whole _ c.before.if1.false c.if2.false
+is-whole c = whole _ c.before.if-read-half.false c.if-half-lt-QUERY_SIZE.false
 
 whole_length : (c : NumbersDecoded) → length (decoding c) / 2 ≡ length (take (length (decoding c) / 2) (places c))
-whole_length c = let at = read (whole-read c) in read_length (bytes at) _ at.counted.ensures (places c) c.decode.auto.1.0
+whole_length c = let at = read (whole-read c) in read_length (bytes at) _ at.counted-read.ensures (places c) c.decode.auto.1.0
 
-counted-requires : tie.Need-counted-requires
+counted-requires : tie.Need-counted-read-requires
 counted-requires c κs = search rules
 
-mul-if1 : tie.Need-overflow-mul-if1
+mul-if1 : tie.Need-overflow_mul-half
 mul-if1 c = search rules
 
-returns : tie.Need-returns
-returns c = let at = c.before in answers-unwhole (bytes at) _ at.counted.ensures _ (odd-unwhole _ c.if1.true)
+returns : tie.Need-returns-then-read-half
+returns c = let at = c.before in answers-unwhole (bytes at) _ at.counted-read.ensures _ (odd-unwhole _ c.if-read-half.true)
 
-returns-2 : tie.Need-returns-2
+returns-2 : tie.Need-returns-then-half-lt-QUERY_SIZE
 returns-2 c =
     let at = c.before.before in
-    answers-unwhole (bytes at) _ at.counted.ensures _ (short-unwhole _ c.before.if1.false c.if2.true)
+    answers-unwhole (bytes at) _ at.counted-read.ensures _ (short-unwhole _ c.before.if-read-half.false c.if-half-lt-QUERY_SIZE.true)
 
-slice-aggregate-decode : tie.Need-slice-aggregate-decode
+slice-aggregate-decode : tie.Need-slice_bounds-decode-end
 slice-aggregate-decode c = search rules
 
 decode-requires : tie.Need-decode-requires
 decode-requires c κs = few (read c.before)
 
-array-share-prefix-numbers : tie.Need-array-share-prefix-numbers
+array-share-prefix-numbers : tie.Need-slice_bounds-numbers-end
 array-share-prefix-numbers c = let at = c.before in omega (arith, few (read (whole-read at)), at.decode.auto.1.0)
 
-slice-aggregate-list-numbers : tie.Need-slice-aggregate-list-numbers
+slice-aggregate-list-numbers : tie.Need-slice_bounds-list_numbers-end
 slice-aggregate-list-numbers c = whole_length c.before.before
 
-list-numbers-requires : tie.Need-list-numbers-requires
+list-numbers-requires : tie.Need-list_numbers-requires
 list-numbers-requires c κs =
     let at = c.before.before.before in
-    omega (arith, (whole-read at).if2.false, whole_length at)
+    omega (arith, (whole-read at).if-half-lt-QUERY_SIZE.false, whole_length at)
 
-same_length : tie.Need-same-length
+same_length : tie.Need-shape_of-sets
 same_length c = search rules
 
-returns-3 : tie.Need-returns-3
+returns-3 : tie.Need-returns
 returns-3 c =
     let at = c.before.before.before.before.before.before in
     let from = read (whole-read at) in
-    answers-whole (bytes from) _ from.counted.ensures _ _ _ _ (is-whole (whole-read at))
-    (decoded-first _ _ _ at.decode.ensures) c.before.before.list-numbers.ensures
+    answers-whole (bytes from) _ from.counted-read.ensures _ _ _ _ (is-whole (whole-read at))
+    (decoded-first _ _ _ at.decode.ensures) c.before.before.list_numbers.ensures
 
-pub list-input-spec : {M : Type 1} → statement M
-list-input-spec =
+pub list_input_spec : {M : Type 1} → statement M
+list_input_spec =
     tie.close
     (tie.spec
     counted-requires

@@ -4,10 +4,10 @@ use Rattle.input.proofs.Inputs.{lists-rest}
 use Rattle.input.proofs.list_numbers.Statement.{statement}
 use Rattle.input.proofs.list_numbers.Tie as tie
 
-query-of-requires : tie.Need-query-of-requires
+query-of-requires : tie.Need-query_of-query-requires
 query-of-requires c κs = search rules
 
-sub-list : tie.Need-overflow-sub-list
+sub-list : tie.Need-slice_bounds-list-count
 sub-list c = search rules
 
 part-list-start : tie.Need-slice-bounds-list-start
@@ -19,7 +19,7 @@ part-list-end c = search rules
 list-requires : tie.Need-list-requires
 list-requires c κs = search rules
 
-same_length : tie.Need-same-length
+same_length : tie.Need-shape_of-sets
 same_length c = search rules
 
 returns : tie.Need-returns
@@ -27,10 +27,10 @@ returns c =
     let list = c.before.before in
     let query = list.before.before.before in
     let start = query.before.before.before in
-    lists-rest start.args.numbers.now _ _ _ _ query.query-of.ensures list.list.ensures
+    lists-rest start.args.numbers.now _ _ _ _ query.query_of-query.ensures list.list.ensures
 
-pub list-numbers-spec : {M : Type 1} → statement M
-list-numbers-spec =
+pub list_numbers_spec : {M : Type 1} → statement M
+list_numbers_spec =
     tie.close
     (tie.spec
     query-of-requires

@@ -9,64 +9,64 @@ use borrow.Author.Rules.{rules}
 use Rattle.levels.proofs.fill.Statement.{statement}
 use Rattle.levels.proofs.fill.Tie as tie
 
-abbrev invariant-loop : tie.invariant-loop
+abbrev invariant-loop : tie.invariant-loop-level
 invariant-loop table index allowed depth rows₀ others level₀ rows level =
     (level ≤ depth) × Reached table index allowed others level rows
 
-abbrev decreases-loop : tie.decreases-loop
+abbrev decreases-loop : tie.decreases-loop-level
 decreases-loop table index allowed depth rows₀ others level₀ rows level = depth - level
 
-first-level-requires : tie.Need-first-level-requires invariant-loop decreases-loop
+first-level-requires : tie.Need-first_level-others-requires invariant-loop decreases-loop
 first-level-requires c κs = search rules
 
-loop-holds : tie.Need-loop-init invariant-loop decreases-loop
+loop-holds : tie.Need-loop-level-init invariant-loop decreases-loop
 loop-holds c =
     let start = c.before.before.before.before.before.before.before in
-    (omega arith, reached-first _ _ start.requires.0 start.requires.1.0 _ _ _ c.before.before.first-level.ensures)
+    (omega arith, reached-first _ _ start.requires.0 start.requires.1.0 _ _ _ c.before.before.first_level-others.ensures)
 
-copy-row-requires : tie.Need-copy-row-requires invariant-loop decreases-loop
+copy-row-requires : tie.Need-copy_row-requires invariant-loop decreases-loop
 copy-row-requires c κs = search rules
 
-next-level-requires : tie.Need-next-level-requires invariant-loop decreases-loop
+next-level-requires : tie.Need-next_level-requires invariant-loop decreases-loop
 next-level-requires c κs =
     let copy = c.before.before.before in
     let start = copy.before.before.before.before.before.before.before.before.before.before.before in
-    (start.requires.0, (start.requires.1.0, (copy.copy-row.ensures.room, omega arith)))
+    (start.requires.0, (start.requires.1.0, (copy.copy_row.ensures.room, omega arith)))
 
-same_length : tie.Need-same-length invariant-loop decreases-loop
+same_length : tie.Need-shape_of-rows-then-not-next_level invariant-loop decreases-loop
 same_length c = search rules
 
-returns : tie.Need-returns invariant-loop decreases-loop
+returns : tie.Need-returns-then-not-next_level invariant-loop decreases-loop
 returns c =
     let at = c.before.before.before.before.before.before.before.before.before.before in
-    let few : at.loop.level < most_depth = omega arith in
+    let few : at.loop-level.level < most_depth = omega arith in
     let pre = at.before.before.before.before.before.before.before.before.requires in
-    let copy = c.before.before.before.before.before.before.before.copy-row in
+    let copy = c.before.before.before.before.before.before.before.copy_row in
     let next = c.before.before.before.next_level.ensures in
-    reached-last _ _ pre.0 pre.1.0 _ _ _ _ _ _ _ few at.loop.invariant.1 copy.ensures next _ (not-true _ c.if1.true)
+    reached-last _ _ pre.0 pre.1.0 _ _ _ _ _ _ _ few at.loop-level.invariant.1 copy.ensures next _ (not-true _ c.if-not-next_level.true)
 
-add-level : tie.Need-overflow-add-level invariant-loop decreases-loop
+add-level : tie.Need-overflow_add-level invariant-loop decreases-loop
 add-level c = search rules
 
-loop-less : tie.Need-loop-smaller invariant-loop decreases-loop
+loop-less : tie.Need-loop-level-smaller invariant-loop decreases-loop
 loop-less c = search rules
 
-loop-again : tie.Need-loop-preserved invariant-loop decreases-loop
+loop-again : tie.Need-loop-level-preserved invariant-loop decreases-loop
 loop-again c =
     let at = c.before.before.before.before.before.before.before.before.before.before in
-    let few : at.loop.level < most_depth = omega arith in
+    let few : at.loop-level.level < most_depth = omega arith in
     let pre = at.before.before.before.before.before.before.before.before.requires in
-    let copy = c.before.before.before.before.before.before.before.copy-row in
+    let copy = c.before.before.before.before.before.before.before.copy_row in
     let next = c.before.before.before.next_level.ensures in
-    (omega arith, reached-next _ _ pre.0 pre.1.0 _ _ _ _ _ _ _ few at.loop.invariant.1 copy.ensures next)
+    (omega arith, reached-next _ _ pre.0 pre.1.0 _ _ _ _ _ _ _ few at.loop-level.invariant.1 copy.ensures next)
 
-same-length-2 : tie.Need-same-length-2 invariant-loop decreases-loop
+same-length-2 : tie.Need-shape_of-rows invariant-loop decreases-loop
 same-length-2 c = search rules
 
-returns-2 : tie.Need-returns-2 invariant-loop decreases-loop
+returns-2 : tie.Need-returns invariant-loop decreases-loop
 returns-2 c =
     let start = c.before.before.before.before.before.before.before.before.before in
-    let loop = c.before.loop in
+    let loop = c.before.loop-level in
     reached-all _ _ start.requires.0 start.requires.1.0 _ _ _ _ _ (omega arith) (omega arith) loop.invariant.1
 
 pub fill_spec : {M : Type 1} → statement M

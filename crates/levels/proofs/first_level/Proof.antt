@@ -10,16 +10,16 @@ use borrow.Author.Rules.{rules}
 use Rattle.levels.proofs.first_level.Statement.{statement}
 use Rattle.levels.proofs.first_level.Tie as tie
 
-abbrev invariant-loop : tie.invariant-loop
+abbrev invariant-loop : tie.invariant-loop-i
 invariant-loop table index allowed rows₀ n others₀ i₀ rows others i = (i ≤ n) × FirstLevel table index allowed i rows others
 
-abbrev decreases-loop : tie.decreases-loop
+abbrev decreases-loop : tie.decreases-loop-i
 decreases-loop table index allowed rows₀ n others₀ i₀ rows others i = n - i
 
-credentials-requires : tie.Need-credentials-requires invariant-loop decreases-loop
+credentials-requires : tie.Need-credentials-n-requires invariant-loop decreases-loop
 credentials-requires c κs = search rules
 
-loop-holds : tie.Need-loop-init invariant-loop decreases-loop
+loop-holds : tie.Need-loop-i-init invariant-loop decreases-loop
 loop-holds c =
     let start = c.before.before.before.before in
     (omega arith, first-starts _ _ _ _ start.requires.1.1.0 start.requires.1.1.1)
@@ -27,48 +27,48 @@ loop-holds c =
 has-requires : tie.Need-has-requires invariant-loop decreases-loop
 has-requires c κs = search rules
 
-add-credential : tie.Need-overflow-add-credential invariant-loop decreases-loop
+add-credential : tie.Need-overflow_add-i invariant-loop decreases-loop
 add-credential c = search rules
 
-credential-requires : tie.Need-credential-requires invariant-loop decreases-loop
+credential-requires : tie.Need-credential-credential-requires invariant-loop decreases-loop
 credential-requires c κs = search rules
 
-role-cell-requires : tie.Need-role-cell-requires invariant-loop decreases-loop
+role-cell-requires : tie.Need-role_cell-cell-requires invariant-loop decreases-loop
 role-cell-requires c κs = search rules
 
-add-cell : tie.Need-overflow-add-cell invariant-loop decreases-loop
+add-cell : tie.Need-overflow_add-cell invariant-loop decreases-loop
 add-cell c = search rules
 
-mul-with : tie.Need-overflow-mul-with invariant-loop decreases-loop
+mul-with : tie.Need-offset_bounds-rows-cell invariant-loop decreases-loop
 mul-with c = search rules
 
-slice-read-with : tie.Need-slice-read-with invariant-loop decreases-loop
+slice-read-with : tie.Need-bounds-rows-cell invariant-loop decreases-loop
 slice-read-with c = search rules
 
-asked-cell-requires : tie.Need-asked-cell-requires invariant-loop decreases-loop
+asked-cell-requires : tie.Need-asked_cell-requires invariant-loop decreases-loop
 asked-cell-requires c κs = search rules
 
 with-requires : tie.Need-with-requires invariant-loop decreases-loop
 with-requires c κs = search rules
 
-mul-rows : tie.Need-overflow-mul-rows invariant-loop decreases-loop
+mul-rows : tie.Need-offset_bounds-rows-cell-then-credential-eq-SIMPLE_MEMBERSHIP invariant-loop decreases-loop
 mul-rows c = search rules
 
-slice-write-rows : tie.Need-slice-write-rows invariant-loop decreases-loop
+slice-write-rows : tie.Need-bounds-rows-cell-then-credential-eq-SIMPLE_MEMBERSHIP invariant-loop decreases-loop
 slice-write-rows c = search rules
 
-with-requires-2 : tie.Need-with-requires-2 invariant-loop decreases-loop
+with-requires-2 : tie.Need-with-others-requires invariant-loop decreases-loop
 with-requires-2 c κs = search rules
 
-add-i : tie.Need-overflow-add-i invariant-loop decreases-loop
+add-i : tie.Need-overflow_add-i-in-loop-i invariant-loop decreases-loop
 add-i c = search rules
 
-loop-less : tie.Need-loop-smaller invariant-loop decreases-loop
+loop-less : tie.Need-loop-i-smaller invariant-loop decreases-loop
 loop-less c = search rules
 
-loop-again : tie.Need-loop-preserved invariant-loop decreases-loop
+loop-again : tie.Need-loop-i-preserved invariant-loop decreases-loop
 loop-again c =
-    let so_far = c.before.before.before.loop.invariant.1 in
+    let so_far = c.before.before.before.loop-i.invariant.1 in
     let told = sym c.before.has.ensures in (
       omega arith,
       three_ways
@@ -77,21 +77,21 @@ loop-again c =
           w.4.ensures.1 w.6.ensures.0 _ w.7.ensures))
           (λ w. first-is _ _ _ _ _ _ _ _ w.5 (w.6 ∙ w.4.ensures)
           (first-other _ _ _ _ _ _ so_far _ w.1.ensures (told ∙ w.0.taken) w.3.left))
-          (λ w. first-is _ _ _ _ _ _ _ _ w.1 w.2 (first-outside _ _ _ _ _ _ so_far (told ∙ w.0.left))) c.if1.branch,
+          (λ w. first-is _ _ _ _ _ _ _ _ w.rows-is w.others-is (first-outside _ _ _ _ _ _ so_far (told ∙ w.if-has.false))) c.if-has.branch-raw,
     )
 
-same_length : tie.Need-same-length invariant-loop decreases-loop
+same_length : tie.Need-shape_of-rows invariant-loop decreases-loop
 same_length c = search rules
 
 returns : tie.Need-returns invariant-loop decreases-loop
 returns c =
     let start = c.before.before.before.before.before.before in
-    let loop = c.before.loop in
+    let loop = c.before.loop-i in
     let all : loop.i ≡ credentials start.args.table.now = omega arith in
     rw all at loop.invariant.1
 
-pub first-level-spec : {M : Type 1} → statement M
-first-level-spec =
+pub first_level_spec : {M : Type 1} → statement M
+first_level_spec =
     tie.close
     (tie.spec
     invariant-loop

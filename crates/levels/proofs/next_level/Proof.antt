@@ -10,70 +10,70 @@ use borrow.Author.Rules.{rules}
 use Rattle.levels.proofs.next_level.Statement.{statement}
 use Rattle.levels.proofs.next_level.Tie as tie
 
-abbrev invariant-loop : tie.invariant-loop
+abbrev invariant-loop : tie.invariant-loop-i
 invariant-loop table index others level rows₀ n is-new₀ i₀ rows is-new i = (i ≤ n) × RowGrown table index others level i rows₀ rows is-new
 
-abbrev decreases-loop : tie.decreases-loop
+abbrev decreases-loop : tie.decreases-loop-i
 decreases-loop table index others level rows₀ n is-new₀ i₀ rows is-new i = n - i
 
-credentials-requires : tie.Need-credentials-requires invariant-loop decreases-loop
+credentials-requires : tie.Need-credentials-n-requires invariant-loop decreases-loop
 credentials-requires c κs = search rules
 
-loop-holds : tie.Need-loop-init invariant-loop decreases-loop
+loop-holds : tie.Need-loop-i-init invariant-loop decreases-loop
 loop-holds c = (omega arith, grown-starts _ _ _ _ _ c.before.before.before.before.requires.1.1.0)
 
 has-requires : tie.Need-has-requires invariant-loop decreases-loop
 has-requires c κs = search rules
 
-add-cell : tie.Need-overflow-add-cell invariant-loop decreases-loop
+add-cell : tie.Need-overflow_add-cell invariant-loop decreases-loop
 add-cell c = search rules
 
-mul-cell : tie.Need-overflow-mul-cell invariant-loop decreases-loop
+mul-cell : tie.Need-overflow_mul-cell invariant-loop decreases-loop
 mul-cell c = search rules
 
-role-cell-requires : tie.Need-role-cell-requires invariant-loop decreases-loop
+role-cell-requires : tie.Need-role_cell-requires invariant-loop decreases-loop
 role-cell-requires c κs = search rules
 
-add-cell-2 : tie.Need-overflow-add-cell-2 invariant-loop decreases-loop
+add-cell-2 : tie.Need-overflow_add-cell-then-has invariant-loop decreases-loop
 add-cell-2 c = search rules
 
-mul-more : tie.Need-overflow-mul-more invariant-loop decreases-loop
+mul-more : tie.Need-offset_bounds-rows-cell invariant-loop decreases-loop
 mul-more c = search rules
 
-slice-read-more : tie.Need-slice-read-more invariant-loop decreases-loop
+slice-read-more : tie.Need-bounds-rows-cell invariant-loop decreases-loop
 slice-read-more c = search rules
 
-proved-by-requires : tie.Need-proved-by-requires invariant-loop decreases-loop
+proved-by-requires : tie.Need-proved_by-requires invariant-loop decreases-loop
 proved-by-requires c κs =
     let at = c.before.before.before.before.before.before in
     let pre = at.before.before.before.before.before.requires in
-    let room = at.loop.invariant.1.room in (
+    let room = at.loop-i.invariant.1.room in (
       pre.0,
       (record { placed = pre.1.0.placed; room = room; last = omega arith; there = omega arith }, omega arith),
     )
 
-mul-if2 : tie.Need-overflow-mul-if2 invariant-loop decreases-loop
+mul-if2 : tie.Need-offset_bounds-rows-cell-then-has invariant-loop decreases-loop
 mul-if2 c = search rules
 
-slice-read-if2 : tie.Need-slice-read-if2 invariant-loop decreases-loop
+slice-read-if2 : tie.Need-bounds-rows-cell-then-has invariant-loop decreases-loop
 slice-read-if2 c = search rules
 
-mul-rows : tie.Need-overflow-mul-rows invariant-loop decreases-loop
+mul-rows : tie.Need-offset_bounds-rows-cell-then-more-rows invariant-loop decreases-loop
 mul-rows c = search rules
 
-slice-write-rows : tie.Need-slice-write-rows invariant-loop decreases-loop
+slice-write-rows : tie.Need-bounds-rows-cell-then-more-rows invariant-loop decreases-loop
 slice-write-rows c = search rules
 
-add-i : tie.Need-overflow-add-i invariant-loop decreases-loop
+add-i : tie.Need-overflow_add-i invariant-loop decreases-loop
 add-i c = search rules
 
-loop-less : tie.Need-loop-smaller invariant-loop decreases-loop
+loop-less : tie.Need-loop-i-smaller invariant-loop decreases-loop
 loop-less c = search rules
 
-loop-again : tie.Need-loop-preserved invariant-loop decreases-loop
+loop-again : tie.Need-loop-i-preserved invariant-loop decreases-loop
 loop-again c =
     let made = c.before.before.before.before.before.before.before.before.requires.1.0 in
-    let so_far = c.before.before.before.loop.invariant.1 in
+    let so_far = c.before.before.before.loop-i.invariant.1 in
     let told = sym c.before.has.ensures in (
       omega arith,
       three_ways
@@ -82,22 +82,22 @@ loop-again c =
           (λ w. grown-is _ _ _ _ _ _ _ _ _ _ w.7 w.8
           (grown-same _ _ _ _ _ _ _ _ so_far (told ∙ w.0.taken) made (omega arith) _ w.1.ensures.0 _ w.4.ensures
           w.6.left))
-          (λ w. grown-is _ _ _ _ _ _ _ _ _ _ w.1 w.2 (grown-outside _ _ _ _ _ _ _ _ so_far (told ∙ w.0.left)))
-          c.if1.branch,
+          (λ w. grown-is _ _ _ _ _ _ _ _ _ _ w.rows-is w.is_new-is (grown-outside _ _ _ _ _ _ _ _ so_far (told ∙ w.if-has.false)))
+          c.if-has.branch-raw,
     )
 
-same_length : tie.Need-same-length invariant-loop decreases-loop
+same_length : tie.Need-shape_of-rows invariant-loop decreases-loop
 same_length c = search rules
 
 returns : tie.Need-returns invariant-loop decreases-loop
 returns c =
     let start = c.before.before.before.before.before.before in
-    let loop = c.before.loop in
+    let loop = c.before.loop-i in
     let all : loop.i ≡ credentials start.args.table.now = omega arith in
     rw all at loop.invariant.1
 
-pub next-level-spec : {M : Type 1} → statement M
-next-level-spec =
+pub next_level_spec : {M : Type 1} → statement M
+next_level_spec =
     tie.close
     (tie.spec
     invariant-loop

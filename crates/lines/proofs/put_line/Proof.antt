@@ -5,7 +5,7 @@ use Rattle.lines.proofs.Lines.{decimal-long, put_ended}
 use Rattle.lines.proofs.put_line.Statement.{statement}
 use Rattle.lines.proofs.put_line.Tie as tie
 
-put-number-requires : tie.Need-put-number-requires
+put-number-requires : tie.Need-put_number-next-requires
 put-number-requires c κs = omega (arith, decimal-long _ c.before.before.ranges.number)
 
 slice-aggregate-put : tie.Need-slice-aggregate-put
@@ -15,17 +15,17 @@ put-requires : tie.Need-put-requires
 put-requires c κs =
     let number = c.before.before.before.before in
     let start = number.before.before.before in
-    omega (arith, start.requires, number.put-number.ensures, number.put-number.auto.0, decimal-long _ start.ranges.number)
+    omega (arith, start.requires, number.put_number-next.ensures, number.put_number-next.auto.0, decimal-long _ start.ranges.number)
 
-same_length : tie.Need-same-length
+same_length : tie.Need-shape_of-out
 same_length c = search rules
 
 returns : tie.Need-returns
 returns c =
     let text = c.before.before in
     let number = text.before.before.before.before.before in
-    put_ended _ number.put-number.ensures text.put.ensures
+    put_ended _ number.put_number-next.ensures text.put.ensures
 
-pub put-line-spec : {M : Type 1} → statement M
-put-line-spec =
+pub put_line_spec : {M : Type 1} → statement M
+put_line_spec =
     tie.close (tie.spec put-number-requires slice-aggregate-put put-requires same_length returns)

@@ -8,51 +8,51 @@ use Rattle.lines.proofs.Lines.{LinesPut, lines-begin, lines_end, lines-go-on}
 use Rattle.lines.proofs.put_lines.Statement.{statement}
 use Rattle.lines.proofs.put_lines.Tie as tie
 
-abbrev invariant-loop : tie.invariant-loop
+abbrev invariant-loop : tie.invariant-loop-i
 invariant-loop out₀ sets next₀ i₀ out next i =
     (11 * length sets + line_room ≤ length out₀) × LinesPut sets out₀ i out next
 
-abbrev decreases-loop : tie.decreases-loop
+abbrev decreases-loop : tie.decreases-loop-i
 decreases-loop out₀ sets next₀ i₀ out next i = length sets - i
 
-loop-holds : tie.Need-loop-init invariant-loop decreases-loop
+loop-holds : tie.Need-loop-i-init invariant-loop decreases-loop
 loop-holds c = (c.before.before.requires, lines-begin _ _)
 
-mul-put-line : tie.Need-overflow-mul-put-line invariant-loop decreases-loop
+mul-put-line : tie.Need-offset_bounds-sets-i invariant-loop decreases-loop
 mul-put-line c = omega arith
 
-shared-slice-read-put-line : tie.Need-shared-slice-read-put-line invariant-loop decreases-loop
+shared-slice-read-put-line : tie.Need-bounds-sets-i invariant-loop decreases-loop
 shared-slice-read-put-line c = omega arith
 
-cast-put-line : tie.Need-overflow-cast-put-line invariant-loop decreases-loop
-cast-put-line c = omega (arith, c.shared-slice-known2.given c.before.before.before.loop.i)
+cast-put-line : tie.Need-overflow_cast-sets invariant-loop decreases-loop
+cast-put-line c = omega (arith, c.shared_slice_known-in-loop-i-1.given c.before.before.before.loop-i.i)
 
-put-line-requires : tie.Need-put-line-requires invariant-loop decreases-loop
+put-line-requires : tie.Need-put_line-next-requires invariant-loop decreases-loop
 put-line-requires c κs = omega arith
 
-add-i : tie.Need-overflow-add-i invariant-loop decreases-loop
+add-i : tie.Need-overflow_add-i invariant-loop decreases-loop
 add-i c = omega arith
 
-loop-less : tie.Need-loop-smaller invariant-loop decreases-loop
+loop-less : tie.Need-loop-i-smaller invariant-loop decreases-loop
 loop-less c = omega arith
 
-loop-again : tie.Need-loop-preserved invariant-loop decreases-loop
+loop-again : tie.Need-loop-i-preserved invariant-loop decreases-loop
 loop-again c =
     let line = c.before.before in
     let known = line.before in
     let turn = known.before.before.before in
-    let fits = known.shared-slice-known2.given turn.loop.i in
-    let next = lines-go-on turn.loop.invariant.1 known.before.before.loop-test.true (omega arith) in
-    (turn.loop.invariant.0, next line.put-line.auto.0 line.put-line.ensures)
+    let fits = known.shared_slice_known-in-loop-i-1.given turn.loop-i.i in
+    let next = lines-go-on turn.loop-i.invariant.1 known.before.before.loop-i-test.true (omega arith) in
+    (turn.loop-i.invariant.0, next line.put_line-next.auto.0 line.put_line-next.ensures)
 
-same_length : tie.Need-same-length invariant-loop decreases-loop
-same_length c = c.before.loop.invariant.1.size
+same_length : tie.Need-shape_of-out invariant-loop decreases-loop
+same_length c = c.before.loop-i.invariant.1.size
 
 returns : tie.Need-returns invariant-loop decreases-loop
-returns c = lines_end c.before.loop.invariant.1 c.loop-test.false
+returns c = lines_end c.before.loop-i.invariant.1 c.loop-i-test.false
 
-pub put-lines-spec : {M : Type 1} → statement M
-put-lines-spec =
+pub put_lines_spec : {M : Type 1} → statement M
+put_lines_spec =
     tie.close
     (tie.spec
     invariant-loop

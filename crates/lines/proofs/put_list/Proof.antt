@@ -5,23 +5,23 @@ use Rattle.lines.proofs.Filling.{list-filled}
 use Rattle.lines.proofs.put_list.Statement.{statement}
 use Rattle.lines.proofs.put_list.Tie as tie
 
-put-lines-requires : tie.Need-put-lines-requires
+put-lines-requires : tie.Need-put_lines-next-requires
 put-lines-requires c κs = search rules
 
 slice-aggregate-put : tie.Need-slice-aggregate-put
 slice-aggregate-put c = search rules
 
-put-requires : tie.Need-put-requires
+put-requires : tie.Need-put-next-requires
 put-requires c κs = search rules
 
-put-line-requires : tie.Need-put-line-requires
+put-line-requires : tie.Need-put_line-requires
 put-line-requires c κs =
     let text = c.before.before.before in
     let lines = text.before.before.before.before.before in
     let start = lines.before.before.before.before in
-    omega (arith, start.requires, lines.put-lines, text.put)
+    omega (arith, start.requires, lines.put_lines-next, text.put-next)
 
-same_length : tie.Need-same-length
+same_length : tie.Need-shape_of-out
 same_length c = search rules
 
 returns : tie.Need-returns
@@ -29,10 +29,10 @@ returns c =
     let line = c.before.before in
     let text = line.before.before.before.before in
     let lines = text.before.before.before.before.before in
-    list-filled _ _ lines.put-lines.ensures.0 text.put.ensures line.put-line.ensures
+    list-filled _ _ lines.put_lines-next.ensures.0 text.put-next.ensures line.put_line.ensures
 
-pub put-list-spec : {M : Type 1} → statement M
-put-list-spec =
+pub put_list_spec : {M : Type 1} → statement M
+put_list_spec =
     tie.close
     (tie.spec
     put-lines-requires

@@ -9,34 +9,34 @@ use Rattle.lines.proofs.put_place.Tie as tie
 slice-aggregate-put : tie.Need-slice-aggregate-put
 slice-aggregate-put c = search rules
 
-put-requires : tie.Need-put-requires
+put-requires : tie.Need-put-next-requires
 put-requires c κs = search rules
 
-put-number-requires : tie.Need-put-number-requires
+put-number-requires : tie.Need-put_number-next-requires
 put-number-requires c κs =
     let text = c.before.before.before in
     let start = text.before.before.before.before in
-    omega (arith, start.requires, text.put, decimal-long _ start.ranges.number)
+    omega (arith, start.requires, text.put-next, decimal-long _ start.ranges.number)
 
 slice-aggregate-put-2 : tie.Need-slice-aggregate-put-2
 slice-aggregate-put-2 c = search rules
 
-put-requires-2 : tie.Need-put-requires-2
+put-requires-2 : tie.Need-put-next-requires-2
 put-requires-2 c κs =
     let number = c.before.before.before.before in
     let text = number.before.before.before.before in
     let start = text.before.before.before.before in
-    omega (arith, start.requires, text.put, number.put-number, decimal-long _ start.ranges.number)
+    omega (arith, start.requires, text.put-next, number.put_number-next, decimal-long _ start.ranges.number)
 
-put-line-requires : tie.Need-put-line-requires
+put-line-requires : tie.Need-put_line-requires
 put-line-requires c κs =
     let space = c.before.before.before in
     let number = space.before.before.before.before.before in
     let text = number.before.before.before.before in
     let start = text.before.before.before.before in
-    omega (arith, start.requires, text.put, number.put-number, space.put2, decimal-long _ start.ranges.number)
+    omega (arith, start.requires, text.put-next, number.put_number-next, space.put-next-2, decimal-long _ start.ranges.number)
 
-same_length : tie.Need-same-length
+same_length : tie.Need-shape_of-out
 same_length c = search rules
 
 returns : tie.Need-returns
@@ -45,10 +45,10 @@ returns c =
     let space = line.before.before.before.before in
     let number = space.before.before.before.before.before in
     let text = number.before.before.before.before in
-    refusal-filled _ _ text.put.ensures number.put-number.ensures space.put2.ensures line.put-line.ensures
+    refusal-filled _ _ text.put-next.ensures number.put_number-next.ensures space.put-next-2.ensures line.put_line.ensures
 
-pub put-place-spec : {M : Type 1} → statement M
-put-place-spec =
+pub put_place_spec : {M : Type 1} → statement M
+put_place_spec =
     tie.close
     (tie.spec
     slice-aggregate-put

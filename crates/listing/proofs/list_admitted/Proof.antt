@@ -21,38 +21,38 @@ below-requires c κs =
 refused-requires : tie.Need-refused-requires
 refused-requires c κs = search rules
 
-same_length : tie.Need-same-length
+same_length : tie.Need-shape_of-cuts-then-cells-found
 same_length c = search rules
 
-same-length-2 : tie.Need-same-length-2
+same-length-2 : tie.Need-shape_of-sets-then-cells-found
 same-length-2 c = search rules
 
-returns : tie.Need-returns
+returns : tie.Need-returns-then-cells-found
 unfolding number_of
 returns c =
     let at = c.before.before.before.before.before.before in
     let pre = (asked at).requires in
     let bears = relevant-admits _ pre.0.well_formed _ _ pre.1.0 in
     let held = start-ended _ _ _ pre.1.0.fits bears at.below.ensures in
-    told-instead c.refused.ensures (longer-told _ _ _ _ _ held c.before.if1.true)
+    told-instead c.refused.ensures (longer-told _ _ _ _ _ held c.before.if-cells-found.true)
 
-same-length-3 : tie.Need-same-length-3
+same-length-3 : tie.Need-shape_of-cuts
 same-length-3 c = search rules
 
-same-length-4 : tie.Need-same-length-4
+same-length-4 : tie.Need-shape_of-sets
 same-length-4 c = search rules
 
-returns-2 : tie.Need-returns-2
+returns-2 : tie.Need-returns
 unfolding listing_told
 returns-2 c =
     let at = c.before.before.before.before.before in
     let pre = (asked at).requires in
     let bears = relevant-admits _ pre.0.well_formed _ _ pre.1.0 in
     let held = start-ended _ _ _ pre.1.0.fits bears at.below.ensures in
-    listed-told _ _ _ _ _ held (some-found _ _ _ held pre.1.0.fits pre.1.1) c.if1.false
+    listed-told _ _ _ _ _ held (some-found _ _ _ held pre.1.0.fits pre.1.1) c.if-cells-found.false
 
-pub list-admitted-spec : {M : Type 1} → statement M
-list-admitted-spec =
+pub list_admitted_spec : {M : Type 1} → statement M
+list_admitted_spec =
     tie.close
     (tie.spec
     below-requires

@@ -14,109 +14,109 @@ use Rattle.listing.proofs.list_checked.Statement.{statement}
 use Rattle.listing.proofs.list_checked.Tie as tie
 
 -- where the query was asked, where its index is made, and where what bears on it is found and admitted
-abbrev indexed : tie.After-relevant → tie.After-index
+abbrev indexed : tie.After-relevant-usable → tie.After-index-index
 indexed at = at.before.before
 
-abbrev start : tie.After-relevant → tie.Start
+abbrev start : tie.After-relevant-usable → tie.Start
 start at = (indexed at).before.before.before
 
-abbrev bearing : tie.Else1 → tie.After-relevant
+abbrev bearing : tie.Else-not-admits → tie.After-relevant-usable
 bearing at = at.before.before.before.before
 
-index-requires : tie.Need-index-requires
+index-requires : tie.Need-index-index-requires
 index-requires c κs = search rules
 
-slice-aggregate-relevant : tie.Need-slice-aggregate-relevant
+slice-aggregate-relevant : tie.Need-slice_bounds-relevant-end
 slice-aggregate-relevant c = search rules
 
-relevant-requires : tie.Need-relevant-requires
+relevant-requires : tie.Need-relevant-usable-requires
 relevant-requires c κs = search rules
 
-slice-aggregate-admits : tie.Need-slice-aggregate-admits
+slice-aggregate-admits : tie.Need-slice_bounds-admits-end
 slice-aggregate-admits c = search rules
 
-array-share-prefix-none : tie.Need-array-share-prefix-none
+array-share-prefix-none : tie.Need-slice_bounds-none-end
 array-share-prefix-none c = search rules
 
-slice-aggregate-admits-2 : tie.Need-slice-aggregate-admits-2
+slice-aggregate-admits-2 : tie.Need-slice_bounds-admits-end-2
 slice-aggregate-admits-2 c = search rules
 
 admits-requires : tie.Need-admits-requires
 admits-requires c κs =
     let at = c.before.before in
-    prepared-by (start at).requires (indexed at).index.ensures (no-arcs _ _ (simp length-take (omega arith)))
+    prepared-by (start at).requires (indexed at).index-index.ensures (no-arcs _ _ (simp length-take (omega arith)))
 
 refused-requires : tie.Need-refused-requires
 refused-requires c κs = search rules
 
-returns : tie.Need-returns
+returns : tie.Need-returns-then-not-admits
 unfolding number_of
 returns c =
     let at = c.before.before.before.before.before in
-    let relevant = at.relevant.ensures in
+    let relevant = at.relevant-usable.ensures in
     let bears = relevant-admits _ (start at).requires.0 _ _ relevant in
-    let unproved = failed c.before.before.admits.ensures c.before.if1.true in
+    let unproved = failed c.before.before.admits.ensures c.before.if-not-admits.true in
     told-instead c.refused.ensures
     (none_told _ _ _ _ _ (start_none _ _ _ relevant.fits bears (start at).requires.0 unproved _) refl)
 
-automata-of-requires : tie.Need-automata-of-requires
+automata-of-requires : tie.Need-automata_of-requires
 automata-of-requires c κs = search rules
 
-slice-aggregate-list-over : tie.Need-slice-aggregate-list-over
+slice-aggregate-list-over : tie.Need-slice_bounds-list_over-end
 slice-aggregate-list-over c = search rules
 
-array-share-prefix-none-2 : tie.Need-array-share-prefix-none-2
+array-share-prefix-none-2 : tie.Need-slice_bounds-none-end-then-automata_of-eq0
 array-share-prefix-none-2 c = search rules
 
-slice-aggregate-list-over-2 : tie.Need-slice-aggregate-list-over-2
+slice-aggregate-list-over-2 : tie.Need-slice_bounds-list_over-end-then-automata_of-eq0
 slice-aggregate-list-over-2 c = search rules
 
-list-over-requires : tie.Need-list-over-requires
+list-over-requires : tie.Need-list_over-requires
 list-over-requires c κs =
     let admitted = c.before.before.before.before.before in
     let at = bearing admitted in (
-      prepared-by (start at).pre (indexed at).index.ensures (no-arcs _ _ (simp length-take (omega arith))),
-      (at.relevant.ensures, passed admitted.before.admits.ensures admitted.if1.false),
+      prepared-by (start at).pre (indexed at).index-index.ensures (no-arcs _ _ (simp length-take (omega arith))),
+      (at.relevant-usable.ensures, passed admitted.before.admits.ensures admitted.if-not-admits.false),
     )
 
-same_length : tie.Need-same-length
+same_length : tie.Need-shape_of-sets-then-automata_of-eq0
 same_length c = search rules
 
-returns-2 : tie.Need-returns-2
+returns-2 : tie.Need-returns-then-automata_of-eq0
 returns-2 c = search rules
 
-slice-aggregate-make-arcs : tie.Need-slice-aggregate-make-arcs
+slice-aggregate-make-arcs : tie.Need-slice_bounds-make_arcs-end
 slice-aggregate-make-arcs c = search rules
 
-slice-aggregate-make-arcs-2 : tie.Need-slice-aggregate-make-arcs-2
+slice-aggregate-make-arcs-2 : tie.Need-slice_bounds-make_arcs-end-2
 slice-aggregate-make-arcs-2 c = search rules
 
-make-arcs-requires : tie.Need-make-arcs-requires
+make-arcs-requires : tie.Need-make_arcs-requires
 make-arcs-requires c κs = search rules
 
-slice-aggregate-list-over-3 : tie.Need-slice-aggregate-list-over-3
+slice-aggregate-list-over-3 : tie.Need-slice_bounds-list_over-end-2
 slice-aggregate-list-over-3 c = search rules
 
-slice-aggregate-list-over-4 : tie.Need-slice-aggregate-list-over-4
+slice-aggregate-list-over-4 : tie.Need-slice_bounds-list_over-end-3
 slice-aggregate-list-over-4 c = search rules
 
-list-over-requires-2 : tie.Need-list-over-requires-2
+list-over-requires-2 : tie.Need-list_over-requires-2
 list-over-requires-2 c κs =
     let made = c.before.before.before.before in
     let admitted = made.before.before.before.before.before in
     let at = bearing admitted in (
-      prepared-by (start at).pre (indexed at).index.ensures made.make-arcs.ensures.0,
-      (at.relevant.ensures, passed admitted.before.admits.ensures admitted.if1.false),
+      prepared-by (start at).pre (indexed at).index-index.ensures made.make_arcs.ensures.0,
+      (at.relevant-usable.ensures, passed admitted.before.admits.ensures admitted.if-not-admits.false),
     )
 
-same-length-2 : tie.Need-same-length-2
+same-length-2 : tie.Need-shape_of-sets
 same-length-2 c = search rules
 
-returns-3 : tie.Need-returns-3
+returns-3 : tie.Need-returns
 returns-3 c = search rules
 
-pub list-checked-spec : {M : Type 1} → statement M
-list-checked-spec =
+pub list_checked_spec : {M : Type 1} → statement M
+list_checked_spec =
     tie.close
     (tie.spec
     index-requires

@@ -8,26 +8,26 @@ use borrow.Author.Rules.{rules}
 use Rattle.listing.proofs.list_over.Statement.{statement}
 use Rattle.listing.proofs.list_over.Tie as tie
 
-few-fits : (c : tie.Joined1) → c.if1.few ≤ 4096
-few-fits c = ⊎_elim (λ w. omega (arith, w.0.taken, w.1)) (λ w. omega (arith, w.1)) c.if1.branch
+few-fits : (c : tie.Joined-room-lt-MOST_CUTS) → c.if-room-lt-MOST_CUTS.few ≤ 4096
+few-fits c = ⊎_elim (λ w. omega (arith, w.if-room-lt-MOST_CUTS.true, w.few-is)) (λ w. omega (arith, w.few-is)) c.if-room-lt-MOST_CUTS.branch-raw
 
-array-borrow-prefix-cuts : tie.Need-array-borrow-prefix-cuts
+array-borrow-prefix-cuts : tie.Need-slice_bounds-cuts-end
 array-borrow-prefix-cuts c = few-fits c
 
-slice-aggregate-list-admitted : tie.Need-slice-aggregate-list-admitted
+slice-aggregate-list-admitted : tie.Need-slice_bounds-list_admitted-end
 slice-aggregate-list-admitted c = simp length-take (omega (arith, few-fits c.before))
 
-list-admitted-requires : tie.Need-list-admitted-requires
+list-admitted-requires : tie.Need-list_admitted-requires
 list-admitted-requires c κs = search rules
 
-same_length : tie.Need-same-length
+same_length : tie.Need-shape_of-sets
 same_length c = search rules
 
 returns : tie.Need-returns
 returns c = search rules
 
-pub list-over-spec : {M : Type 1} → statement M
-list-over-spec =
+pub list_over_spec : {M : Type 1} → statement M
+list_over_spec =
     tie.close
     (tie.spec
     array-borrow-prefix-cuts

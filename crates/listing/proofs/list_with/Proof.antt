@@ -11,38 +11,38 @@ use Rattle.listing.proofs.Whole.{buffer-accepted, buffer-refused}
 use Rattle.listing.proofs.list_with.Statement.{statement}
 use Rattle.listing.proofs.list_with.Tie as tie
 
-check-request-requires : tie.Need-check-request-requires
+check-request-requires : tie.Need-check_request-requires
 check-request-requires c κs = search rules
 
-enum_told : tie.Need-enum-told
+enum_told : tie.Need-enum_told-1
 enum_told c = search rules
 
-list-checked-requires : tie.Need-list-checked-requires
+list-checked-requires : tie.Need-list_checked-requires
 unfolding query_told
 list-checked-requires c κs =
-    let both = request-accepted _ _ (sym c.before.before.before.check-request.ensures ∙ ap query_told c.before.enum_told.given.1) in
+    let both = request-accepted _ _ (sym c.before.before.before.check_request.ensures ∙ ap query_told c.before.in-Valid.is) in
     (both.0, both.1)
 
-enum-known-why : tie.Need-enum-known-why
+enum-known-why : tie.Need-enum_known-why
 enum-known-why c = search rules
 
-same_length : tie.Need-same-length
+same_length : tie.Need-shape_of-sets
 same_length c = search rules
 
-returns : tie.Need-returns
+returns : tie.Need-returns-in-Valid
 unfolding listing query_told
 returns c =
-    let accepts = sym c.before.before.before.before.before.before.check-request.ensures ∙ ap query_told c.before.before.before.before.enum_told.given.1 in
-    (c.before.before.list-checked.ensures.0 ∙ then-on accepts, c.before.before.list-checked.ensures.1 ∙ sym (buffer-accepted _ _ _ accepts))
+    let accepts = sym c.before.before.before.before.before.before.check_request.ensures ∙ ap query_told c.before.before.before.before.in-Valid.is in
+    (c.before.before.list_checked.ensures.0 ∙ then-on accepts, c.before.before.list_checked.ensures.1 ∙ sym (buffer-accepted _ _ _ accepts))
 
-returns-2 : tie.Need-returns-2
+returns-2 : tie.Need-returns-in-Refused
 unfolding listing listing_told query_told told
 returns-2 c =
-    let refuses = ap query_told (sym c.before.why.given.1) ∙ c.before.before.before.check-request.ensures in
+    let refuses = ap query_told (sym c.before.in-Refused.is) ∙ c.before.before.before.check_request.ensures in
     (refused-then _ refuses, sym (buffer-refused _ _ _ (sym refuses)))
 
-pub list-with-spec : {M : Type 1} → statement M
-list-with-spec =
+pub list_with_spec : {M : Type 1} → statement M
+list_with_spec =
     tie.close
     (tie.spec
     check-request-requires

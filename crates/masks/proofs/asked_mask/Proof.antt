@@ -5,26 +5,26 @@ use borrow.Author.Rules.{rules}
 use Rattle.masks.proofs.asked_mask.Statement.{statement}
 use Rattle.masks.proofs.asked_mask.Tie as tie
 
-mul-result : tie.Need-overflow-mul-result
+mul-result : tie.Need-overflow_mul-result
 mul-result c = search rules
 
-asked-cell-requires : tie.Need-asked-cell-requires
+asked-cell-requires : tie.Need-asked_cell-requires
 asked-cell-requires c κs = search rules
 
-add-result : tie.Need-overflow-add-result
+add-result : tie.Need-overflow_add-result
 add-result c = search rules
 
-mul-result-2 : tie.Need-overflow-mul-result-2
+mul-result-2 : tie.Need-offset_bounds-rows-level
 mul-result-2 c = search rules
 
-shared-slice-read-result : tie.Need-shared-slice-read-result
+shared-slice-read-result : tie.Need-bounds-rows-level
 shared-slice-read-result c = search rules
 
 returns : tie.Need-returns
-returns c = rw (← c.before.asked-cell.ensures.0) refl
+returns c = rw (← c.before.asked_cell.ensures.0) refl
 
-pub asked-mask-spec : {M : Type 1} → statement M
-asked-mask-spec =
+pub asked_mask_spec : {M : Type 1} → statement M
+asked_mask_spec =
     tie.close
     (tie.spec
     mul-result

@@ -5,31 +5,31 @@ use borrow.Author.Rules.{rules}
 use Rattle.masks.proofs.proved_by.Statement.{statement}
 use Rattle.masks.proofs.proved_by.Tie as tie
 
-asked-members-requires : tie.Need-asked-members-requires
+asked-members-requires : tie.Need-asked_members-asked-requires
 asked-members-requires c κs = search rules
 
-add-credential : tie.Need-overflow-add-credential
+add-credential : tie.Need-overflow_add-i
 add-credential c = search rules
 
-credential-requires : tie.Need-credential-requires
+credential-requires : tie.Need-credential-credential-requires
 credential-requires c κs = search rules
 
-returns : tie.Need-returns
+returns : tie.Need-returns-then-credential-ne-LINKING_CONTAINMENT
 returns c =
-    let asked = c.before.before.before.asked-members in
-    proved-asked _ _ _ _ _ _ c.before.before.credential.ensures _ c.if1.true asked.ensures
+    let asked = c.before.before.before.asked_members-asked in
+    proved-asked _ _ _ _ _ _ c.before.before.credential-credential.ensures _ c.if-credential-ne-LINKING_CONTAINMENT.true asked.ensures
 
-linked-members-requires : tie.Need-linked-members-requires
+linked-members-requires : tie.Need-linked_members-requires
 linked-members-requires c κs = search rules
 
-returns-2 : tie.Need-returns-2
+returns-2 : tie.Need-returns
 returns-2 c =
-    let read = c.before.before.before.credential in
-    let asked = c.before.before.before.before.asked-members in
-    proved-linked _ _ _ _ _ _ read.ensures _ _ c.before.if1.false asked.ensures c.linked-members.ensures
+    let read = c.before.before.before.credential-credential in
+    let asked = c.before.before.before.before.asked_members-asked in
+    proved-linked _ _ _ _ _ _ read.ensures _ _ c.before.if-credential-ne-LINKING_CONTAINMENT.false asked.ensures c.linked_members.ensures
 
-pub proved-by-spec : {M : Type 1} → statement M
-proved-by-spec =
+pub proved_by_spec : {M : Type 1} → statement M
+proved_by_spec =
     tie.close
     (tie.spec
     asked-members-requires

@@ -13,48 +13,48 @@ use Rattle.minimal.proofs.Spare.{admits-monotone, none-spare, spare, spare_more}
 use Rattle.minimal.proofs.is_minimal.Statement.{statement}
 use Rattle.minimal.proofs.is_minimal.Tie as tie
 
-abbrev invariant-loop : tie.invariant-loop
+abbrev invariant-loop : tie.invariant-loop-i
 invariant-loop table query index arcs set n i₀ i =
     (i ≤ n) × (n ≡ credentials table) × (any_below (spare (admits table query) set) i ≡ false)
 
-abbrev decreases-loop : tie.decreases-loop
+abbrev decreases-loop : tie.decreases-loop-i
 decreases-loop table query index arcs set n i₀ i = n - i
 
-credentials-requires : tie.Need-credentials-requires invariant-loop decreases-loop
+credentials-requires : tie.Need-credentials-n-requires invariant-loop decreases-loop
 credentials-requires c κs = search rules
 
-loop-holds : tie.Need-loop-init invariant-loop decreases-loop
+loop-holds : tie.Need-loop-i-init invariant-loop decreases-loop
 unfolding any_below
-loop-holds c = (omega arith, c.credentials.ensures.same, refl)
+loop-holds c = (omega arith, c.credentials-n.ensures.same, refl)
 
-is-spare-requires : tie.Need-is-spare-requires invariant-loop decreases-loop
+is-spare-requires : tie.Need-is_spare-requires invariant-loop decreases-loop
 is-spare-requires c κs = search rules
 
-returns : tie.Need-returns invariant-loop decreases-loop
+returns : tie.Need-returns-then-is_spare invariant-loop decreases-loop
 returns c =
-    let is-spare = c.before.is-spare in
-    sym (spare_more _ _ _ is-spare.ensures c.if1.true)
+    let is-spare = c.before.is_spare in
+    sym (spare_more _ _ _ is-spare.ensures c.if-is_spare.true)
 
-add-i : tie.Need-overflow-add-i invariant-loop decreases-loop
+add-i : tie.Need-overflow_add-i invariant-loop decreases-loop
 add-i c = search rules
 
-loop-less : tie.Need-loop-smaller invariant-loop decreases-loop
+loop-less : tie.Need-loop-i-smaller invariant-loop decreases-loop
 loop-less c = search rules
 
-loop-again : tie.Need-loop-preserved invariant-loop decreases-loop
+loop-again : tie.Need-loop-i-preserved invariant-loop decreases-loop
 loop-again c =
-    let loop = c.before.before.before.loop in
-    let is-spare = c.before.is-spare in
-    (omega arith, loop.invariant.1, any_next (spare (admits _ _) _) _ loop.invariant.2 (sym is-spare.ensures ∙ c.if1.false))
+    let loop = c.before.before.before.loop-i in
+    let is-spare = c.before.is_spare in
+    (omega arith, loop.invariant.1, any_next (spare (admits _ _) _) _ loop.invariant.2 (sym is-spare.ensures ∙ c.if-is_spare.false))
 
-returns-2 : tie.Need-returns-2 invariant-loop decreases-loop
+returns-2 : tie.Need-returns invariant-loop decreases-loop
 returns-2 c =
     let pre = c.before.before.before.before.before.before.requires in
-    let loop = c.before.loop in
+    let loop = c.before.loop-i in
     sym (none-spare _ _ (admits-monotone _ pre.0.well_formed _) _ pre.1.0 pre.1.1 _ (omega (arith, loop.invariant.1)) loop.invariant.2)
 
-pub is-minimal-spec : {M : Type 1} → statement M
-is-minimal-spec =
+pub is_minimal_spec : {M : Type 1} → statement M
+is_minimal_spec =
     tie.close
     (tie.spec
     invariant-loop

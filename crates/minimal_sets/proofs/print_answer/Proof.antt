@@ -6,32 +6,32 @@ use Rattle.lines.proofs.Puts.{filled_within}
 use Rattle.minimal_sets.proofs.print_answer.Statement.{statement}
 use Rattle.minimal_sets.proofs.print_answer.Tie as tie
 
-answer-requires : tie.Need-answer-requires
+answer-requires : tie.Need-answer-count-requires
 answer-requires c κs = search rules
 
-array-share-prefix-out : tie.Need-array-share-prefix-out
-array-share-prefix-out c = filled_within c.answer.ensures
+array-share-prefix-out : tie.Need-slice_bounds-out-end
+array-share-prefix-out c = filled_within c.answer-count.ensures
 
-slice-aggregate-write-all : tie.Need-slice-aggregate-write-all
-slice-aggregate-write-all c = sym (length-take-le _ _ (filled_within c.before.answer.ensures))
+slice-aggregate-write-all : tie.Need-slice_bounds-write_all-end
+slice-aggregate-write-all c = sym (length-take-le _ _ (filled_within c.before.answer-count.ensures))
 
-write-all-requires : tie.Need-write-all-requires
+write-all-requires : tie.Need-write_all-requires
 write-all-requires c κs = search rules
 
 slice-aggregate-write-all-2 : tie.Need-slice-aggregate-write-all-2
 slice-aggregate-write-all-2 c = search rules
 
-write-all-requires-2 : tie.Need-write-all-requires-2
+write-all-requires-2 : tie.Need-write_all-requires-then-not-write_all
 write-all-requires-2 c κs = search rules
 
-returns : tie.Need-returns
+returns : tie.Need-returns-then-not-write_all
 returns c = search rules
 
-returns-2 : tie.Need-returns-2
+returns-2 : tie.Need-returns-else-not-write_all
 returns-2 c = search rules
 
-pub print-answer-spec : {M : Type 1} → statement M
-print-answer-spec =
+pub print_answer_spec : {M : Type 1} → statement M
+print_answer_spec =
     tie.close
     (tie.spec
     answer-requires

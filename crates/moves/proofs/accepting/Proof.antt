@@ -14,65 +14,65 @@ use Rattle.moves.proofs.Arcs.{accepting-in, accepts_in, index-whole}
 use Rattle.moves.proofs.accepting.Statement.{statement}
 use Rattle.moves.proofs.accepting.Tie as tie
 
-abbrev invariant-loop : tie.invariant-loop
+abbrev invariant-loop : tie.invariant-loop-k
 invariant-loop table arcs states mask₀ k₀ mask k = (k ≤ most_automata) × (mask ≡ set_of (accepts_in arcs states) k)
 
-abbrev decreases-loop : tie.decreases-loop
+abbrev decreases-loop : tie.decreases-loop-k
 decreases-loop table arcs states mask₀ k₀ mask k = most_automata - k
 
 -- where there is an index
-abbrev start : tie.Else1 invariant-loop decreases-loop → tie.Start invariant-loop decreases-loop
+abbrev start : tie.Else-arcs-eq0 invariant-loop decreases-loop → tie.Start invariant-loop decreases-loop
 start at = at.before.before.before
 
-whole : (at : tie.Else1 invariant-loop decreases-loop) → length (start at).args.arcs.now ≡ index_cells
-whole at = index-whole (start at).requires.1.room at.if1.false
+whole : (at : tie.Else-arcs-eq0 invariant-loop decreases-loop) → length (start at).args.arcs.now ≡ index_cells
+whole at = index-whole (start at).requires.1.room at.if-arcs-eq0.false
 
-accepting-by-table-requires : tie.Need-accepting-by-table-requires invariant-loop decreases-loop
+accepting-by-table-requires : tie.Need-accepting_by_table-requires invariant-loop decreases-loop
 accepting-by-table-requires c κs = search rules
 
-returns : tie.Need-returns invariant-loop decreases-loop
-returns c = c.accepting-by-table.ensures
+returns : tie.Need-returns-then-arcs-eq0 invariant-loop decreases-loop
+returns c = c.accepting_by_table.ensures
 
-loop-holds : tie.Need-loop-init invariant-loop decreases-loop
+loop-holds : tie.Need-loop-k-init invariant-loop decreases-loop
 unfolding set_of
 loop-holds c = (omega arith, refl)
 
-mul-if2 : tie.Need-overflow-mul-if2 invariant-loop decreases-loop
+mul-if2 : tie.Need-offset_bounds-states-k invariant-loop decreases-loop
 mul-if2 c = search rules
 
-element-copy-out-if2 : tie.Need-element-copy-out-if2 invariant-loop decreases-loop
+element-copy-out-if2 : tie.Need-bounds-states-k invariant-loop decreases-loop
 element-copy-out-if2 c = search rules
 
-mul-if2-2 : tie.Need-overflow-mul-if2-2 invariant-loop decreases-loop
+mul-if2-2 : tie.Need-offset_bounds-arcs-k invariant-loop decreases-loop
 mul-if2-2 c = search rules
 
-shared-slice-read-if2 : tie.Need-shared-slice-read-if2 invariant-loop decreases-loop
+shared-slice-read-if2 : tie.Need-bounds-arcs-k invariant-loop decreases-loop
 shared-slice-read-if2 c = omega (arith, whole c.before.before.before.before)
 
-with-16-requires : tie.Need-with-16-requires invariant-loop decreases-loop
+with-16-requires : tie.Need-with_16-mask-requires invariant-loop decreases-loop
 with-16-requires c κs = search rules
 
-add-k : tie.Need-overflow-add-k invariant-loop decreases-loop
+add-k : tie.Need-overflow_add-k invariant-loop decreases-loop
 add-k c = search rules
 
-loop-less : tie.Need-loop-smaller invariant-loop decreases-loop
+loop-less : tie.Need-loop-k-smaller invariant-loop decreases-loop
 loop-less c = search rules
 
-loop-again : tie.Need-loop-preserved invariant-loop decreases-loop
+loop-again : tie.Need-loop-k-preserved invariant-loop decreases-loop
 loop-again c =
-    let so_far = c.before.before.before.before.loop.invariant.1 in
-    let mask = ⊎_elim (λ w. w.2 ∙ w.1.ensures ∙ set_more _ _ _ so_far (meets-some _ _ w.0.taken))
-    (λ w. w.1 ∙ set-not _ _ _ so_far (meets-not _ _ w.0.left)) c.if2.branch in
+    let so_far = c.before.before.before.before.loop-k.invariant.1 in
+    let mask = ⊎_elim (λ w. w.mask-is ∙ w.with_16-mask.ensures ∙ set_more _ _ _ so_far (meets-some _ _ w.if-states-k-ne0.true))
+    (λ w. w.mask-is ∙ set-not _ _ _ so_far (meets-not _ _ w.if-states-k-ne0.false)) c.if-states-k-ne0.branch-raw in
     (omega arith, mask)
 
-returns-2 : tie.Need-returns-2 invariant-loop decreases-loop
+returns-2 : tie.Need-returns invariant-loop decreases-loop
 returns-2 c =
     let at = c.before.before in
     let pre = (start at).requires in
-    c.before.loop.invariant.1 ∙ accepting-in _ pre.0 pre.1 (whole at) _ (omega arith)
+    c.before.loop-k.invariant.1 ∙ accepting-in _ pre.0 pre.1 (whole at) _ (omega arith)
 
-pub accepting-spec : {M : Type 1} → statement M
-accepting-spec =
+pub accepting_spec : {M : Type 1} → statement M
+accepting_spec =
     tie.close
     (tie.spec
     invariant-loop

@@ -7,68 +7,68 @@ use Rattle.moves.proofs.Arcs.{Giving, giving-all, giving-more, giving-none}
 use Rattle.moves.proofs.by_arc.Statement.{statement}
 use Rattle.moves.proofs.by_arc.Tie as tie
 
-abbrev invariant-loop : tie.invariant-loop
+abbrev invariant-loop : tie.invariant-loop-k
 invariant-loop arcs at states sets₀ to k₀ sets k = Giving arcs at states sets₀ to k sets
 
-abbrev decreases-loop : tie.decreases-loop
+abbrev decreases-loop : tie.decreases-loop-k
 decreases-loop arcs at states sets₀ to k₀ sets k = most_automata - k
 
-add-to : tie.Need-overflow-add-to invariant-loop decreases-loop
+add-to : tie.Need-overflow_add-to invariant-loop decreases-loop
 add-to c = search rules
 
-mul-to : tie.Need-overflow-mul-to invariant-loop decreases-loop
+mul-to : tie.Need-offset_bounds-arcs-at invariant-loop decreases-loop
 mul-to c = search rules
 
-shared-slice-read-to : tie.Need-shared-slice-read-to invariant-loop decreases-loop
+shared-slice-read-to : tie.Need-bounds-arcs-at invariant-loop decreases-loop
 shared-slice-read-to c = search rules
 
-loop-holds : tie.Need-loop-init invariant-loop decreases-loop
+loop-holds : tie.Need-loop-k-init invariant-loop decreases-loop
 loop-holds c = giving-none _ _ _ _ _ (search rules)
 
-mul-sets : tie.Need-overflow-mul-sets invariant-loop decreases-loop
+mul-sets : tie.Need-offset_bounds-sets-k invariant-loop decreases-loop
 mul-sets c = search rules
 
-array-read-sets : tie.Need-array-read-sets invariant-loop decreases-loop
+array-read-sets : tie.Need-bounds-sets-k invariant-loop decreases-loop
 array-read-sets c = search rules
 
-mul-given : tie.Need-overflow-mul-given invariant-loop decreases-loop
+mul-given : tie.Need-offset_bounds-states-k invariant-loop decreases-loop
 mul-given c = search rules
 
-element-copy-out-given : tie.Need-element-copy-out-given invariant-loop decreases-loop
+element-copy-out-given : tie.Need-bounds-states-k invariant-loop decreases-loop
 element-copy-out-given c = search rules
 
-add-given : tie.Need-overflow-add-given invariant-loop decreases-loop
+add-given : tie.Need-overflow_add-at invariant-loop decreases-loop
 add-given c = search rules
 
-mul-given-2 : tie.Need-overflow-mul-given-2 invariant-loop decreases-loop
+mul-given-2 : tie.Need-offset_bounds-arcs-at-in-loop-k invariant-loop decreases-loop
 mul-given-2 c = search rules
 
-shared-slice-read-given : tie.Need-shared-slice-read-given invariant-loop decreases-loop
+shared-slice-read-given : tie.Need-bounds-arcs-at-in-loop-k invariant-loop decreases-loop
 shared-slice-read-given c = search rules
 
 given-requires : tie.Need-given-requires invariant-loop decreases-loop
 given-requires c κs = search rules
 
-mul-sets-2 : tie.Need-overflow-mul-sets-2 invariant-loop decreases-loop
+mul-sets-2 : tie.Need-offset_bounds-sets-k-in-loop-k invariant-loop decreases-loop
 mul-sets-2 c = search rules
 
-array-write-sets : tie.Need-array-write-sets invariant-loop decreases-loop
+array-write-sets : tie.Need-bounds-sets-k-in-loop-k invariant-loop decreases-loop
 array-write-sets c = search rules
 
-add-k : tie.Need-overflow-add-k invariant-loop decreases-loop
+add-k : tie.Need-overflow_add-k invariant-loop decreases-loop
 add-k c = search rules
 
-loop-less : tie.Need-loop-smaller invariant-loop decreases-loop
+loop-less : tie.Need-loop-k-smaller invariant-loop decreases-loop
 loop-less c = search rules
 
-loop-again : tie.Need-loop-preserved invariant-loop decreases-loop
-loop-again c = giving-more (omega arith) c.before.before.before.before.loop.invariant c.given.ensures
+loop-again : tie.Need-loop-k-preserved invariant-loop decreases-loop
+loop-again c = giving-more (omega arith) c.before.before.before.before.loop-k.invariant c.given.ensures
 
 returns : tie.Need-returns invariant-loop decreases-loop
-returns c = giving-all _ (omega arith) (search rules) c.before.loop.invariant
+returns c = giving-all _ (omega arith) (search rules) c.before.loop-k.invariant
 
-pub by-arc-spec : {M : Type 1} → statement M
-by-arc-spec =
+pub by_arc_spec : {M : Type 1} → statement M
+by_arc_spec =
     tie.close
     (tie.spec
     invariant-loop

@@ -10,62 +10,62 @@ use Rattle.moves.proofs.Arcs.{led-all, led-more, led-none}
 use Rattle.moves.proofs.by_arcs.Statement.{statement}
 use Rattle.moves.proofs.by_arcs.Tie as tie
 
-abbrev invariant-loop : tie.invariant-loop
+abbrev invariant-loop : tie.invariant-loop-l
 invariant-loop states arcs place next₀ row l₀ next l = (l ≤ most_arcs) × (next ≡ led_sets arcs place states l)
 
-abbrev decreases-loop : tie.decreases-loop
+abbrev decreases-loop : tie.decreases-loop-l
 decreases-loop states arcs place next₀ row l₀ next l = most_arcs - l
 
 -- the row ends after arc l, which is the last or leads nowhere: the other arcs give no more
-ended : (at : tie.At-loop invariant-loop decreases-loop) → let from = at.before.before.args in
-    (at.loop.l ≡ most_arcs) ⊎ (get_or from.arcs.now (to_cell from.place at.loop.l) 0 ≡ 0)
-    → at.loop.next ≡ led_sets from.arcs.now from.place from.states most_arcs
-ended at last = at.loop.invariant.1 ∙ led-all _ _ _ _ at.before.before.requires.1 at.loop.invariant.0 last
+ended : (at : tie.At-loop-l invariant-loop decreases-loop) → let from = at.before.before.args in
+    (at.loop-l.l ≡ most_arcs) ⊎ (get_or from.arcs.now (to_cell from.place at.loop-l.l) 0 ≡ 0)
+    → at.loop-l.next ≡ led_sets from.arcs.now from.place from.states most_arcs
+ended at last = at.loop-l.invariant.1 ∙ led-all _ _ _ _ at.before.before.requires.1 at.loop-l.invariant.0 last
 
-mul-row : tie.Need-overflow-mul-row invariant-loop decreases-loop
+mul-row : tie.Need-overflow_mul-row invariant-loop decreases-loop
 mul-row c = search rules
 
-add_row : tie.Need-overflow-add-row invariant-loop decreases-loop
+add_row : tie.Need-overflow_add-row invariant-loop decreases-loop
 add_row c = search rules
 
-loop-holds : tie.Need-loop-init invariant-loop decreases-loop
+loop-holds : tie.Need-loop-l-init invariant-loop decreases-loop
 loop-holds c = (omega arith, led-none _ _ _)
 
-mul_at : tie.Need-overflow-mul-at invariant-loop decreases-loop
+mul_at : tie.Need-overflow_mul-at invariant-loop decreases-loop
 mul_at c = search rules
 
-add_at : tie.Need-overflow-add-at invariant-loop decreases-loop
+add_at : tie.Need-overflow_add-at invariant-loop decreases-loop
 add_at c = search rules
 
-add-if1 : tie.Need-overflow-add-if1 invariant-loop decreases-loop
+add-if1 : tie.Need-overflow_add-at-in-loop-l invariant-loop decreases-loop
 add-if1 c = search rules
 
-mul-if1 : tie.Need-overflow-mul-if1 invariant-loop decreases-loop
+mul-if1 : tie.Need-offset_bounds-arcs-at invariant-loop decreases-loop
 mul-if1 c = search rules
 
-shared-slice-read-if1 : tie.Need-shared-slice-read-if1 invariant-loop decreases-loop
+shared-slice-read-if1 : tie.Need-bounds-arcs-at invariant-loop decreases-loop
 shared-slice-read-if1 c = search rules
 
-returns : tie.Need-returns invariant-loop decreases-loop
-returns c = ended c.before.before.before (inr c.if1.true)
+returns : tie.Need-returns-then-arcs-at-eq0 invariant-loop decreases-loop
+returns c = ended c.before.before.before (inr c.if-arcs-at-eq0.true)
 
-by-arc-requires : tie.Need-by-arc-requires invariant-loop decreases-loop
+by-arc-requires : tie.Need-by_arc-next-requires invariant-loop decreases-loop
 by-arc-requires c κs = search rules
 
-add-l : tie.Need-overflow-add-l invariant-loop decreases-loop
+add-l : tie.Need-overflow_add-l invariant-loop decreases-loop
 add-l c = search rules
 
-loop-less : tie.Need-loop-smaller invariant-loop decreases-loop
+loop-less : tie.Need-loop-l-smaller invariant-loop decreases-loop
 loop-less c = search rules
 
-loop-again : tie.Need-loop-preserved invariant-loop decreases-loop
-loop-again c = (omega arith, c.by-arc.ensures ∙ led-more _ _ _ _ c.before.before.before.before.loop.invariant.1)
+loop-again : tie.Need-loop-l-preserved invariant-loop decreases-loop
+loop-again c = (omega arith, c.by_arc-next.ensures ∙ led-more _ _ _ _ c.before.before.before.before.loop-l.invariant.1)
 
-returns-2 : tie.Need-returns-2 invariant-loop decreases-loop
+returns-2 : tie.Need-returns invariant-loop decreases-loop
 returns-2 c = ended c.before (inl (omega arith))
 
-pub by-arcs-spec : {M : Type 1} → statement M
-by-arcs-spec =
+pub by_arcs_spec : {M : Type 1} → statement M
+by_arcs_spec =
     tie.close
     (tie.spec
     invariant-loop

@@ -7,21 +7,21 @@ use Rattle.moves.proofs.Arcs.{index-whole, unmade}
 use Rattle.moves.proofs.is_made.Statement.{statement}
 use Rattle.moves.proofs.is_made.Tie as tie
 
-returns : tie.Need-returns
-returns c = let args = c.before.args in sym (ne_eqb _ _ (unmade args.arcs.now args.place c.if1.true))
+returns : tie.Need-returns-then-arcs-eq0
+returns c = let args = c.before.args in sym (ne_eqb _ _ (unmade args.arcs.now args.place c.if-arcs-eq0.true))
 
-add-result : tie.Need-overflow-add-result
+add-result : tie.Need-overflow_add-result
 add-result c = search rules
 
-mul-result : tie.Need-overflow-mul-result
+mul-result : tie.Need-offset_bounds-arcs-place
 mul-result c = search rules
 
-shared-slice-read-result : tie.Need-shared-slice-read-result
-shared-slice-read-result c = omega (arith, index-whole c.before.before.requires.0 c.before.if1.false)
+shared-slice-read-result : tie.Need-bounds-arcs-place
+shared-slice-read-result c = omega (arith, index-whole c.before.before.requires.0 c.before.if-arcs-eq0.false)
 
-returns-2 : tie.Need-returns-2
+returns-2 : tie.Need-returns
 returns-2 c = search rules
 
-pub is-made-spec : {M : Type 1} → statement M
-is-made-spec =
+pub is_made_spec : {M : Type 1} → statement M
+is_made_spec =
     tie.close (tie.spec returns add-result mul-result shared-slice-read-result returns-2)

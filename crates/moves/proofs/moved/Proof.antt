@@ -4,14 +4,14 @@ use Rattle.automata.proofs.Together.{dead-told}
 use Rattle.moves.proofs.moved.Statement.{statement}
 use Rattle.moves.proofs.moved.Tie as tie
 
-next-requires : tie.Need-next-requires
+next-requires : tie.Need-next-below-requires
 next-requires c κs = search rules
 
 dead-requires : tie.Need-dead-requires
 dead-requires c κs = search rules
 
 returns : tie.Need-returns
-returns c = dead-told _ _ _ c.before.next.ensures c.dead.ensures
+returns c = dead-told _ _ _ c.before.next-below.ensures c.dead.ensures
 
-pub moved-spec : {M : Type 1} → statement M
-moved-spec = tie.close (tie.spec next-requires dead-requires returns)
+pub moved_spec : {M : Type 1} → statement M
+moved_spec = tie.close (tie.spec next-requires dead-requires returns)

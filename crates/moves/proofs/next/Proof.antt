@@ -9,39 +9,39 @@ use Rattle.moves.proofs.next.Statement.{statement}
 use Rattle.moves.proofs.next.Tie as tie
 
 -- where the row has been made
-abbrev start : tie.Then1 → tie.Start
+abbrev start : tie.Then-is_made → tie.Start
 start at = at.before.before.before.before
 
-is-made-requires : tie.Need-is-made-requires
+is-made-requires : tie.Need-is_made-requires
 is-made-requires c κs = search rules
 
-by-arcs-requires : tie.Need-by-arcs-requires
+by-arcs-requires : tie.Need-by_arcs-requires
 by-arcs-requires c κs =
     let index = (start c).requires.1 in
-    let (whole, row) = row_made _ index.0 index.1 c.before.is_made.ensures c.if1.true in
+    let (whole, row) = row_made _ index.0 index.1 c.before.is_made.ensures c.if-is_made.true in
     ((whole, omega arith), row.ended)
 
-returns : tie.Need-returns
+returns : tie.Need-returns-then-is_made
 returns c =
     let at = c.before in
     let index = (start at).requires.1 in
-    let (whole, row) = row_made _ index.0 index.1 at.before.is_made.ensures at.if1.true in
-    c.by-arcs.ensures ∙ row-moves _ _ _ _ _ row
+    let (whole, row) = row_made _ index.0 index.1 at.before.is_made.ensures at.if-is_made.true in
+    c.by_arcs.ensures ∙ row-moves _ _ _ _ _ row
 
-add-credential : tie.Need-overflow-add-credential
+add-credential : tie.Need-overflow_add-place
 add-credential c = search rules
 
-credential-requires : tie.Need-credential-requires
+credential-requires : tie.Need-credential-credential-requires
 credential-requires c κs = search rules
 
-by-edges-requires : tie.Need-by-edges-requires
+by-edges-requires : tie.Need-by_edges-requires
 by-edges-requires c κs = search rules
 
-returns-2 : tie.Need-returns-2
-returns-2 c = c.by-edges.ensures ∙ role-moves _ _ _ c.before.credential.ensures
+returns-2 : tie.Need-returns
+returns-2 c = c.by_edges.ensures ∙ role-moves _ _ _ c.before.credential-credential.ensures
 
-pub next-spec : {M : Type 1} → statement M
-next-spec =
+pub next_spec : {M : Type 1} → statement M
+next_spec =
     tie.close
     (tie.spec
     is-made-requires

@@ -7,46 +7,46 @@ use Rattle.placing.proofs.Clearing.{Clearing, clearing-all, clearing-more, clear
 use Rattle.placing.proofs.clear.Statement.{statement}
 use Rattle.placing.proofs.clear.Tie as tie
 
-abbrev invariant-loop : tie.invariant-loop
+abbrev invariant-loop : tie.invariant-loop-x
 invariant-loop arcs₀ place row x₀ arcs x = Clearing place x arcs₀ arcs
 
-abbrev decreases-loop : tie.decreases-loop
+abbrev decreases-loop : tie.decreases-loop-x
 decreases-loop arcs₀ place row x₀ arcs x = row_cells - x
 
-mul-row : tie.Need-overflow-mul-row invariant-loop decreases-loop
+mul-row : tie.Need-overflow_mul-row invariant-loop decreases-loop
 mul-row c = search rules
 
-add_row : tie.Need-overflow-add-row invariant-loop decreases-loop
+add_row : tie.Need-overflow_add-row invariant-loop decreases-loop
 add_row c = search rules
 
-loop-holds : tie.Need-loop-init invariant-loop decreases-loop
+loop-holds : tie.Need-loop-x-init invariant-loop decreases-loop
 loop-holds c = clearing-none _ _
 
-add-arcs : tie.Need-overflow-add-arcs invariant-loop decreases-loop
+add-arcs : tie.Need-overflow_add-arcs invariant-loop decreases-loop
 add-arcs c = search rules
 
-mul-arcs : tie.Need-overflow-mul-arcs invariant-loop decreases-loop
+mul-arcs : tie.Need-offset_bounds-arcs-row invariant-loop decreases-loop
 mul-arcs c = search rules
 
-slice-write-arcs : tie.Need-slice-write-arcs invariant-loop decreases-loop
-slice-write-arcs c = omega (arith, c.before.loop.invariant.elsewhere.room)
+slice-write-arcs : tie.Need-bounds-arcs-row invariant-loop decreases-loop
+slice-write-arcs c = omega (arith, c.before.loop-x.invariant.elsewhere.room)
 
-add-x : tie.Need-overflow-add-x invariant-loop decreases-loop
+add-x : tie.Need-overflow_add-x invariant-loop decreases-loop
 add-x c = search rules
 
-loop-less : tie.Need-loop-smaller invariant-loop decreases-loop
+loop-less : tie.Need-loop-x-smaller invariant-loop decreases-loop
 loop-less c = search rules
 
-loop-again : tie.Need-loop-preserved invariant-loop decreases-loop
+loop-again : tie.Need-loop-x-preserved invariant-loop decreases-loop
 loop-again c =
-    let so_far = c.before.loop.invariant in
+    let so_far = c.before.loop-x.invariant in
     clearing-more _ _ _ _ so_far (omega arith) (omega (arith, so_far.elsewhere.room))
 
-same_length : tie.Need-same-length invariant-loop decreases-loop
-same_length c = c.before.loop.invariant.elsewhere.room
+same_length : tie.Need-shape_of-arcs invariant-loop decreases-loop
+same_length c = c.before.loop-x.invariant.elsewhere.room
 
 returns : tie.Need-returns invariant-loop decreases-loop
-returns c = clearing-all c.before.loop.invariant (omega arith)
+returns c = clearing-all c.before.loop-x.invariant (omega arith)
 
 pub clear_spec : {M : Type 1} → statement M
 clear_spec =

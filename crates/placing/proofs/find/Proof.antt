@@ -8,54 +8,54 @@ use Rattle.placing.proofs.Looking.{Looking, found_here, looking-more, looking-no
 use Rattle.placing.proofs.find.Statement.{statement}
 use Rattle.placing.proofs.find.Tie as tie
 
-abbrev invariant-loop : tie.invariant-loop
+abbrev invariant-loop : tie.invariant-loop-l
 invariant-loop arcs place to row l₀ l = Looking arcs place to l
 
-abbrev decreases-loop : tie.decreases-loop
+abbrev decreases-loop : tie.decreases-loop-l
 decreases-loop arcs place to row l₀ l = most_arcs - l
 
-mul-row : tie.Need-overflow-mul-row invariant-loop decreases-loop
+mul-row : tie.Need-overflow_mul-row invariant-loop decreases-loop
 mul-row c = search rules
 
-add_row : tie.Need-overflow-add-row invariant-loop decreases-loop
+add_row : tie.Need-overflow_add-row invariant-loop decreases-loop
 add_row c = search rules
 
-loop-holds : tie.Need-loop-init invariant-loop decreases-loop
+loop-holds : tie.Need-loop-l-init invariant-loop decreases-loop
 loop-holds c = looking-none _ _ _
 
-mul-other : tie.Need-overflow-mul-other invariant-loop decreases-loop
+mul-other : tie.Need-overflow_mul-other invariant-loop decreases-loop
 mul-other c = search rules
 
-add-other : tie.Need-overflow-add-other invariant-loop decreases-loop
+add-other : tie.Need-overflow_add-other invariant-loop decreases-loop
 add-other c = search rules
 
-add-other-2 : tie.Need-overflow-add-other-2 invariant-loop decreases-loop
+add-other-2 : tie.Need-overflow_add-other-in-loop-l invariant-loop decreases-loop
 add-other-2 c = search rules
 
-mul-other-2 : tie.Need-overflow-mul-other-2 invariant-loop decreases-loop
+mul-other-2 : tie.Need-offset_bounds-arcs-row invariant-loop decreases-loop
 mul-other-2 c = search rules
 
-shared-slice-read-other : tie.Need-shared-slice-read-other invariant-loop decreases-loop
+shared-slice-read-other : tie.Need-bounds-arcs-row invariant-loop decreases-loop
 shared-slice-read-other c = search rules
 
-returns : tie.Need-returns invariant-loop decreases-loop
-returns c = found_here c.before.before.before.loop.invariant (λ less. inl c.if1.true)
+returns : tie.Need-returns-then-other-to invariant-loop decreases-loop
+returns c = found_here c.before.before.before.loop-l.invariant (λ less. inl c.if-other-to.true)
 
-returns-2 : tie.Need-returns-2 invariant-loop decreases-loop
-returns-2 c = found_here c.before.before.before.before.loop.invariant (λ less. inr c.if2.true)
+returns-2 : tie.Need-returns-then-other-eq0 invariant-loop decreases-loop
+returns-2 c = found_here c.before.before.before.before.loop-l.invariant (λ less. inr c.if-other-eq0.true)
 
-add-l : tie.Need-overflow-add-l invariant-loop decreases-loop
+add-l : tie.Need-overflow_add-l invariant-loop decreases-loop
 add-l c = search rules
 
-loop-less : tie.Need-loop-smaller invariant-loop decreases-loop
+loop-less : tie.Need-loop-l-smaller invariant-loop decreases-loop
 loop-less c = search rules
 
-loop-again : tie.Need-loop-preserved invariant-loop decreases-loop
+loop-again : tie.Need-loop-l-preserved invariant-loop decreases-loop
 loop-again c =
-    looking-more _ _ _ _ c.before.before.before.before.loop.invariant (omega arith) c.before.if1.false c.if2.false
+    looking-more _ _ _ _ c.before.before.before.before.loop-l.invariant (omega arith) c.before.if-other-to.false c.if-other-eq0.false
 
-returns-3 : tie.Need-returns-3 invariant-loop decreases-loop
-returns-3 c = found_here c.before.loop.invariant (λ less. absurd (omega arith))
+returns-3 : tie.Need-returns invariant-loop decreases-loop
+returns-3 c = found_here c.before.loop-l.invariant (λ less. absurd (omega arith))
 
 pub find_spec : {M : Type 1} → statement M
 find_spec =

@@ -7,66 +7,66 @@ use Rattle.placing.proofs.put.Statement.{statement}
 use Rattle.placing.proofs.put.Tie as tie
 
 -- where the two cells are written, and before that where the automaton has been read
-abbrev automaton : tie.After-struct-known2 → tie.After-wide
+abbrev automaton : tie.After-struct_known-2-1 → tie.After-wide
 automaton at = at.before.before.before
 
-abbrev start : tie.After-struct-known2 → tie.Start
+abbrev start : tie.After-struct_known-2-1 → tie.Start
 start at = (automaton at).before.before
 
-fits : (at : tie.After-struct-known2) → let from = (start at).args in Fits from.arcs.now from.place from.l from.edge
+fits : (at : tie.After-struct_known-2-1) → let from = (start at).args in Fits from.arcs.now from.place from.l from.edge
 fits at =
     let ((size, there), (less, (own, states))) = (start at).requires in
     record { size = size; there = there; less = less; own = own; state = omega (arith, states.1) }
 
-mul_at : tie.Need-overflow-mul-at
+mul_at : tie.Need-overflow_mul-at
 mul_at c = search rules
 
-add_at : tie.Need-overflow-add-at
+add_at : tie.Need-overflow_add-at
 add_at c = search rules
 
-mul-at-2 : tie.Need-overflow-mul-at-2
+mul-at-2 : tie.Need-overflow_mul-at-2
 mul-at-2 c = search rules
 
-add-at-2 : tie.Need-overflow-add-at-2
+add-at-2 : tie.Need-overflow_add-at-2
 add-at-2 c = search rules
 
 wide-requires : tie.Need-wide-requires
 wide-requires c κs = search rules
 
-sub-own : tie.Need-overflow-sub-own
+sub-own : tie.Need-overflow_sub-own
 sub-own c = search rules
 
-add-own : tie.Need-overflow-add-own
+add-own : tie.Need-overflow_add-own
 add-own c = search rules
 
-mul-from : tie.Need-overflow-mul-from
+mul-from : tie.Need-offset_bounds-arcs-own
 mul-from c = search rules
 
-slice-read-from : tie.Need-slice-read-from
+slice-read-from : tie.Need-bounds-arcs-own
 slice-read-from c = search rules
 
-shl-from : tie.Need-overflow-shl-from
+shl-from : tie.Need-overflow_shl-from
 shl-from c = search rules
 
-shl-arcs : tie.Need-overflow-shl-arcs
+shl-arcs : tie.Need-overflow_shl-arcs
 shl-arcs c = search rules
 
-add-arcs : tie.Need-overflow-add-arcs
+add-arcs : tie.Need-overflow_add-arcs
 add-arcs c = search rules
 
-mul-arcs : tie.Need-overflow-mul-arcs
+mul-arcs : tie.Need-offset_bounds-arcs-at
 mul-arcs c = search rules
 
-slice-write-arcs : tie.Need-slice-write-arcs
+slice-write-arcs : tie.Need-bounds-arcs-at
 slice-write-arcs c = search rules
 
-mul-arcs-2 : tie.Need-overflow-mul-arcs-2
+mul-arcs-2 : tie.Need-offset_bounds-arcs-own-2
 mul-arcs-2 c = search rules
 
-slice-write-arcs-2 : tie.Need-slice-write-arcs-2
+slice-write-arcs-2 : tie.Need-bounds-arcs-own-2
 slice-write-arcs-2 c = put-room (fits c) _ (automaton c).wide.ensures.0
 
-same_length : tie.Need-same-length
+same_length : tie.Need-shape_of-arcs
 same_length c = search rules
 
 returns : tie.Need-returns

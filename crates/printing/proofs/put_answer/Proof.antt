@@ -8,64 +8,64 @@ use Rattle.printing.proofs.Answering.{listed-filled, listed-within, refused-fill
 use Rattle.printing.proofs.put_answer.Statement.{statement}
 use Rattle.printing.proofs.put_answer.Tie as tie
 
-slice-aggregate-list-input : tie.Need-slice-aggregate-list-input
+slice-aggregate-list-input : tie.Need-slice_bounds-list_input-end
 slice-aggregate-list-input c = search rules
 
-list-input-requires : tie.Need-list-input-requires
+list-input-requires : tie.Need-list_input-requires
 list-input-requires c κs = search rules
 
-enum-known-count : tie.Need-enum-known-count
+enum-known-count : tie.Need-enum_known-count
 enum-known-count c = search rules
 
-array-share-prefix-sets : tie.Need-array-share-prefix-sets
+array-share-prefix-sets : tie.Need-slice_bounds-sets-end
 array-share-prefix-sets c =
     let told = c.before.before in
     let listed = told.before.before.before in
-    listed-within _ _ _ listed.list-input.ensures listed.list-input.auto.1.0 _ told.count.given.1
+    listed-within _ _ _ listed.list_input.ensures listed.list_input.auto.1.0 _ told.in-Listed.is
 
-slice-aggregate-put-list : tie.Need-slice-aggregate-put-list
+slice-aggregate-put-list : tie.Need-slice_bounds-put_list-end
 slice-aggregate-put-list c =
     let told = c.before.before.before in
     let listed = told.before.before.before in
-    let within = listed-within _ _ _ listed.list-input.ensures listed.list-input.auto.1.0 _ told.count.given.1 in
+    let within = listed-within _ _ _ listed.list_input.ensures listed.list_input.auto.1.0 _ told.in-Listed.is in
     sym (length-take-le _ _ within)
 
-put-list-requires : tie.Need-put-list-requires
+put-list-requires : tie.Need-put_list-requires
 put-list-requires c κs =
     let listed = c.before.before.before.before.before.before in
     let start = listed.before.before.before.before in
-    (simp length-take (omega (arith, listed.list-input.auto.1.0)), start.requires)
+    (simp length-take (omega (arith, listed.list_input.auto.1.0)), start.requires)
 
-enum-known-why : tie.Need-enum-known-why
+enum-known-why : tie.Need-enum_known-why
 enum-known-why c = search rules
 
-put-refusal-requires : tie.Need-put-refusal-requires
+put-refusal-requires : tie.Need-put_refusal-requires
 put-refusal-requires c κs = search rules
 
-same_length : tie.Need-same-length
+same_length : tie.Need-shape_of-out-in-Listed
 same_length c = search rules
 
-returns : tie.Need-returns
+returns : tie.Need-returns-in-Listed
 returns c =
     let list = c.before.before in
     let told = list.before.before.before.before in
     let listed = told.before.before.before in
-    listed-filled _ _ _ listed.list-input.ensures listed.list-input.auto.1.0 _ told.count.given.1
-    list.put-list.ensures
+    listed-filled _ _ _ listed.list_input.ensures listed.list_input.auto.1.0 _ told.in-Listed.is
+    list.put_list.ensures
 
-same-length-2 : tie.Need-same-length-2
+same-length-2 : tie.Need-shape_of-out-in-Refused
 same-length-2 c = search rules
 
-returns-2 : tie.Need-returns-2
+returns-2 : tie.Need-returns-in-Refused
 returns-2 c =
     let refusal = c.before.before in
     let told = refusal.before.before.before in
     let listed = told.before.before.before in
-    refused-filled _ _ _ listed.list-input.ensures listed.list-input.auto.1.0 _ told.why.given.1
-    refusal.put-refusal.ensures
+    refused-filled _ _ _ listed.list_input.ensures listed.list_input.auto.1.0 _ told.in-Refused.is
+    refusal.put_refusal.ensures
 
-pub put-answer-spec : {M : Type 1} → statement M
-put-answer-spec =
+pub put_answer_spec : {M : Type 1} → statement M
+put_answer_spec =
     tie.close
     (tie.spec
     slice-aggregate-list-input

@@ -7,20 +7,20 @@ use Rattle.printing.proofs.put_refusal.Tie as tie
 number-requires : tie.Need-number-requires
 number-requires c κs = search rules
 
-cast-put-place : tie.Need-overflow-cast-put-place
+cast-put-place : tie.Need-overflow_cast-number
 cast-put-place c = search rules
 
-put-place-requires : tie.Need-put-place-requires
+put-place-requires : tie.Need-put_place-requires
 put-place-requires c κs = search rules
 
-same_length : tie.Need-same-length
+same_length : tie.Need-shape_of-out
 same_length c = search rules
 
 returns : tie.Need-returns
-returns c = told-filled _ _ c.before.before.before.number.ensures c.before.before.put-place.ensures
+returns c = told-filled _ _ c.before.before.before.number.ensures c.before.before.put_place.ensures
 
-pub put-refusal-spec : {M : Type 1} → statement M
-put-refusal-spec =
+pub put_refusal_spec : {M : Type 1} → statement M
+put_refusal_spec =
     tie.close
     (tie.spec
     number-requires

@@ -7,36 +7,36 @@ use Rattle.table.specs.Checks.{cell_to}
 use Rattle.ranges.proofs.cell_ok.Statement.{statement}
 use Rattle.ranges.proofs.cell_ok.Tie as tie
 
-wide-requires : tie.Need-wide-requires
+wide-requires : tie.Need-wide-next-requires
 wide-requires c κs = search rules
 
-is-role-requires : tie.Need-is-role-requires
+is-role-requires : tie.Need-is_role-requires
 is-role-requires c κs = search rules
 
-returns : tie.Need-returns
+returns : tie.Need-returns-then-next-eq0
 unfolding cell_to
 returns c =
-    let wide = c.before.before.before.wide in
-    let role = flag-on c.before.before.is-role.ensures c.before.if1.taken in
-    rw (← wide.ensures.0) (or-on _ (eq-eqb _ _ c.if2.taken) ∙ role)
+    let wide = c.before.before.before.wide-next in
+    let role = flag-on c.before.before.is_role.ensures c.before.if-is_role.taken in
+    rw (← wide.ensures.0) (or-on _ (eq-eqb _ _ c.if-next-eq0.taken) ∙ role)
 
-returns-2 : tie.Need-returns-2
+returns-2 : tie.Need-returns-then-j-next
 unfolding cell_to
 returns-2 c =
-    let wide = c.before.before.before.before.wide in
-    let role = flag-on c.before.before.before.is-role.ensures c.before.before.if1.taken in
-    rw (← wide.ensures.0) (and-on (lt-ltb _ _ c.if3.taken) ∙ or_off (ne_eqb _ _ c.before.if2.left) ∙ role)
+    let wide = c.before.before.before.before.wide-next in
+    let role = flag-on c.before.before.before.is_role.ensures c.before.before.if-is_role.taken in
+    rw (← wide.ensures.0) (and-on (lt-ltb _ _ c.if-j-next.taken) ∙ or_off (ne_eqb _ _ c.before.if-next-eq0.left) ∙ role)
 
-returns-3 : tie.Need-returns-3
+returns-3 : tie.Need-returns-else-j-next
 unfolding cell_to
 returns-3 c =
-    let wide = c.before.before.before.before.wide in
-    let role = flag-on c.before.before.before.is-role.ensures c.before.before.if1.taken in
-    rw (← wide.ensures.0) (and-off _ (le-ltb _ _ c.if3.left) ∙ or_off (ne_eqb _ _ c.before.if2.left) ∙ role)
+    let wide = c.before.before.before.before.wide-next in
+    let role = flag-on c.before.before.before.is_role.ensures c.before.before.if-is_role.taken in
+    rw (← wide.ensures.0) (and-off _ (le-ltb _ _ c.if-j-next.left) ∙ or_off (ne_eqb _ _ c.before.if-next-eq0.left) ∙ role)
 
-returns-4 : tie.Need-returns-4
+returns-4 : tie.Need-returns-else-is_role
 unfolding cell_to
-returns-4 c = flag_off _ c.before.is-role.ensures c.if1.left
+returns-4 c = flag_off _ c.before.is_role.ensures c.if-is_role.left
 
-pub cell-ok-spec : {M : Type 1} → statement M
-cell-ok-spec = tie.close (tie.spec wide-requires is-role-requires returns returns-2 returns-3 returns-4)
+pub cell_ok_spec : {M : Type 1} → statement M
+cell_ok_spec = tie.close (tie.spec wide-requires is-role-requires returns returns-2 returns-3 returns-4)

@@ -6,34 +6,34 @@ use Rattle.table.specs.Checks.{credential_to}
 use Rattle.ranges.proofs.credential_ok.Statement.{statement}
 use Rattle.ranges.proofs.credential_ok.Tie as tie
 
-is-role-requires : tie.Need-is-role-requires
+is-role-requires : tie.Need-is_role-requires
 is-role-requires c κs = search rules
 
-meaning-ok-requires : tie.Need-meaning-ok-requires
+meaning-ok-requires : tie.Need-meaning_ok-requires
 meaning-ok-requires c κs = search rules
 
 wide-requires : tie.Need-wide-requires
 wide-requires c κs = search rules
 
-returns : tie.Need-returns
+returns : tie.Need-returns-then-meaning_ok
 unfolding credential_to
 returns c =
-    let meaning-ok = c.before.before.meaning-ok in
-    let is-role = c.before.before.before.before.is-role in
-    let if1 = c.before.before.before.if1 in
-    rw (← c.wide.ensures.0) (flag-on meaning-ok.ensures c.before.if2.taken ∙ flag-on is-role.ensures if1.taken)
+    let meaning-ok = c.before.before.meaning_ok in
+    let is-role = c.before.before.before.before.is_role in
+    let if1 = c.before.before.before.if-is_role in
+    rw (← c.wide.ensures.0) (flag-on meaning-ok.ensures c.before.if-meaning_ok.taken ∙ flag-on is-role.ensures if1.taken)
 
-returns-2 : tie.Need-returns-2
+returns-2 : tie.Need-returns-else-meaning_ok
 unfolding credential_to
 returns-2 c =
-    let is-role = c.before.before.before.is-role in
-    let if1 = c.before.before.if1 in
-    flag_off _ c.before.meaning-ok.ensures c.if2.left ∙ flag-on is-role.ensures if1.taken
+    let is-role = c.before.before.before.is_role in
+    let if1 = c.before.before.if-is_role in
+    flag_off _ c.before.meaning_ok.ensures c.if-meaning_ok.left ∙ flag-on is-role.ensures if1.taken
 
-returns-3 : tie.Need-returns-3
+returns-3 : tie.Need-returns-else-is_role
 unfolding credential_to
-returns-3 c = flag_off _ c.before.is-role.ensures c.if1.left
+returns-3 c = flag_off _ c.before.is_role.ensures c.if-is_role.left
 
-pub credential-ok-spec : {M : Type 1} → statement M
-credential-ok-spec =
+pub credential_ok_spec : {M : Type 1} → statement M
+credential_ok_spec =
     tie.close (tie.spec is-role-requires meaning-ok-requires wide-requires returns returns-2 returns-3)

@@ -10,38 +10,38 @@ use Rattle.ranges.proofs.edge_ok.Tie as tie
 within-requires : tie.Need-within-requires
 within-requires c κs = search rules
 
-label-ok-requires : tie.Need-label-ok-requires
+label-ok-requires : tie.Need-label_ok-requires
 label-ok-requires c κs = search rules
 
-returns : tie.Need-returns
+returns : tie.Need-returns-then-e-le-LAST_STATE-2
 unfolding edge_to
 returns c =
-    let if2 = c.before.before.before.if2 in
+    let if2 = c.before.before.before.if-e-le-LAST_STATE in
     let within = c.before.before.before.before.before.before.within in
-    let if1 = c.before.before.before.before.before.if1 in
-    c.label-ok.ensures ∙ and-on (le-leb _ _ c.before.if3.taken) ∙ and-on (le-leb _ _ if2.taken) ∙
+    let if1 = c.before.before.before.before.before.if-within in
+    c.label_ok.ensures ∙ and-on (le-leb _ _ c.before.if-e-le-LAST_STATE-2.taken) ∙ and-on (le-leb _ _ if2.taken) ∙
     flag-on within.ensures if1.taken
 
-returns-2 : tie.Need-returns-2
+returns-2 : tie.Need-returns-else-e-le-LAST_STATE-2
 unfolding edge_to
 returns-2 c =
-    let if2 = c.before.before.if2 in
+    let if2 = c.before.before.if-e-le-LAST_STATE in
     let within = c.before.before.before.before.before.within in
-    let if1 = c.before.before.before.before.if1 in
-    and-off _ (lt-leb _ _ c.if3.left) ∙ and-on (le-leb _ _ if2.taken) ∙ flag-on within.ensures
+    let if1 = c.before.before.before.before.if-within in
+    and-off _ (lt-leb _ _ c.if-e-le-LAST_STATE-2.left) ∙ and-on (le-leb _ _ if2.taken) ∙ flag-on within.ensures
     if1.taken
 
-returns-3 : tie.Need-returns-3
+returns-3 : tie.Need-returns-else-e-le-LAST_STATE
 unfolding edge_to
 returns-3 c =
     let within = c.before.before.before.within in
-    let if1 = c.before.before.if1 in
-    and-off _ (lt-leb _ _ c.if2.left) ∙ flag-on within.ensures if1.taken
+    let if1 = c.before.before.if-within in
+    and-off _ (lt-leb _ _ c.if-e-le-LAST_STATE.left) ∙ flag-on within.ensures if1.taken
 
-returns-4 : tie.Need-returns-4
+returns-4 : tie.Need-returns-else-within
 unfolding edge_to
-returns-4 c = flag_off _ c.before.within.ensures c.if1.left
+returns-4 c = flag_off _ c.before.within.ensures c.if-within.left
 
-pub edge-ok-spec : {M : Type 1} → statement M
-edge-ok-spec =
+pub edge_ok_spec : {M : Type 1} → statement M
+edge_ok_spec =
     tie.close (tie.spec within-requires label-ok-requires returns returns-2 returns-3 returns-4)

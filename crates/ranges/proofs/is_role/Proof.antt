@@ -6,21 +6,21 @@ use Rattle.table.specs.Checks.{is_name, is_role_to}
 use Rattle.ranges.proofs.is_role.Statement.{statement}
 use Rattle.ranges.proofs.is_role.Tie as tie
 
-is-principal-requires : tie.Need-is-principal-requires
+is-principal-requires : tie.Need-is_principal-requires
 is-principal-requires c κs = search rules
 
-is-name-requires : tie.Need-is-name-requires
+is-name-requires : tie.Need-is_name-requires
 is-name-requires c κs = search rules
 
-returns : tie.Need-returns
+returns : tie.Need-returns-then-is_principal
 unfolding is_role_to
 returns c =
-    let is-principal = c.before.before.is-principal in
-    c.is_name.ensures ∙ flag-on is-principal.ensures c.before.if1.taken
+    let is-principal = c.before.before.is_principal in
+    c.is_name.ensures ∙ flag-on is-principal.ensures c.before.if-is_principal.taken
 
-returns-2 : tie.Need-returns-2
+returns-2 : tie.Need-returns-else-is_principal
 unfolding is_role_to
-returns-2 c = flag_off (is_name _) c.before.is-principal.ensures c.if1.left
+returns-2 c = flag_off (is_name _) c.before.is_principal.ensures c.if-is_principal.left
 
-pub is-role-spec : {M : Type 1} → statement M
-is-role-spec = tie.close (tie.spec is-principal-requires is-name-requires returns returns-2)
+pub is_role_spec : {M : Type 1} → statement M
+is_role_spec = tie.close (tie.spec is-principal-requires is-name-requires returns returns-2)

@@ -7,46 +7,46 @@ use Rattle.sets.proofs.Tests.{and-off, and-on, flag_off, flag-on}
 use Rattle.ranges.proofs.label_ok.Statement.{statement}
 use Rattle.ranges.proofs.label_ok.Tie as tie
 
-is-role-requires : tie.Need-is-role-requires
+is-role-requires : tie.Need-is_role-requires
 is-role-requires c κs = search rules
 
-is-role-requires-2 : tie.Need-is-role-requires-2
+is-role-requires-2 : tie.Need-is_role-requires-in-3
 is-role-requires-2 c κs = search rules
 
-is-principal-requires : tie.Need-is-principal-requires
+is-principal-requires : tie.Need-is_principal-requires
 is-principal-requires c κs = search rules
 
-returns : tie.Need-returns
-returns c = c.is-role.ensures ∙ sym (label-1 _ _ c.before.match.keys1)
+returns : tie.Need-returns-in-1
+returns c = c.is_role.ensures ∙ sym (label-1 _ _ c.before.in-1.is)
 
-returns-2 : tie.Need-returns-2
+returns-2 : tie.Need-returns-then-role-eq0
 returns-2 c =
-    let chosen = c.before.before.before.match in
-    and-on (eq-eqb _ _ c.before.if1.taken) ∙ sym (label-2 _ _ chosen.keys2)
+    let chosen = c.before.before.before.in-2 in
+    and-on (eq-eqb _ _ c.before.if-role-eq0.taken) ∙ sym (label-2 _ _ chosen.keys2)
 
-returns-3 : tie.Need-returns-3
+returns-3 : tie.Need-returns-else-role-eq0
 returns-3 c =
-    let chosen = c.before.before.match in
-    and-off _ (ne_eqb _ _ c.if1.left) ∙ sym (label-2 _ _ chosen.keys2)
+    let chosen = c.before.before.in-2 in
+    and-off _ (ne_eqb _ _ c.if-role-eq0.left) ∙ sym (label-2 _ _ chosen.keys2)
 
-returns-4 : tie.Need-returns-4
-returns-4 c = c.is-role2.ensures ∙ sym (label-3 _ _ c.before.match.keys3)
+returns-4 : tie.Need-returns-in-3
+returns-4 c = c.is_role-in-3.ensures ∙ sym (label-3 _ _ c.before.in-3.is)
 
-returns-5 : tie.Need-returns-5
+returns-5 : tie.Need-returns-then-is_principal
 returns-5 c =
-    let chosen = c.before.before.before.match in
-    flag-on c.before.before.is-principal.ensures c.before.if2.taken ∙ sym (label-4 _ _ chosen.keys4)
+    let chosen = c.before.before.before.in-4 in
+    flag-on c.before.before.is_principal.ensures c.before.if-is_principal.taken ∙ sym (label-4 _ _ chosen.keys4)
 
-returns-6 : tie.Need-returns-6
+returns-6 : tie.Need-returns-else-is_principal
 returns-6 c =
-    let chosen = c.before.before.match in
-    flag_off _ c.before.is-principal.ensures c.if2.left ∙ sym (label-4 _ _ chosen.keys4)
+    let chosen = c.before.before.in-4 in
+    flag_off _ c.before.is_principal.ensures c.if-is_principal.left ∙ sym (label-4 _ _ chosen.keys4)
 
-returns-7 : tie.Need-returns-7
-returns-7 c = let no = c.match.rest in sym (label-none _ _ no.0.0.0.1 no.0.0.1 no.0.1 no.1)
+returns-7 : tie.Need-returns-in_default
+returns-7 c = let no = c.in_default.rest in sym (label-none _ _ no.0.0.0.1 no.0.0.1 no.0.1 no.1)
 
-pub label-ok-spec : {M : Type 1} → statement M
-label-ok-spec =
+pub label_ok_spec : {M : Type 1} → statement M
+label_ok_spec =
     tie.close
     (tie.spec
     is-role-requires

@@ -8,5 +8,5 @@ returns : tie.Need-returns
 unfolding mark_ok
 returns c = search rules
 
-pub mark-ok-spec : {M : Type 1} → statement M
-mark-ok-spec = tie.close (tie.spec returns)
+pub mark_ok_spec : {M : Type 1} → statement M
+mark_ok_spec = tie.close (tie.spec returns)

@@ -6,16 +6,16 @@ use Rattle.table.specs.Checks.{within}
 use Rattle.ranges.proofs.within.Statement.{statement}
 use Rattle.ranges.proofs.within.Tie as tie
 
-wide-requires : tie.Need-wide-requires
+wide-requires : tie.Need-wide-x-requires
 wide-requires c κs = search rules
 
-returns : tie.Need-returns
+returns : tie.Need-returns-then-low-x
 unfolding within
-returns c = rw (← c.before.wide.ensures.0) (and-on (le-leb _ _ c.if1.taken))
+returns c = rw (← c.before.wide-x.ensures.0) (and-on (le-leb _ _ c.if-low-x.taken))
 
-returns-2 : tie.Need-returns-2
+returns-2 : tie.Need-returns-else-low-x
 unfolding within
-returns-2 c = rw (← c.before.wide.ensures.0) (and-off _ (lt-leb _ _ c.if1.left))
+returns-2 c = rw (← c.before.wide-x.ensures.0) (and-off _ (lt-leb _ _ c.if-low-x.left))
 
-pub within-spec : {M : Type 1} → statement M
-within-spec = tie.close (tie.spec wide-requires returns returns-2)
+pub within_spec : {M : Type 1} → statement M
+within_spec = tie.close (tie.spec wide-requires returns returns-2)

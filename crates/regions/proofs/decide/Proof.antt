@@ -11,32 +11,32 @@ use Rattle.regions.proofs.Regions.{ended-kept, held-few, judged-least}
 use Rattle.regions.proofs.decide.Statement.{statement}
 use Rattle.regions.proofs.decide.Tie as tie
 
-is-barren-requires : tie.Need-is-barren-requires
+is-barren-requires : tie.Need-is_barren-requires
 is-barren-requires c κs = search rules
 
-same_length : tie.Need-same-length
+same_length : tie.Need-shape_of-cuts-then-is_barren
 same_length c = search rules
 
-returns : tie.Need-returns
+returns : tie.Need-returns-then-is_barren
 returns c =
     let pre = c.before.before.before.before.before.before.before.before.before.requires in
-    let is-barren = c.before.is-barren in
+    let is-barren = c.before.is_barren in
     let ready = pre.1.1.0 in
-    let none = is-barren.ensures.none c.if1.true _ _ (admits-monotone _ pre.0.well_formed _) ready in
+    let none = is-barren.ensures.none c.if-is_barren.true _ _ (admits-monotone _ pre.0.well_formed _) ready in
     decided-over (ended-barren (more_same ready.known) none refl refl)
 
 unmet-requires : tie.Need-unmet-requires
 unmet-requires c κs = search rules
 
-same-length-2 : tie.Need-same-length-2
+same-length-2 : tie.Need-shape_of-cuts-then-among-ne0
 same-length-2 c = search rules
 
-returns-2 : tie.Need-returns-2
+returns-2 : tie.Need-returns-then-among-ne0
 returns-2 c =
     let args = c.before.before.before.before.before.before.before.before.before.before.before.before.args in
     let pre = c.before.before.before.before.before.before.before.before.before.before.before.before.requires in
     let unmet = c.before.unmet in
-    decided-left _ (and-part unmet.result args.free) (more_same pre.1.1.0.known) (λ none. absurd (c.if2.true none))
+    decided-left _ (and-part unmet.result args.free) (more_same pre.1.1.0.known) (λ none. absurd (c.if-among-ne0.true none))
 
 admits-requires : tie.Need-admits-requires
 admits-requires c κs = search rules
@@ -44,13 +44,13 @@ admits-requires c κs = search rules
 keep-requires : tie.Need-keep-requires
 keep-requires c κs =
     let at-if3 = c.before.before in
-    let if3 = at-if3.if3 in
+    let if3 = at-if3.if-admits in
     let at-admits = at-if3.before in
     let admits = at-admits.admits in
     let at-if1 = at-admits.before.before.before.before in
-    let if1 = at-if1.if1 in
+    let if1 = at-if1.if-is_barren in
     let at-is-barren = at-if1.before in
-    let is-barren = at-is-barren.is-barren in
+    let is-barren = at-is-barren.is_barren in
     let start = at-is-barren.before.before.before.before.before.before.before.before in
     let pre = start.requires in
     let ready = pre.1.1.0 in
@@ -68,18 +68,18 @@ keep-requires c κs =
       ),
     )
 
-same-length-3 : tie.Need-same-length-3
+same-length-3 : tie.Need-shape_of-cuts-then-admits
 same-length-3 c = search rules
 
-same-length-4 : tie.Need-same-length-4
+same-length-4 : tie.Need-shape_of-sets-then-admits
 same-length-4 c = search rules
 
-returns-3 : tie.Need-returns-3
+returns-3 : tie.Need-returns-then-admits
 returns-3 c =
     let at-keep = c.before.before in
     let keep = at-keep.keep in
     let at-if3 = at-keep.before.before.before in
-    let if3 = at-if3.if3 in
+    let if3 = at-if3.if-admits in
     let at-admits = at-if3.before in
     let admits = at-admits.admits in
     let start = at-admits.before.before.before.before.before.before.before.before.before.before.before.before.before in
@@ -87,22 +87,22 @@ returns-3 c =
     let passes = sym admits.ensures ∙ if3.true in
     decided-over (ended-kept pre.0.well_formed pre.1.1.0 passes keep.ensures)
 
-same-length-5 : tie.Need-same-length-5
+same-length-5 : tie.Need-shape_of-cuts-then-count-cuts
 same-length-5 c = search rules
 
-returns-4 : tie.Need-returns-4
+returns-4 : tie.Need-returns-then-count-cuts
 returns-4 c =
     let pre = c.before.before.before.before.before.before.before.before.before.before.before.before.before.before.before.requires in
     let admits = c.before.before.admits in
-    let if3 = c.before.if3 in
+    let if3 = c.before.if-admits in
     let ready = pre.1.1.0 in
     let fails = sym admits.ensures ∙ if3.false in
-    decided-left _ (part-refl _) (more_same ready.known) (full-barren ready c.if4.true fails)
+    decided-left _ (part-refl _) (more_same ready.known) (full-barren ready c.if-count-cuts.true fails)
 
 grown-requires : tie.Need-grown-requires
 grown-requires c κs =
     let at-if3 = c.before.before.before.before in
-    let if3 = at-if3.if3 in
+    let if3 = at-if3.if-admits in
     let at-admits = at-if3.before in
     let admits = at-admits.admits in
     let start = at-admits.before.before.before.before.before.before.before.before.before.before.before.before.before in
@@ -110,47 +110,47 @@ grown-requires c κs =
     let ready = pre.1.1.0 in
     (pre.0, (pre.1.0, (ready.known, (chosen-fits ready, sym admits.ensures ∙ if3.false))))
 
-outside-requires : tie.Need-outside-requires
+outside-requires : tie.Need-outside-cut-requires
 outside-requires c κs = search rules
 
-mul-cuts : tie.Need-overflow-mul-cuts
+mul-cuts : tie.Need-offset_bounds-cuts-count
 mul-cuts c =
     let start = c.before.before.before.before.before.before.before.before.before.before.before.before.before.before.before.before.before.before.before.before in
-    let slice-known = c.before.before.before.before.before.before.before.before.before.before.before.before.before.before.before.before.slice-known in
-    let if4 = c.before.before.before.before.before.if4 in
+    let slice-known = c.before.before.before.before.before.before.before.before.before.before.before.before.before.before.before.before.slice_known-1 in
+    let if4 = c.before.before.before.before.before.if-count-cuts in
     search (rules, start.well-formed.1.1.1.1.1.1.1.0, slice-known.given, start.requires.1.1.0.known.room, if4.false)
 
-slice-write-cuts : tie.Need-slice-write-cuts
+slice-write-cuts : tie.Need-bounds-cuts-count
 slice-write-cuts c =
     let start = c.before.before.before.before.before.before.before.before.before.before.before.before.before.before.before.before.before.before.before.before in
-    let if4 = c.before.before.before.before.before.if4 in
+    let if4 = c.before.before.before.before.before.if-count-cuts in
     search (rules, start.requires.1.1.0.known.room, if4.false)
 
-add-count : tie.Need-overflow-add-count
+add-count : tie.Need-overflow_add-count
 add-count c =
     let start = c.before.before.before.before.before.before.before.before.before.before.before.before.before.before.before.before.before.before.before.before in
-    let slice-known = c.before.before.before.before.before.before.before.before.before.before.before.before.before.before.before.before.slice-known in
-    let if4 = c.before.before.before.before.before.if4 in
+    let slice-known = c.before.before.before.before.before.before.before.before.before.before.before.before.before.before.before.before.slice_known-1 in
+    let if4 = c.before.before.before.before.before.if-count-cuts in
     search (rules, start.well-formed.1.1.1.1.1.1.1.0, slice-known.given, start.requires.1.1.0.known.room, if4.false)
 
-same-length-6 : tie.Need-same-length-6
+same-length-6 : tie.Need-shape_of-cuts
 same-length-6 c = search rules
 
-same-length-7 : tie.Need-same-length-7
+same-length-7 : tie.Need-shape_of-sets
 same-length-7 c = search rules
 
-returns-5 : tie.Need-returns-5
+returns-5 : tie.Need-returns
 returns-5 c =
     let at-grown = c.before in
     let grown = at-grown.grown in
     let at-if4 = at-grown.before.before.before.before in
-    let if4 = at-if4.if4 in
+    let if4 = at-if4.if-count-cuts in
     let start = at-if4.before.before.before.before.before.before.before.before.before.before.before.before.before.before.before in
     let pre = start.requires in
-    decided-cut pre.0.well_formed pre.1.1.0 if4.false _ _ grown.ensures c.outside.ensures
+    decided-cut pre.0.well_formed pre.1.1.0 if4.false _ _ grown.ensures c.outside-cut.ensures
 
-pub decide-spec : {M : Type 1} → statement M
-decide-spec =
+pub decide_spec : {M : Type 1} → statement M
+decide_spec =
     tie.close
     (tie.spec
     is-barren-requires

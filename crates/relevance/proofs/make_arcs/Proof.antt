@@ -9,67 +9,67 @@ use Rattle.relevance.proofs.RowMaking.{RowMaking, blank-full, own-place, rows_al
 use Rattle.relevance.proofs.make_arcs.Statement.{statement}
 use Rattle.relevance.proofs.make_arcs.Tie as tie
 
-abbrev invariant-loop : tie.invariant-loop
+abbrev invariant-loop : tie.invariant-loop-i
 invariant-loop table index set arcs₀ n i₀ arcs i = RowMaking table index set i arcs
 
-abbrev decreases-loop : tie.decreases-loop
+abbrev decreases-loop : tie.decreases-loop-i
 decreases-loop table index set arcs₀ n i₀ arcs i = n - i
 
 -- where the rows were asked for
-abbrev start : tie.At-loop invariant-loop decreases-loop → tie.Start invariant-loop decreases-loop
+abbrev start : tie.At-loop-i invariant-loop decreases-loop → tie.Start invariant-loop decreases-loop
 start at = at.before.before.before.before.before.before.before.before.before
 
 begin-requires : tie.Need-begin-requires invariant-loop decreases-loop
 begin-requires c κs = search rules
 
-credentials-requires : tie.Need-credentials-requires invariant-loop decreases-loop
+credentials-requires : tie.Need-credentials-n-requires invariant-loop decreases-loop
 credentials-requires c κs = search rules
 
-loop-holds : tie.Need-loop-init invariant-loop decreases-loop
+loop-holds : tie.Need-loop-i-init invariant-loop decreases-loop
 loop-holds c =
     let begun = c.before.before in
     let at = begun.before.before.before.before.before.before in
-    rows_none _ _ begun.before.begin.ensures (begun.arcs.given ∙ blank-full _ at.requires.1.1)
+    rows_none _ _ begun.before.begin.ensures (begun.arcs-1.given ∙ blank-full _ at.requires.1.1)
 
 has-requires : tie.Need-has-requires invariant-loop decreases-loop
 has-requires c κs = search rules
 
-role-cell-requires : tie.Need-role-cell-requires invariant-loop decreases-loop
+role-cell-requires : tie.Need-role_cell-requires invariant-loop decreases-loop
 role-cell-requires c κs = search rules
 
 make-requires : tie.Need-make-requires invariant-loop decreases-loop
 make-requires c κs =
     let at = c.before.before.before.before.before in
     let (wf, (indexed, blank)) = (start at).requires in
-    let m = at.loop.invariant in
-    (wf, (m.whole, (own-place indexed (omega arith) c.role-cell.ensures.0, m.full)))
+    let m = at.loop-i.invariant in
+    (wf, (m.whole, (own-place indexed (omega arith) c.role_cell.ensures.0, m.full)))
 
-add-i : tie.Need-overflow-add-i invariant-loop decreases-loop
+add-i : tie.Need-overflow_add-i invariant-loop decreases-loop
 add-i c = search rules
 
-loop-less : tie.Need-loop-smaller invariant-loop decreases-loop
+loop-less : tie.Need-loop-i-smaller invariant-loop decreases-loop
 loop-less c = search rules
 
-loop-again : tie.Need-loop-preserved invariant-loop decreases-loop
+loop-again : tie.Need-loop-i-preserved invariant-loop decreases-loop
 loop-again c =
     let at = c.before.before.before in
     let (wf, (indexed, blank)) = (start at).requires in
-    let m = at.loop.invariant in
+    let m = at.loop-i.invariant in
     ⊎_elim
-    (λ w. rw w.6 (rows_more m (omega arith) wf indexed w.2.ensures.0 w.3.ensures.0 w.3.ensures.1 w.4.given))
-    (λ w. rw w.1 (rows-not m (omega arith) (sym c.before.has.ensures ∙ w.0.left)))
-    c.if1.branch
+    (λ w. rw w.arcs-is (rows_more m (omega arith) wf indexed w.role_cell.ensures.0 w.make.ensures.0 w.make.ensures.1 w.arcs-then-has-1.given))
+    (λ w. rw w.arcs-is (rows-not m (omega arith) (sym c.before.has.ensures ∙ w.if-has.false)))
+    c.if-has.branch-raw
 
-same_length : tie.Need-same-length invariant-loop decreases-loop
+same_length : tie.Need-shape_of-arcs invariant-loop decreases-loop
 same_length c =
     let at = c.before in
-    at.loop.invariant.full ∙ sym (blank-full _ (start at).requires.1.1)
+    at.loop-i.invariant.full ∙ sym (blank-full _ (start at).requires.1.1)
 
 returns : tie.Need-returns invariant-loop decreases-loop
-returns c = let m = c.before.loop.invariant in (m.whole, rows_all m (omega arith))
+returns c = let m = c.before.loop-i.invariant in (m.whole, rows_all m (omega arith))
 
-pub make-arcs-spec : {M : Type 1} → statement M
-make-arcs-spec =
+pub make_arcs_spec : {M : Type 1} → statement M
+make_arcs_spec =
     tie.close
     (tie.spec
     invariant-loop

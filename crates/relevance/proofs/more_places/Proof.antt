@@ -11,53 +11,53 @@ use borrow.Author.Rules.{rules}
 use Rattle.relevance.proofs.more_places.Statement.{statement}
 use Rattle.relevance.proofs.more_places.Tie as tie
 
-abbrev invariant-loop : tie.invariant-loop
+abbrev invariant-loop : tie.invariant-loop-i
 invariant-loop table index before places n more₀ i₀ more i = (i ≤ n) × Round table index i places more
 
-abbrev decreases-loop : tie.decreases-loop
+abbrev decreases-loop : tie.decreases-loop-i
 decreases-loop table index before places n more₀ i₀ more i = n - i
 
-credentials-requires : tie.Need-credentials-requires invariant-loop decreases-loop
+credentials-requires : tie.Need-credentials-n-requires invariant-loop decreases-loop
 credentials-requires c κs = search rules
 
-loop-holds : tie.Need-loop-init invariant-loop decreases-loop
+loop-holds : tie.Need-loop-i-init invariant-loop decreases-loop
 loop-holds c = (omega arith, round-starts _ _ _)
 
-role-cell-requires : tie.Need-role-cell-requires invariant-loop decreases-loop
+role-cell-requires : tie.Need-role_cell-requires invariant-loop decreases-loop
 role-cell-requires c κs = search rules
 
-is-new-requires : tie.Need-is-new-requires invariant-loop decreases-loop
+is-new-requires : tie.Need-is_new-requires invariant-loop decreases-loop
 is-new-requires c κs = search rules
 
-with-roles-requires : tie.Need-with-roles-requires invariant-loop decreases-loop
+with-roles-requires : tie.Need-with_roles-more-requires invariant-loop decreases-loop
 with-roles-requires c κs =
     let pre = c.before.before.before.before.before.before.before.before.requires in
     (pre.0, (pre.1.0, omega arith))
 
-add-i : tie.Need-overflow-add-i invariant-loop decreases-loop
+add-i : tie.Need-overflow_add-i invariant-loop decreases-loop
 add-i c = search rules
 
-loop-less : tie.Need-loop-smaller invariant-loop decreases-loop
+loop-less : tie.Need-loop-i-smaller invariant-loop decreases-loop
 loop-less c = search rules
 
-loop-again : tie.Need-loop-preserved invariant-loop decreases-loop
+loop-again : tie.Need-loop-i-preserved invariant-loop decreases-loop
 loop-again c =
-    let round = c.before.before.before.before.loop.invariant.1 in
+    let round = c.before.before.before.before.loop-i.invariant.1 in
     let closed = c.before.before.before.before.before.before.before.before.requires.1.1 in
-    let place = c.before.before.role-cell.ensures.0 in
-    let told = c.before.is-new.ensures in (
+    let place = c.before.before.role_cell.ensures.0 in
+    let told = c.before.is_new.ensures in (
       omega arith,
-      ⊎_elim (λ w. round_with _ _ _ _ _ _ round w.2 w.1.ensures)
-          (λ w. round-old _ _ _ _ _ _ round w.1 _ (omega arith) closed place told w.0.left) c.if1.branch,
+      ⊎_elim (λ w. round_with _ _ _ _ _ _ round w.more-is w.with_roles-more.ensures)
+          (λ w. round-old _ _ _ _ _ _ round w.more-is _ (omega arith) closed place told w.if-is_new.false) c.if-is_new.branch-raw,
     )
 
 returns : tie.Need-returns invariant-loop decreases-loop
 returns c =
-    let all : c.before.loop.i ≡ credentials c.before.before.before.before.before.args.table.now = omega arith in
-    rw all at c.before.loop.invariant.1
+    let all : c.before.loop-i.i ≡ credentials c.before.before.before.before.before.args.table.now = omega arith in
+    rw all at c.before.loop-i.invariant.1
 
-pub more-places-spec : {M : Type 1} → statement M
-more-places-spec =
+pub more_places_spec : {M : Type 1} → statement M
+more_places_spec =
     tie.close
     (tie.spec
     invariant-loop

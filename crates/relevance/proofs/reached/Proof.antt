@@ -15,41 +15,41 @@ use borrow.Author.Rules.{rules}
 use Rattle.relevance.proofs.reached.Statement.{statement}
 use Rattle.relevance.proofs.reached.Tie as tie
 
-abbrev invariant-loop : tie.invariant-loop
+abbrev invariant-loop : tie.invariant-loop-places
 invariant-loop table index before₀ places₀ before places =
     (places < 4294967296) × ((in_set places (get_or index goal_role 0) ≡ true) × Round table index (credentials table) before places)
 
-abbrev decreases-loop : tie.decreases-loop
+abbrev decreases-loop : tie.decreases-loop-places
 decreases-loop table index before₀ places₀ before places = 4294967296 - before
 
-goal-role-requires : tie.Need-goal-role-requires invariant-loop decreases-loop
+goal-role-requires : tie.Need-goal_role-requires invariant-loop decreases-loop
 goal-role-requires c κs = search rules
 
-with-requires : tie.Need-with-requires invariant-loop decreases-loop
+with-requires : tie.Need-with-places-requires invariant-loop decreases-loop
 with-requires c κs = search rules
 
-loop-holds : tie.Need-loop-init invariant-loop decreases-loop
-loop-holds c = (c.with.type-inv, (with-has 0 _ _ c.with.ensures c.before.goal-role.ensures.0, round-first _ _ _))
+loop-holds : tie.Need-loop-places-init invariant-loop decreases-loop
+loop-holds c = (c.with-places.type-inv, (with-has 0 _ _ c.with-places.ensures c.before.goal_role.ensures.0, round-first _ _ _))
 
-more-places-requires : tie.Need-more-places-requires invariant-loop decreases-loop
+more-places-requires : tie.Need-more_places-more-requires invariant-loop decreases-loop
 more-places-requires c κs = search rules
 
-loop-less : tie.Need-loop-smaller invariant-loop decreases-loop
-loop-less c = round-less _ _ _ _ _ _ c.before.before.loop.invariant.1.1 c.before.loop-test.true (omega arith)
+loop-less : tie.Need-loop-places-smaller invariant-loop decreases-loop
+loop-less c = round-less _ _ _ _ _ _ c.before.before.loop-places.invariant.1.1 c.before.loop-places-test.true (omega arith)
 
-loop-again : tie.Need-loop-preserved invariant-loop decreases-loop
+loop-again : tie.Need-loop-places-preserved invariant-loop decreases-loop
 loop-again c =
-    let inv = c.before.before.loop.invariant.1 in
-    let more = c.more-places.ensures in
-    (c.more-places.type-inv, (part-member _ _ _ more.grows inv.0, more))
+    let inv = c.before.before.loop-places.invariant.1 in
+    let more = c.more_places-more.ensures in
+    (c.more_places-more.type-inv, (part-member _ _ _ more.grows inv.0, more))
 
 returns : tie.Need-returns invariant-loop decreases-loop
 returns c =
-    let inv = c.before.loop.invariant.1 in
-    (inv.0, rw (← c.loop-test.false) at inv.1)
+    let inv = c.before.loop-places.invariant.1 in
+    (inv.0, rw (← c.loop-places-test.false) at inv.1)
 
-pub reached-spec : {M : Type 1} → statement M
-reached-spec =
+pub reached_spec : {M : Type 1} → statement M
+reached_spec =
     tie.close
     (tie.spec
     invariant-loop

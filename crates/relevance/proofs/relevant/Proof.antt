@@ -10,7 +10,7 @@ credentials-requires c κs = search rules
 reached-requires : tie.Need-reached-requires
 reached-requires c κs = search rules
 
-at-places-requires : tie.Need-at-places-requires
+at-places-requires : tie.Need-at_places-requires
 at-places-requires c κs = search rules
 
 returns : tie.Need-returns
@@ -20,6 +20,6 @@ returns c =
     let pre = c.before.before.before.before.before.requires in
     relevant-found _ _ _ pre.0 pre.1.0 pre.1.1 _ _ _ found.0 found.1 count c.at_places.ensures
 
-pub relevant-spec : {M : Type 1} → statement M
-relevant-spec =
+pub relevant_spec : {M : Type 1} → statement M
+relevant_spec =
     tie.close (tie.spec credentials-requires reached-requires at-places-requires returns)

@@ -8,40 +8,40 @@ use borrow.Author.Rules.{rules}
 use Rattle.relevance.proofs.with_asked.Statement.{statement}
 use Rattle.relevance.proofs.with_asked.Tie as tie
 
-abbrev invariant-loop : tie.invariant-loop
+abbrev invariant-loop : tie.invariant-loop-k
 invariant-loop index i places more₀ k₀ more k = (k ≤ 4) × WithAsked index i k places more
 
-abbrev decreases-loop : tie.decreases-loop
+abbrev decreases-loop : tie.decreases-loop-k
 decreases-loop index i places more₀ k₀ more k = 4 - k
 
-loop-holds : tie.Need-loop-init invariant-loop decreases-loop
+loop-holds : tie.Need-loop-k-init invariant-loop decreases-loop
 loop-holds c = (omega arith, asked-none _ _ _)
 
-asked-cell-requires : tie.Need-asked-cell-requires invariant-loop decreases-loop
+asked-cell-requires : tie.Need-asked_cell-requires invariant-loop decreases-loop
 asked-cell-requires c κs = search rules
 
-with-requires : tie.Need-with-requires invariant-loop decreases-loop
+with-requires : tie.Need-with-more-requires invariant-loop decreases-loop
 with-requires c κs = search rules
 
-add-k : tie.Need-overflow-add-k invariant-loop decreases-loop
+add-k : tie.Need-overflow_add-k invariant-loop decreases-loop
 add-k c = search rules
 
-loop-less : tie.Need-loop-smaller invariant-loop decreases-loop
+loop-less : tie.Need-loop-k-smaller invariant-loop decreases-loop
 loop-less c = search rules
 
-loop-again : tie.Need-loop-preserved invariant-loop decreases-loop
+loop-again : tie.Need-loop-k-preserved invariant-loop decreases-loop
 loop-again c =
-    let loop = c.before.before.before.loop in
-    let cell = c.before.asked-cell.ensures.0 in
-    (omega arith, asked-more _ _ _ c.with.ensures _ _ loop.k _ cell loop.invariant.1)
+    let loop = c.before.before.before.loop-k in
+    let cell = c.before.asked_cell.ensures.0 in
+    (omega arith, asked-more _ _ _ c.with-more.ensures _ _ loop.k _ cell loop.invariant.1)
 
 returns : tie.Need-returns invariant-loop decreases-loop
 returns c =
-    let all : c.before.loop.k ≡ 4 = omega arith in
-    rw all at c.before.loop.invariant.1
+    let all : c.before.loop-k.k ≡ 4 = omega arith in
+    rw all at c.before.loop-k.invariant.1
 
-pub with-asked-spec : {M : Type 1} → statement M
-with-asked-spec =
+pub with_asked_spec : {M : Type 1} → statement M
+with_asked_spec =
     tie.close
     (tie.spec
     invariant-loop

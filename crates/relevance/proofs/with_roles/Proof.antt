@@ -5,31 +5,31 @@ use borrow.Author.Rules.{rules}
 use Rattle.relevance.proofs.with_roles.Statement.{statement}
 use Rattle.relevance.proofs.with_roles.Tie as tie
 
-add-credential : tie.Need-overflow-add-credential
+add-credential : tie.Need-overflow_add-i
 add-credential c = search rules
 
-credential-requires : tie.Need-credential-requires
+credential-requires : tie.Need-credential-credential-requires
 credential-requires c κs = search rules
 
-returns : tie.Need-returns
-returns c = roles-none _ _ _ _ c.before.credential.ensures _ c.if1.true
+returns : tie.Need-returns-then-kind-eq-SIMPLE_MEMBERSHIP
+returns c = roles-none _ _ _ _ c.before.credential-credential.ensures _ c.if-kind-eq-SIMPLE_MEMBERSHIP.true
 
-with-asked-requires : tie.Need-with-asked-requires
+with-asked-requires : tie.Need-with_asked-more-requires
 with-asked-requires c κs = search rules
 
-returns-2 : tie.Need-returns-2
+returns-2 : tie.Need-returns-then-kind-ne-LINKING_CONTAINMENT
 returns-2 c =
-    let read = c.before.before.before.credential.ensures in
-    roles-asked _ _ _ _ read _ _ c.if2.true c.before.with-asked.ensures
+    let read = c.before.before.before.credential-credential.ensures in
+    roles-asked _ _ _ _ read _ _ c.if-kind-ne-LINKING_CONTAINMENT.true c.before.with_asked-more.ensures
 
-with-links-requires : tie.Need-with-links-requires
+with-links-requires : tie.Need-with_links-requires
 with-links-requires c κs = search rules
 
-returns-3 : tie.Need-returns-3
-returns-3 c = roles-linked _ _ _ _ _ _ c.before.before.with-asked.ensures c.with-links.ensures
+returns-3 : tie.Need-returns
+returns-3 c = roles-linked _ _ _ _ _ _ c.before.before.with_asked-more.ensures c.with_links.ensures
 
-pub with-roles-spec : {M : Type 1} → statement M
-with-roles-spec =
+pub with_roles_spec : {M : Type 1} → statement M
+with_roles_spec =
     tie.close
     (tie.spec
     add-credential

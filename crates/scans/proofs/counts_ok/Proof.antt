@@ -7,45 +7,45 @@ use Rattle.table.specs.Checks.{counts_ok}
 use Rattle.scans.proofs.counts_ok.Statement.{statement}
 use Rattle.scans.proofs.counts_ok.Tie as tie
 
-shared-slice-read-if1 : tie.Need-shared-slice-read-if1
+shared-slice-read-if1 : tie.Need-bounds-table-0
 shared-slice-read-if1 c = search rules
 
-shared-slice-read-if2 : tie.Need-shared-slice-read-if2
+shared-slice-read-if2 : tie.Need-bounds-table-1
 shared-slice-read-if2 c = search rules
 
-shared-slice-read-if3 : tie.Need-shared-slice-read-if3
+shared-slice-read-if3 : tie.Need-bounds-table-2
 shared-slice-read-if3 c = search rules
 
-shared-slice-read-result : tie.Need-shared-slice-read-result
+shared-slice-read-result : tie.Need-bounds-table-3
 shared-slice-read-result c = search rules
 
-returns : tie.Need-returns
+returns : tie.Need-returns-then-table-le-MOST_AUTOMATA
 unfolding counts_ok
 returns c =
-    let if2 = c.before.before.before.if2 in
-    let if1 = c.before.before.before.before.before.if1 in
-    and-on (le-leb _ _ c.before.if3.true) ∙ and-on (le-leb _ _ if2.true) ∙ and-on (le-leb _ _
+    let if2 = c.before.before.before.if-table-le-MOST_CELLS in
+    let if1 = c.before.before.before.before.before.if-table-le-MOST_CREDENTIALS in
+    and-on (le-leb _ _ c.before.if-table-le-MOST_AUTOMATA.true) ∙ and-on (le-leb _ _ if2.true) ∙ and-on (le-leb _ _
     if1.true)
 
-returns-2 : tie.Need-returns-2
+returns-2 : tie.Need-returns-else-table-le-MOST_AUTOMATA
 unfolding counts_ok
 returns-2 c =
-    let if2 = c.before.before.if2 in
-    let if1 = c.before.before.before.before.if1 in
-    and-off _ (lt-leb _ _ c.if3.false) ∙ and-on (le-leb _ _ if2.true) ∙ and-on (le-leb _ _ if1.true)
+    let if2 = c.before.before.if-table-le-MOST_CELLS in
+    let if1 = c.before.before.before.before.if-table-le-MOST_CREDENTIALS in
+    and-off _ (lt-leb _ _ c.if-table-le-MOST_AUTOMATA.false) ∙ and-on (le-leb _ _ if2.true) ∙ and-on (le-leb _ _ if1.true)
 
-returns-3 : tie.Need-returns-3
+returns-3 : tie.Need-returns-else-table-le-MOST_CELLS
 unfolding counts_ok
 returns-3 c =
-    let if1 = c.before.before.if1 in
-    and-off _ (lt-leb _ _ c.if2.false) ∙ and-on (le-leb _ _ if1.true)
+    let if1 = c.before.before.if-table-le-MOST_CREDENTIALS in
+    and-off _ (lt-leb _ _ c.if-table-le-MOST_CELLS.false) ∙ and-on (le-leb _ _ if1.true)
 
-returns-4 : tie.Need-returns-4
+returns-4 : tie.Need-returns-else-table-le-MOST_CREDENTIALS
 unfolding counts_ok
-returns-4 c = and-off _ (lt-leb _ _ c.if1.false)
+returns-4 c = and-off _ (lt-leb _ _ c.if-table-le-MOST_CREDENTIALS.false)
 
-pub counts-ok-spec : {M : Type 1} → statement M
-counts-ok-spec =
+pub counts_ok_spec : {M : Type 1} → statement M
+counts_ok_spec =
     tie.close
     (tie.spec
     shared-slice-read-if1

@@ -13,44 +13,44 @@ use Rattle.scans.proofs.FirstBad.{bad-next, bad-none}
 use Rattle.scans.proofs.first_bad.Statement.{statement}
 use Rattle.scans.proofs.first_bad.Tie as tie
 
-abbrev invariant-loop : tie.invariant-loop
+abbrev invariant-loop : tie.invariant-loop-i
 invariant-loop table row n i₀ i = (i ≤ n) × ((number : ℕ) → demand_each (good table row) i number ≡ accepted 0)
 
-abbrev decreases-loop : tie.decreases-loop
+abbrev decreases-loop : tie.decreases-loop-i
 decreases-loop table row n i₀ i = n - i
 
-records-requires : tie.Need-records-requires invariant-loop decreases-loop
+records-requires : tie.Need-records-n-requires invariant-loop decreases-loop
 records-requires c κs = search rules
 
-loop-holds : tie.Need-loop-init invariant-loop decreases-loop
+loop-holds : tie.Need-loop-i-init invariant-loop decreases-loop
 unfolding demand_each
 loop-holds c = (omega arith, λ number. refl)
 
-add-i : tie.Need-overflow-add-i invariant-loop decreases-loop
+add-i : tie.Need-overflow_add-i invariant-loop decreases-loop
 add-i c = search rules
 
-is-good-requires : tie.Need-is-good-requires invariant-loop decreases-loop
+is-good-requires : tie.Need-is_good-requires invariant-loop decreases-loop
 is-good-requires c κs = search rules
 
-returns : tie.Need-returns invariant-loop decreases-loop
+returns : tie.Need-returns-then-not-is_good invariant-loop decreases-loop
 returns c =
-    let loop = c.before.before.before.loop in
-    bad-next _ _ _ loop.invariant.1 (omega arith) (failed c.before.is-good.ensures c.if1.true)
+    let loop = c.before.before.before.loop-i in
+    bad-next _ _ _ loop.invariant.1 (omega arith) (failed c.before.is_good.ensures c.if-not-is_good.true)
 
-loop-less : tie.Need-loop-smaller invariant-loop decreases-loop
+loop-less : tie.Need-loop-i-smaller invariant-loop decreases-loop
 loop-less c = search rules
 
-loop-again : tie.Need-loop-preserved invariant-loop decreases-loop
+loop-again : tie.Need-loop-i-preserved invariant-loop decreases-loop
 loop-again c =
-    let loop = c.before.before.before.loop in
-    let here = passed c.before.is-good.ensures c.if1.false in
+    let loop = c.before.before.before.loop-i in
+    let here = passed c.before.is_good.ensures c.if-not-is_good.false in
     (omega arith, λ number. each-passes _ number _ (loop.invariant.1 number) here)
 
-returns-2 : tie.Need-returns-2 invariant-loop decreases-loop
-returns-2 c = bad-none _ _ _ c.before.loop.invariant.1 (omega arith)
+returns-2 : tie.Need-returns invariant-loop decreases-loop
+returns-2 c = bad-none _ _ _ c.before.loop-i.invariant.1 (omega arith)
 
-pub first-bad-spec : {M : Type 1} → statement M
-first-bad-spec =
+pub first_bad_spec : {M : Type 1} → statement M
+first_bad_spec =
     tie.close
     (tie.spec
     invariant-loop

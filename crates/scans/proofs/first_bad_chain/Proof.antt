@@ -15,10 +15,10 @@ use Rattle.scans.proofs.FirstBad.{bad-next, bad-none}
 use Rattle.scans.proofs.first_bad_chain.Statement.{statement}
 use Rattle.scans.proofs.first_bad_chain.Tie as tie
 
-abbrev invariant-loop : tie.invariant-loop
+abbrev invariant-loop : tie.invariant-loop-j
 invariant-loop table n i met₀ j₀ met j = (good_chain table i ≡ chain_ok table j₀) × Walked table j₀ met j
 
-abbrev decreases-loop : tie.decreases-loop
+abbrev decreases-loop : tie.decreases-loop-j
 decreases-loop table n i met₀ j₀ met j = 5 - met
 
 abbrev invariant-credentials : tie.invariant-credentials
@@ -29,7 +29,7 @@ decreases-credentials table n i₀ i = n - i
 
 -- what is known where a chain is walked: the walk so far, and before it the credentials passed, and rows 4 and 5
 abbrev Walking : Type 0
-Walking = tie.At-loop invariant-loop decreases-loop invariant-credentials decreases-credentials
+Walking = tie.At-loop-j invariant-loop decreases-loop invariant-credentials decreases-credentials
 
 abbrev outer : Walking → tie.At-credentials invariant-loop decreases-loop invariant-credentials decreases-credentials
 outer at = at.before.before.before.before.before
@@ -40,88 +40,88 @@ start at = (outer at).before.before.before.before.before
 cells-requires : tie.Need-cells-requires invariant-loop decreases-loop invariant-credentials decreases-credentials
 cells-requires c κs = search rules
 
-returns : tie.Need-returns invariant-loop decreases-loop invariant-credentials decreases-credentials
+returns : tie.Need-returns-then-cells-eq0 invariant-loop decreases-loop invariant-credentials decreases-credentials
 returns c =
     let pre = c.before.before.before.requires in
-    no_cells _ pre.1.0 (sym c.before.cells.ensures.same ∙ c.if1.true)
+    no_cells _ pre.1.0 (sym c.before.cells.ensures.same ∙ c.if-cells-eq0.true)
 
-credentials-requires : tie.Need-credentials-requires invariant-loop decreases-loop invariant-credentials decreases-credentials
+credentials-requires : tie.Need-credentials-n-requires invariant-loop decreases-loop invariant-credentials decreases-credentials
 credentials-requires c κs = search rules
 
 credentials-holds : tie.Need-credentials-init invariant-loop decreases-loop invariant-credentials decreases-credentials
 unfolding demand_each
 credentials-holds c = (omega arith, λ number. refl)
 
-add-i : tie.Need-overflow-add-i invariant-loop decreases-loop invariant-credentials decreases-credentials
+add-i : tie.Need-overflow_add-i invariant-loop decreases-loop invariant-credentials decreases-credentials
 add-i c = search rules
 
-credential-requires : tie.Need-credential-requires invariant-loop decreases-loop invariant-credentials decreases-credentials
+credential-requires : tie.Need-credential-c-requires invariant-loop decreases-loop invariant-credentials decreases-credentials
 credential-requires c κs = search rules
 
-credentials-less : tie.Need-credentials-smaller invariant-loop decreases-loop invariant-credentials decreases-credentials
+credentials-less : tie.Need-credentials-smaller-then-c-ne-INTERSECTION_CONTAINMENT invariant-loop decreases-loop invariant-credentials decreases-credentials
 credentials-less c = search rules
 
-credentials-again : tie.Need-credentials-preserved invariant-loop decreases-loop invariant-credentials decreases-credentials
+credentials-again : tie.Need-credentials-preserved-then-c-ne-INTERSECTION_CONTAINMENT invariant-loop decreases-loop invariant-credentials decreases-credentials
 credentials-again c =
     let credentials = c.before.before.before.before.credentials in
-    let other = no-chain _ _ c.before.before.credential.ensures c.if3.true in
+    let other = no-chain _ _ c.before.before.credential-c.ensures c.if-c-ne-INTERSECTION_CONTAINMENT.true in
     (omega arith, λ number. each-passes _ number _ (credentials.invariant.1 number) other)
 
-loop-holds : tie.Need-loop-init invariant-loop decreases-loop invariant-credentials decreases-credentials
+loop-holds : tie.Need-loop-j-init invariant-loop decreases-loop invariant-credentials decreases-credentials
 loop-holds c =
     let pre = c.before.before.before.before.before.before.before.before.before.requires in
-    let read = c.before.before.credential.ensures in
-    let four = c.if3.false in
+    let read = c.before.before.credential-c.ensures in
+    let four = c.if-c-ne-INTERSECTION_CONTAINMENT.false in
     (chain-of-kind-4 _ _ read four, walk-starts _ _ (first-inside _ pre.1.0 _ (omega arith) read four))
 
-add-met : tie.Need-overflow-add-met invariant-loop decreases-loop invariant-credentials decreases-credentials
+add-met : tie.Need-overflow_add-met invariant-loop decreases-loop invariant-credentials decreases-credentials
 add-met c = search rules
 
 wide-requires : tie.Need-wide-requires invariant-loop decreases-loop invariant-credentials decreases-credentials
 wide-requires c κs = search rules
 
-cell-requires : tie.Need-cell-requires invariant-loop decreases-loop invariant-credentials decreases-credentials
+cell-requires : tie.Need-cell-j-requires invariant-loop decreases-loop invariant-credentials decreases-credentials
 cell-requires c κs =
     let at = c.before.before.before in
-    ((start at).requires.0, omega (arith, at.loop.invariant.1.inside))
+    ((start at).requires.0, omega (arith, at.loop-j.invariant.1.inside))
 
-loop-less : tie.Need-loop-smaller invariant-loop decreases-loop invariant-credentials decreases-credentials
+loop-less : tie.Need-loop-j-smaller invariant-loop decreases-loop invariant-credentials decreases-credentials
 loop-less c = search rules
 
-loop-again : tie.Need-loop-preserved invariant-loop decreases-loop invariant-credentials decreases-credentials
+loop-again : tie.Need-loop-j-preserved invariant-loop decreases-loop invariant-credentials decreases-credentials
 loop-again c =
     let at = c.before.before.before.before in
-    let walked = at.loop.invariant.1 in
-    let inside = next-inside _ (start at).requires.1.1 at.loop.j (omega (arith, walked.inside)) in
-    let on = walk-goes-on _ _ _ _ walked inside c.before.before.before.loop-test.true (omega arith) in
-    (at.loop.invariant.0, rw (c.cell.ensures, c.before.wide.ensures.0) on)
+    let walked = at.loop-j.invariant.1 in
+    let inside = next-inside _ (start at).requires.1.1 at.loop-j.j (omega (arith, walked.inside)) in
+    let on = walk-goes-on _ _ _ _ walked inside c.before.before.before.loop-j-test.true (omega arith) in
+    (at.loop-j.invariant.0, rw (c.cell-j.ensures, c.before.wide.ensures.0) on)
 
-credentials-less-2 : tie.Need-credentials-smaller-2 invariant-loop decreases-loop invariant-credentials decreases-credentials
+credentials-less-2 : tie.Need-credentials-smaller invariant-loop decreases-loop invariant-credentials decreases-credentials
 credentials-less-2 c = search rules
 
-credentials-again-2 : tie.Need-credentials-preserved-2 invariant-loop decreases-loop invariant-credentials decreases-credentials
+credentials-again-2 : tie.Need-credentials-preserved invariant-loop decreases-loop invariant-credentials decreases-credentials
 credentials-again-2 c =
     let at = c.before.before in
-    let whole = long-enough _ _ _ _ at.loop.invariant.1 c.before.loop-test.false c.if5.false in
-    (omega arith, λ number. each-passes _ number _ ((outer at).credentials.invariant.1 number) (at.loop.invariant.0 ∙ whole))
+    let whole = long-enough _ _ _ _ at.loop-j.invariant.1 c.before.loop-j-test.false c.if-met-lt-LEAST_PARTS.false in
+    (omega arith, λ number. each-passes _ number _ ((outer at).credentials.invariant.1 number) (at.loop-j.invariant.0 ∙ whole))
 
-returns-2 : tie.Need-returns-2 invariant-loop decreases-loop invariant-credentials decreases-credentials
+returns-2 : tie.Need-returns-then-i-n invariant-loop decreases-loop invariant-credentials decreases-credentials
 returns-2 c = bad-none _ _ _ c.before.credentials.invariant.1 (omega arith)
 
-returns-3 : tie.Need-returns-3 invariant-loop decreases-loop invariant-credentials decreases-credentials
+returns-3 : tie.Need-returns-then-met-gt-MOST_PARTS invariant-loop decreases-loop invariant-credentials decreases-credentials
 returns-3 c =
     let at = c.before.before in
-    let long = too_long _ _ _ _ at.loop.invariant.1 c.before.loop-test.true c.if4.true in
-    bad-next _ _ _ (outer at).credentials.invariant.1 (omega arith) (at.loop.invariant.0 ∙ long)
+    let long = too_long _ _ _ _ at.loop-j.invariant.1 c.before.loop-j-test.true c.if-met-gt-MOST_PARTS.true in
+    bad-next _ _ _ (outer at).credentials.invariant.1 (omega arith) (at.loop-j.invariant.0 ∙ long)
 
-returns-4 : tie.Need-returns-4 invariant-loop decreases-loop invariant-credentials decreases-credentials
+returns-4 : tie.Need-returns-then-met-lt-LEAST_PARTS invariant-loop decreases-loop invariant-credentials decreases-credentials
 returns-4 c =
     let at = c.before.before in
-    let short = too_short _ _ _ _ at.loop.invariant.1 c.before.loop-test.false c.if5.true in
-    bad-next _ _ _ (outer at).credentials.invariant.1 (omega arith) (at.loop.invariant.0 ∙ short)
+    let short = too_short _ _ _ _ at.loop-j.invariant.1 c.before.loop-j-test.false c.if-met-lt-LEAST_PARTS.true in
+    bad-next _ _ _ (outer at).credentials.invariant.1 (omega arith) (at.loop-j.invariant.0 ∙ short)
 
-pub first-bad-chain-spec : {M : Type 1} → statement M
-first-bad-chain-spec =
+pub first_bad_chain_spec : {M : Type 1} → statement M
+first_bad_chain_spec =
     tie.close
     (tie.spec
     invariant-loop

@@ -11,18 +11,18 @@ start-requires c κs = search rules
 nothing-requires : tie.Need-nothing-requires
 nothing-requires c κs = search rules
 
-goal-search-requires : tie.Need-goal-search-requires
+goal-search-requires : tie.Need-goal_search-answer-requires
 goal-search-requires c κs = search rules
 
-same_length : tie.Need-same-length
+same_length : tie.Need-shape_of-memory
 same_length c = search rules
 
 returns : tie.Need-returns
 returns c =
     let sought = c.before.before.before in
-    let answer = rw (sought.before.before.nothing.ensures, sought.before.before.before.start.ensures) at sought.goal-search.ensures.0 in
+    let answer = rw (sought.before.before.nothing.ensures, sought.before.before.before.start.ensures) at sought.goal_search-answer.ensures.0 in
     judged-told nothing-room answer
 
-pub from-start-spec : {M : Type 1} → statement M
-from-start-spec =
+pub from_start_spec : {M : Type 1} → statement M
+from_start_spec =
     tie.close (tie.spec start-requires nothing-requires goal-search-requires same_length returns)

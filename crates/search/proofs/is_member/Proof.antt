@@ -12,7 +12,7 @@ use borrow.Author.Rules.{rules}
 use Rattle.search.proofs.is_member.Statement.{statement}
 use Rattle.search.proofs.is_member.Tie as tie
 
-goal-person-requires : tie.Need-goal-person-requires
+goal-person-requires : tie.Need-goal_person-person-requires
 goal-person-requires c κs = search rules
 
 credentials-requires : tie.Need-credentials-requires
@@ -22,39 +22,39 @@ credentials-requires c κs = search rules
 prepared : (at : tie.Start) → Prepared at.args.table.now at.args.query at.args.index.now []
 prepared at = prepared-by at.requires.0 at.requires.1.0 (no-arcs _ [] refl)
 
-returns : tie.Need-returns
+returns : tie.Need-returns-then-credentials-person
 returns c =
     let start = c.before.before.before.before.before.before in
-    goal-unnamed (prepared start) c.before.before.goal-person.ensures.0 _ _ _ start.requires.1.1
-    (omega (arith, c.if1.true, c.before.credentials.ensures.same))
+    goal-unnamed (prepared start) c.before.before.goal_person-person.ensures.0 _ _ _ start.requires.1.1
+    (omega (arith, c.if-credentials-person.true, c.before.credentials.ensures.same))
 
-goal-role-requires : tie.Need-goal-role-requires
+goal-role-requires : tie.Need-goal_role-place-requires
 goal-role-requires c κs = search rules
 
-wide-requires : tie.Need-wide-requires
+wide-requires : tie.Need-wide-levels-requires
 wide-requires c κs = search rules
 
 -- the query's principal has a place, its role is looked up, and its depth is read
-abbrev from : tie.After-wide → tie.Start
+abbrev from : tie.After-wide-levels → tie.Start
 from at = at.before.before.before.before.before.before.before.before
 
-there : (at : tie.After-wide) → at.before.before.before.before.goal-person.result < credentials (from at).args.table.now
-there at = omega (arith, at.before.before.if1.false, at.before.before.before.credentials.ensures.same)
+there : (at : tie.After-wide-levels) → at.before.before.before.before.goal_person-person.result < credentials (from at).args.table.now
+there at = omega (arith, at.before.before.if-credentials-person.false, at.before.before.before.credentials.ensures.same)
 
-may-be-proved-requires : tie.Need-may-be-proved-requires
+may-be-proved-requires : tie.Need-may_be_proved-requires
 may-be-proved-requires c κs =
     let pre = (from c).requires in (
       pre.0.0,
-      ((pre.1.1.room, pre.1.1.few), (below-most pre.0.0 _ (there c), c.before.goal-role.ensures.1)),
+      ((pre.1.1.room, pre.1.1.few), (below-most pre.0.0 _ (there c), c.before.goal_role-place.ensures.1)),
     )
 
-returns-2 : tie.Need-returns-2
+returns-2 : tie.Need-returns
 returns-2 c =
     let at = c.before in
-    goal-listed (prepared (from at)) at.before.before.before.before.goal-person.ensures.0 (there at)
-    at.before.goal-role.ensures.0 _ _ at.wide.ensures.0 (from at).requires.1.1 c.may-be-proved.ensures
+    goal-listed (prepared (from at)) at.before.before.before.before.goal_person-person.ensures.0 (there at)
+    at.before.goal_role-place.ensures.0 _ _ at.wide-levels.ensures.0 (from at).requires.1.1 c.may_be_proved.ensures
 
-pub is-member-spec : {M : Type 1} → statement M
-is-member-spec =
+pub is_member_spec : {M : Type 1} → statement M
+is_member_spec =
     tie.close
     (tie.spec goal-person-requires credentials-requires returns goal-role-requires wide-requires may-be-proved-requires returns-2)

@@ -5,15 +5,15 @@ use Rattle.sets.specs.Sets.{in_set}
 use Rattle.sets.proofs.has_16.Statement.{statement}
 use Rattle.sets.proofs.has_16.Tie as tie
 
-cast-result : tie.Need-overflow-cast-result
+cast-result : tie.Need-overflow_cast-result
 cast-result c = search rules
 
-shr-result : tie.Need-overflow-shr-result
+shr-result : tie.Need-overflow_shr-result
 shr-result c = search rules
 
 returns : tie.Need-returns
 unfolding in_set
 returns c = refl
 
-pub has-16-spec : {M : Type 1} → statement M
-has-16-spec = tie.close (tie.spec cast-result shr-result returns)
+pub has_16_spec : {M : Type 1} → statement M
+has_16_spec = tie.close (tie.spec cast-result shr-result returns)

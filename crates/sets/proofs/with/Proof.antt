@@ -5,14 +5,14 @@ use Rattle.sets.proofs.Members.{one_bit}
 use Rattle.sets.proofs.with.Statement.{statement}
 use Rattle.sets.proofs.with.Tie as tie
 
-cast-result : tie.Need-overflow-cast-result
+cast-result : tie.Need-overflow_cast-result
 cast-result c = search rules
 
-shl-result : tie.Need-overflow-shl-result
+shl-result : tie.Need-overflow_shl-result
 shl-result c = search rules
 
 returns : tie.Need-returns
 returns c = rw (one_bit 32 c.args.i (omega arith))
 
-pub with-spec : {M : Type 1} → statement M
-with-spec = tie.close (tie.spec cast-result shl-result returns)
+pub with_spec : {M : Type 1} → statement M
+with_spec = tie.close (tie.spec cast-result shl-result returns)

@@ -4,20 +4,20 @@ use borrow.Author.Rules.{rules}
 use Rattle.settling.proofs.is_among.Statement.{statement}
 use Rattle.settling.proofs.is_among.Tie as tie
 
-returns : tie.Need-returns
-returns c = among_none _ _ c.if1.true
+returns : tie.Need-returns-then-automaton-eq0
+returns c = among_none _ _ c.if-automaton-eq0.true
 
 wide-requires : tie.Need-wide-requires
 wide-requires c κs = search rules
 
-sub-has-16 : tie.Need-overflow-sub-has-16
+sub-has-16 : tie.Need-overflow_sub-wide
 sub-has-16 c = search rules
 
-has-16-requires : tie.Need-has-16-requires
+has-16-requires : tie.Need-has_16-requires
 has-16-requires c κs = search rules
 
-returns-2 : tie.Need-returns-2
-returns-2 c = among-some _ _ c.before.before.if1.false (rw c.before.wide.ensures.0 at c.has-16.ensures)
+returns-2 : tie.Need-returns
+returns-2 c = among-some _ _ c.before.before.if-automaton-eq0.false (rw c.before.wide.ensures.0 at c.has_16.ensures)
 
-pub is-among-spec : {M : Type 1} → statement M
-is-among-spec = tie.close (tie.spec returns wide-requires sub-has-16 has-16-requires returns-2)
+pub is_among_spec : {M : Type 1} → statement M
+is_among_spec = tie.close (tie.spec returns wide-requires sub-has-16 has-16-requires returns-2)

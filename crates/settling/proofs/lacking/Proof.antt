@@ -10,44 +10,44 @@ use borrow.Author.Rules.{rules}
 use Rattle.settling.proofs.lacking.Statement.{statement}
 use Rattle.settling.proofs.lacking.Tie as tie
 
-abbrev invariant-loop : tie.invariant-loop
+abbrev invariant-loop : tie.invariant-loop-j
 invariant-loop found owed asked k lost₀ j₀ lost j = (j ≤ k) × (lost ≡ lacking_of found owed asked j)
 
-abbrev decreases-loop : tie.decreases-loop
+abbrev decreases-loop : tie.decreases-loop-j
 decreases-loop found owed asked k lost₀ j₀ lost j = k - j
 
-loop-holds : tie.Need-loop-init invariant-loop decreases-loop
+loop-holds : tie.Need-loop-j-init invariant-loop decreases-loop
 unfolding lacking_of set_of
 loop-holds c = (omega arith, refl)
 
-is-lacking-requires : tie.Need-is-lacking-requires invariant-loop decreases-loop
+is-lacking-requires : tie.Need-is_lacking-requires invariant-loop decreases-loop
 is-lacking-requires c κs = search rules
 
-with-16-requires : tie.Need-with-16-requires invariant-loop decreases-loop
+with-16-requires : tie.Need-with_16-lost-requires invariant-loop decreases-loop
 with-16-requires c κs = search rules
 
-add-j : tie.Need-overflow-add-j invariant-loop decreases-loop
+add-j : tie.Need-overflow_add-j invariant-loop decreases-loop
 add-j c = search rules
 
-loop-less : tie.Need-loop-smaller invariant-loop decreases-loop
+loop-less : tie.Need-loop-j-smaller invariant-loop decreases-loop
 loop-less c = search rules
 
-loop-again : tie.Need-loop-preserved invariant-loop decreases-loop
+loop-again : tie.Need-loop-j-preserved invariant-loop decreases-loop
 unfolding lacking_of
 loop-again c =
-    let so_far = c.before.before.before.loop.invariant.1 in
-    let told = sym c.before.is-lacking.ensures in (
+    let so_far = c.before.before.before.loop-j.invariant.1 in
+    let told = sym c.before.is_lacking.ensures in (
       omega arith,
-      ⊎_elim (λ w. w.2 ∙ w.1.ensures ∙ set_more _ _ _ so_far (told ∙ w.0.taken))
-          (λ w. w.1 ∙ set-not _ _ _ so_far (told ∙ w.0.left)) c.if1.branch,
+      ⊎_elim (λ w. w.lost-is ∙ w.with_16-lost.ensures ∙ set_more _ _ _ so_far (told ∙ w.if-is_lacking.true))
+          (λ w. w.lost-is ∙ set-not _ _ _ so_far (told ∙ w.if-is_lacking.false)) c.if-is_lacking.branch-raw,
     )
 
 returns : tie.Need-returns invariant-loop decreases-loop
 returns c =
-    let all : c.before.loop.j ≡ c.before.before.args.k = omega arith in
-    rw all at c.before.loop.invariant.1
+    let all : c.before.loop-j.j ≡ c.before.before.args.k = omega arith in
+    rw all at c.before.loop-j.invariant.1
 
-pub lacking-spec : {M : Type 1} → statement M
-lacking-spec =
+pub lacking_spec : {M : Type 1} → statement M
+lacking_spec =
     tie.close
     (tie.spec invariant-loop decreases-loop loop-holds is-lacking-requires with-16-requires add-j loop-less loop-again returns)

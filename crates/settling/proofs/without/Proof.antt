@@ -13,61 +13,61 @@ use Rattle.settling.proofs.Leaving.{without-bearer, without_more, without-outsid
 use Rattle.settling.proofs.without.Statement.{statement}
 use Rattle.settling.proofs.without.Tie as tie
 
-abbrev invariant-loop : tie.invariant-loop
+abbrev invariant-loop : tie.invariant-loop-i
 invariant-loop table set automata n kept₀ i₀ kept i = (i ≤ n) × (kept ≡ without_to table set automata i)
 
-abbrev decreases-loop : tie.decreases-loop
+abbrev decreases-loop : tie.decreases-loop-i
 decreases-loop table set automata n kept₀ i₀ kept i = n - i
 
-credentials-requires : tie.Need-credentials-requires invariant-loop decreases-loop
+credentials-requires : tie.Need-credentials-n-requires invariant-loop decreases-loop
 credentials-requires c κs = search rules
 
-loop-holds : tie.Need-loop-init invariant-loop decreases-loop
+loop-holds : tie.Need-loop-i-init invariant-loop decreases-loop
 unfolding set_of
 loop-holds c = (omega arith, refl)
 
 has-requires : tie.Need-has-requires invariant-loop decreases-loop
 has-requires c κs = search rules
 
-add-credential : tie.Need-overflow-add-credential invariant-loop decreases-loop
+add-credential : tie.Need-overflow_add-i invariant-loop decreases-loop
 add-credential c = search rules
 
-credential-requires : tie.Need-credential-requires invariant-loop decreases-loop
+credential-requires : tie.Need-credential-credential-requires invariant-loop decreases-loop
 credential-requires c κs = search rules
 
-is-among-requires : tie.Need-is-among-requires invariant-loop decreases-loop
+is-among-requires : tie.Need-is_among-requires invariant-loop decreases-loop
 is-among-requires c κs =
-    automaton-few _ c.before.before.before.before.before.before.before.requires _ (record { first = omega arith; last = omega (arith, c.before.before.before.loop-test.true, c.before.before.before.before.before.credentials.ensures.same) })
-    _ c.credential.ensures
+    automaton-few _ c.before.before.before.before.before.before.before.requires _ (record { first = omega arith; last = omega (arith, c.before.before.before.loop-i-test.true, c.before.before.before.before.before.credentials-n.ensures.same) })
+    _ c.credential-credential.ensures
 
-with-requires : tie.Need-with-requires invariant-loop decreases-loop
+with-requires : tie.Need-with-kept-requires invariant-loop decreases-loop
 with-requires c κs = search rules
 
-add-i : tie.Need-overflow-add-i invariant-loop decreases-loop
+add-i : tie.Need-overflow_add-i-in-loop-i invariant-loop decreases-loop
 add-i c = search rules
 
-loop-less : tie.Need-loop-smaller invariant-loop decreases-loop
+loop-less : tie.Need-loop-i-smaller invariant-loop decreases-loop
 loop-less c = search rules
 
-loop-again : tie.Need-loop-preserved invariant-loop decreases-loop
+loop-again : tie.Need-loop-i-preserved invariant-loop decreases-loop
 loop-again c =
-    let so_far = c.before.before.before.loop.invariant.1 in
+    let so_far = c.before.before.before.loop-i.invariant.1 in
     let told = sym c.before.has.ensures in (
       omega arith,
       three_ways
           (λ w. w.5 ∙ w.4.ensures ∙ without_more _ _ _ _ _ so_far (told ∙ w.0.taken) _ w.1.ensures w.2.ensures w.3.taken)
           (λ w. w.4 ∙ without-bearer _ _ _ _ _ so_far (told ∙ w.0.taken) _ w.1.ensures w.2.ensures w.3.left)
-          (λ w. w.1 ∙ without-outside _ _ _ _ _ so_far (told ∙ w.0.left)) c.if1.branch,
+          (λ w. w.kept-is ∙ without-outside _ _ _ _ _ so_far (told ∙ w.if-has.false)) c.if-has.branch-raw,
     )
 
 returns : tie.Need-returns invariant-loop decreases-loop
 unfolding without_all
 returns c =
-    let all : c.before.loop.i ≡ credentials c.before.before.before.before.args.table.now = omega arith in
-    rw all at c.before.loop.invariant.1
+    let all : c.before.loop-i.i ≡ credentials c.before.before.before.before.args.table.now = omega arith in
+    rw all at c.before.loop-i.invariant.1
 
-pub without-spec : {M : Type 1} → statement M
-without-spec =
+pub without_spec : {M : Type 1} → statement M
+without_spec =
     tie.close
     (tie.spec
     invariant-loop

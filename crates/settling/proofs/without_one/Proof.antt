@@ -6,13 +6,13 @@ use borrow.Author.Rules.{rules}
 use Rattle.settling.proofs.without_one.Statement.{statement}
 use Rattle.settling.proofs.without_one.Tie as tie
 
-sub-without : tie.Need-overflow-sub-without
+sub-without : tie.Need-overflow_sub-k
 sub-without c = search rules
 
-cast-without : tie.Need-overflow-cast-without
+cast-without : tie.Need-overflow_cast-k
 cast-without c = search rules
 
-shl-without : tie.Need-overflow-shl-without
+shl-without : tie.Need-overflow_shl-k
 shl-without c = search rules
 
 without-requires : tie.Need-without-requires
@@ -23,6 +23,6 @@ returns c =
     let k = c.before.before.args.k in
     rw (one_bit 16 (k - 1) (omega (arith, c.before.before.requires))) at c.without.ensures
 
-pub without-one-spec : {M : Type 1} → statement M
-without-one-spec =
+pub without_one_spec : {M : Type 1} → statement M
+without_one_spec =
     tie.close (tie.spec sub-without cast-without shl-without without-requires returns)

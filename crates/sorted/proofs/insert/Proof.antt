@@ -12,77 +12,77 @@ use Rattle.sorted.proofs.Inserting.{placed-inserted}
 use Rattle.sorted.proofs.insert.Statement.{statement}
 use Rattle.sorted.proofs.insert.Tie as tie
 
-abbrev invariant-loop : tie.invariant-loop
+abbrev invariant-loop : tie.invariant-loop-place
 invariant-loop numbers₀ found number cells place₀ numbers place = Placing numbers₀ numbers found number place
 
-abbrev decreases-loop : tie.decreases-loop
+abbrev decreases-loop : tie.decreases-loop-place
 decreases-loop numbers₀ found number cells place₀ numbers place = place
 
-loop-holds : tie.Need-loop-init invariant-loop decreases-loop
+loop-holds : tie.Need-loop-place-init invariant-loop decreases-loop
 loop-holds c =
-    placing-starts _ _ _ _ (⊎_elim (λ w. omega (arith, w.0.taken, w.1)) (λ w. omega (arith, w.0.left, w.1)) c.if1.branch)
+    placing-starts _ _ _ _ (⊎_elim (λ w. omega (arith, w.if-cells-place.true, w.place-is)) (λ w. omega (arith, w.if-cells-place.false, w.place-is)) c.if-cells-place.branch-raw)
 
-sub-if2 : tie.Need-overflow-sub-if2 invariant-loop decreases-loop
+sub-if2 : tie.Need-overflow_sub-place invariant-loop decreases-loop
 sub-if2 c = search rules
 
-mul-if2 : tie.Need-overflow-mul-if2 invariant-loop decreases-loop
+mul-if2 : tie.Need-offset_bounds-numbers-place invariant-loop decreases-loop
 mul-if2 c = search rules
 
-slice-read-if2 : tie.Need-slice-read-if2 invariant-loop decreases-loop
+slice-read-if2 : tie.Need-bounds-numbers-place invariant-loop decreases-loop
 slice-read-if2 c = search rules
 
-sub-numbers : tie.Need-overflow-sub-numbers invariant-loop decreases-loop
+sub-numbers : tie.Need-overflow_sub-numbers invariant-loop decreases-loop
 sub-numbers c = search rules
 
-mul-numbers : tie.Need-overflow-mul-numbers invariant-loop decreases-loop
+mul-numbers : tie.Need-offset_bounds-numbers-place-then-place-cells invariant-loop decreases-loop
 mul-numbers c = search rules
 
-slice-read-numbers : tie.Need-slice-read-numbers invariant-loop decreases-loop
+slice-read-numbers : tie.Need-bounds-numbers-place-then-place-cells invariant-loop decreases-loop
 slice-read-numbers c = search rules
 
-mul-numbers-2 : tie.Need-overflow-mul-numbers-2 invariant-loop decreases-loop
+mul-numbers-2 : tie.Need-offset_bounds-numbers-place-then-place-cells-2 invariant-loop decreases-loop
 mul-numbers-2 c = search rules
 
-slice-write-numbers : tie.Need-slice-write-numbers invariant-loop decreases-loop
+slice-write-numbers : tie.Need-bounds-numbers-place-then-place-cells-2 invariant-loop decreases-loop
 slice-write-numbers c = search rules
 
-sub-place : tie.Need-overflow-sub-place invariant-loop decreases-loop
+sub-place : tie.Need-overflow_sub-place-in-loop-place invariant-loop decreases-loop
 sub-place c = search rules
 
-loop-less : tie.Need-loop-smaller invariant-loop decreases-loop
+loop-less : tie.Need-loop-place-smaller invariant-loop decreases-loop
 loop-less c = search rules
 
-loop-again : tie.Need-loop-preserved invariant-loop decreases-loop
+loop-again : tie.Need-loop-place-preserved invariant-loop decreases-loop
 loop-again c =
-    let known = c.before.before.before.before.before.before.loop.invariant in
-    let some = c.before.before.before.before.before.loop-test.true in
-    let up = ⊎_elim (λ w. w.3) (λ w. w.1 ∙ sym (set_out _ _ _ (omega (arith, w.0.left, known.size))))
-    c.before.if3.branch in
-    placing-moves _ _ _ _ _ _ known some (ltb-true _ _ c.before.before.if2.true) up
+    let known = c.before.before.before.before.before.before.loop-place.invariant in
+    let some = c.before.before.before.before.before.loop-place-test.true in
+    let up = ⊎_elim (λ w. w.numbers-is) (λ w. w.numbers-is ∙ sym (set_out _ _ _ (omega (arith, w.if-place-cells.false, known.size))))
+    c.before.if-place-cells.branch-raw in
+    placing-moves _ _ _ _ _ _ known some (ltb-true _ _ c.before.before.if-number-numbers.true) up
 
-mul-numbers-3 : tie.Need-overflow-mul-numbers-3 invariant-loop decreases-loop
+mul-numbers-3 : tie.Need-offset_bounds-numbers-place-then-place-cells-2-2 invariant-loop decreases-loop
 mul-numbers-3 c = search rules
 
-slice-write-numbers-2 : tie.Need-slice-write-numbers-2 invariant-loop decreases-loop
+slice-write-numbers-2 : tie.Need-bounds-numbers-place-then-place-cells-2-2 invariant-loop decreases-loop
 slice-write-numbers-2 c = search rules
 
-add-found : tie.Need-overflow-add-found invariant-loop decreases-loop
+add-found : tie.Need-overflow_add-found invariant-loop decreases-loop
 add-found c = search rules
 
-same_length : tie.Need-same-length invariant-loop decreases-loop
+same_length : tie.Need-shape_of-numbers invariant-loop decreases-loop
 same_length c =
-    let size = c.before.before.loop.invariant.size in
-    ⊎_elim (λ w. ap length w.2 ∙ simp length-set size) (λ w. ap length w.1 ∙ size) c.if4.branch
+    let size = c.before.before.loop-place.invariant.size in
+    ⊎_elim (λ w. ap length w.numbers-is ∙ simp length-set size) (λ w. ap length w.numbers-is ∙ size) c.if-place-cells-2.branch-raw
 
 returns : tie.Need-returns invariant-loop decreases-loop
 returns c =
-    let known = c.before.before.loop.invariant in
+    let known = c.before.before.loop-place.invariant in
     placed-inserted _ _ _ _ _ (placing-ends _ _ _ _ _ _ known
-    (λ some. ⊎_elim (λ w. ltb-false _ _ w.3.left) (λ w. absurd (omega (arith, w.left))) c.before.loop-test.branch)
-    (⊎_elim (λ w. w.2) (λ w. w.1 ∙ sym (set_out _ _ _ (omega (arith, w.0.left, known.size)))) c.if4.branch)) refl
+    (λ some. ⊎_elim (λ w. ltb-false _ _ w.3.left) (λ w. absurd (omega (arith, w.left))) c.before.loop-place-test.branch-raw)
+    (⊎_elim (λ w. w.numbers-is) (λ w. w.numbers-is ∙ sym (set_out _ _ _ (omega (arith, w.if-place-cells-2.false, known.size)))) c.if-place-cells-2.branch-raw)) refl
 
-pub insert-spec : {M : Type 1} → statement M
-insert-spec =
+pub insert_spec : {M : Type 1} → statement M
+insert_spec =
     tie.close
     (tie.spec
     invariant-loop

@@ -16,97 +16,97 @@ abbrev start : tie.After-empty → tie.Start
 start at = at.before.before.before.before.before.before.before
 
 abbrev levels : tie.After-empty → ℕ
-levels at = at.before.before.wide.result
+levels at = at.before.before.wide-levels.result
 
 begins : (at : tie.After-empty) → let from = (start at).args in
-    let asked = at.before.before.before.goal-of.result in
-    Begins from.table.now from.query (levels at) (above at.empty.result) asked at.before.start.result
+    let asked = at.before.before.before.goal_of-goal.result in
+    Begins from.table.now from.query (levels at) (above at.empty.result) asked at.before.start-start.result
 begins at =
     record {
-      all-levels = at.before.before.wide.ensures.0;
+      all-levels = at.before.before.wide-levels.ensures.0;
       nothing_above = at.empty.ensures.1.1;
-      asked = at.before.before.before.goal-of.ensures;
-      starting = at.before.start.ensures;
+      asked = at.before.before.before.goal_of-goal.ensures;
+      starting = at.before.start-start.ensures;
     }
 
 levels-fit : (at : tie.After-empty) → at.empty.result.len + levels at ≤ most_depth
 levels-fit at = omega (arith, depth-fits _ (start at).requires.1.0, (begins at).all-levels, at.empty.ensures.1.0)
 
-abbrev begun : tie.After-read → tie.After-empty
+abbrev begun : tie.After-read-rest → tie.After-empty
 begun at = at.before.before.before.before.before.before.before
 
-goal-of-requires : tie.Need-goal-of-requires
+goal-of-requires : tie.Need-goal_of-goal-requires
 goal-of-requires c κs = search rules
 
-wide-requires : tie.Need-wide-requires
+wide-requires : tie.Need-wide-levels-requires
 wide-requires c κs = search rules
 
-start-requires : tie.Need-start-requires
+start-requires : tie.Need-start-start-requires
 start-requires c κs = search rules
 
 empty-requires : tie.Need-empty-requires
 empty-requires c κs = search rules
 
-read-requires : tie.Need-read-requires
+read-requires : tie.Need-read-rest-requires
 read-requires c κs =
     let at = c.before.before.before.before.before.before in
     let pre = (start at).requires in
     (pre.0, ((at.empty.ensures.0, levels-fit at), (omega (arith, (start at).well-formed.1.1), (refl, pre.1.1))))
 
-reason-of-requires : tie.Need-reason-of-requires
+reason-of-requires : tie.Need-reason_of-requires
 reason-of-requires c κs =
     let read = c.before.before.before in
     let at = begun read in
-    stops-number (start at).pre.0 (begins at) read.read.ensures.0 c.if1.true
+    stops-number (start at).pre.0 (begins at) read.read-rest.ensures.0 c.if-refusal-ne0.true
 
 refused-requires : tie.Need-refused-requires
 refused-requires c κs = search rules
 
-same_length : tie.Need-same-length
+same_length : tie.Need-shape_of-arcs-then-refusal-ne0
 same_length c = search rules
 
-returns : tie.Need-returns
+returns : tie.Need-returns-then-refusal-ne0
 returns c =
     let read = c.before.before.before.before.before in
     let at = begun read in
-    let number = c.before.reason-of.ensures in
+    let number = c.before.reason_of.ensures in
     rw number at c.refused.ensures
-    ∙ verdict-stops (start at).pre.0 (begins at) read.read.ensures.0 c.before.before.if1.true
+    ∙ verdict-stops (start at).pre.0 (begins at) read.read-rest.ensures.0 c.before.before.if-refusal-ne0.true
 
-add-refused : tie.Need-overflow-add-refused
+add-refused : tie.Need-overflow_add-nodes
 add-refused c =
     let read = c.before.before.before.before in
-    omega (arith, read.read.ensures.0.room c.before.if1.false, (start (begun read)).well-formed.1.1)
+    omega (arith, read.read-rest.ensures.0.room c.before.if-refusal-ne0.false, (start (begun read)).well-formed.1.1)
 
-refused-requires-2 : tie.Need-refused-requires-2
+refused-requires-2 : tie.Need-refused-requires-then-rest-ne0
 refused-requires-2 c κs = search rules
 
-same-length-2 : tie.Need-same-length-2
+same-length-2 : tie.Need-shape_of-arcs-then-rest-ne0
 same-length-2 c = search rules
 
-returns-2 : tie.Need-returns-2
+returns-2 : tie.Need-returns-then-rest-ne0
 unfolding number_of
 returns-2 c =
     let read = c.before.before.before.before.before in
     let at = begun read in
-    let left_over = verdict-leftover (start at).pre.0 (begins at) read.read.ensures.0 in
-    c.refused2.ensures ∙ left_over c.before.before.if1.false c.before.if2.true
+    let left_over = verdict-leftover (start at).pre.0 (begins at) read.read-rest.ensures.0 in
+    c.refused-then-rest-ne0.ensures ∙ left_over c.before.before.if-refusal-ne0.false c.before.if-rest-ne0.true
 
-judge-words-requires : tie.Need-judge-words-requires
+judge-words-requires : tie.Need-judge_words-requires
 judge-words-requires c κs = search rules
 
-same-length-3 : tie.Need-same-length-3
+same-length-3 : tie.Need-shape_of-arcs
 same-length-3 c = search rules
 
-returns-3 : tie.Need-returns-3
+returns-3 : tie.Need-returns
 returns-3 c =
     let read = c.before.before.before.before.before in
     let at = begun read in
-    c.judge-words.ensures
-    ∙ verdict-words (start at).pre.0 (begins at) read.read.ensures.0 c.before.before.if1.false c.before.if2.false
+    c.judge_words.ensures
+    ∙ verdict-words (start at).pre.0 (begins at) read.read-rest.ensures.0 c.before.before.if-refusal-ne0.false c.before.if-rest-ne0.false
 
-pub judge-by-spec : {M : Type 1} → statement M
-judge-by-spec =
+pub judge_by_spec : {M : Type 1} → statement M
+judge_by_spec =
     tie.close
     (tie.spec
     goal-of-requires

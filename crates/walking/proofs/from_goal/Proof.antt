@@ -10,10 +10,10 @@ use Rattle.walking.proofs.from_goal.Tie as tie
 only-requires : tie.Need-only-requires
 only-requires c κs = search rules
 
-goal-person-requires : tie.Need-goal-person-requires
+goal-person-requires : tie.Need-goal_person-requires
 goal-person-requires c κs = search rules
 
-goal-role-requires : tie.Need-goal-role-requires
+goal-role-requires : tie.Need-goal_role-requires
 goal-role-requires c κs = search rules
 
 wide-requires : tie.Need-wide-requires
@@ -32,12 +32,12 @@ Ready = tie.After-start
 abbrev asked : Ready → tie.Start
 asked at = at.before.before.before.before.before.before.before.before.before.before.before
 
-walk-requires : tie.Need-walk-requires
+walk-requires : tie.Need-walk-walked-requires
 walk-requires c κs =
     let at = c.before.before.before in
     let pre = (asked at).requires in
-    let who = at.before.before.before.goal-person.ensures.0 in
-    let place = at.before.before.goal-role.ensures.0 in
+    let who = at.before.before.before.goal_person.ensures.0 in
+    let place = at.before.before.goal_role.ensures.0 in
     let only = at.before.before.before.before.only.ensures in
     let levels = at.before.wide.ensures.0 in
     let remembered = pre.1.1.0 in
@@ -60,28 +60,28 @@ walk-requires c κs =
       ),
     )
 
-same_length : tie.Need-same-length
+same_length : tie.Need-shape_of-memory
 same_length c = search rules
 
-same-length-2 : tie.Need-same-length-2
+same-length-2 : tie.Need-shape_of-rec
 same-length-2 c = search rules
 
 returns : tie.Need-returns
 returns c =
     let walk = c.before.before.before.before in
-    let (walked, remembered) = walk.walk.ensures in
+    let (walked, remembered) = walk.walk-walked.ensures in
     let at = walk.before.before.before.before in
     let pre = (asked at).requires in
-    let who = at.before.before.before.goal-person.ensures.0 in
-    let place = at.before.before.goal-role.ensures.0 in (
+    let who = at.before.before.before.goal_person.ensures.0 in
+    let place = at.before.before.goal_role.ensures.0 in (
       begins-walked pre.0 pre.1.0 _ _ pre.1.1.0.few pre.1.1.1.0 who place _
           at.before.before.before.before.only.ensures _ _ at.before.wide.ensures.0 at.start.ensures _ _ _ _
           (rw walk.before.before.before.nothing.ensures at walked.walked),
       remembered,
     )
 
-pub from-goal-spec : {M : Type 1} → statement M
-from-goal-spec =
+pub from_goal_spec : {M : Type 1} → statement M
+from_goal_spec =
     tie.close
     (tie.spec
     only-requires

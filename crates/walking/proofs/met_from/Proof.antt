@@ -14,96 +14,96 @@ use borrow.Author.Rules.{rules}
 use Rattle.walking.proofs.met_from.Statement.{statement}
 use Rattle.walking.proofs.met_from.Tie as tie
 
-abbrev invariant-loop : tie.invariant-loop
+abbrev invariant-loop : tie.invariant-loop-k
 invariant-loop table index arcs rows terms from levels states above memory₀ persons places met₀ k₀ memory met k =
     (from ≤ k) × (k ≤ k₀)
     × FoundBelow terms.owed (later_test table terms.allowed terms.constraints terms.owed levels states
     (goals_at table (pairs_from persons places (k₀ - k) k))) above met
     × (length memory ≡ length memory₀) × Remembered table terms.allowed terms.constraints terms.owed memory
 
-abbrev decreases-loop : tie.decreases-loop
+abbrev decreases-loop : tie.decreases-loop-k
 decreases-loop table index arcs rows terms from levels states above memory₀ persons places met₀ k₀ memory met k = k
 
 -- the place where the loop begins, and the one where the call was asked
-abbrev start : tie.After-only invariant-loop decreases-loop → tie.Start invariant-loop decreases-loop
+abbrev start : tie.After-only-met invariant-loop decreases-loop → tie.Start invariant-loop decreases-loop
 start at = at.before.before.before.before.before.before.before.before
 
 wide : (at : tie.Start invariant-loop decreases-loop) → length at.args.above.persons ≡ most_credentials
 wide at = search rules
 
-only-requires : tie.Need-only-requires invariant-loop decreases-loop
+only-requires : tie.Need-only-met-requires invariant-loop decreases-loop
 only-requires c κs = omega arith
 
-loop-holds : tie.Need-loop-init invariant-loop decreases-loop
+loop-holds : tie.Need-loop-k-init invariant-loop decreases-loop
 loop-holds c =
     let pre = (start c).requires in
-    (pre.1.1.0, omega arith, later-none _ _ _ _ _ _ _ _ _ c.only.ensures, refl, pre.1.1.1)
+    (pre.1.1.0, omega arith, later-none _ _ _ _ _ _ _ _ _ c.only-met.ensures, refl, pre.1.1.1)
 
-sub-k : tie.Need-overflow-sub-k invariant-loop decreases-loop
+sub-k : tie.Need-overflow_sub-k invariant-loop decreases-loop
 sub-k c = search rules
 
-mul-goal-search : tie.Need-overflow-mul-goal-search invariant-loop decreases-loop
+mul-goal-search : tie.Need-offset_bounds-persons-k invariant-loop decreases-loop
 mul-goal-search c = search rules
 
-array-read-goal-search : tie.Need-array-read-goal-search invariant-loop decreases-loop
+array-read-goal-search : tie.Need-bounds-persons-k invariant-loop decreases-loop
 array-read-goal-search c = omega (
   arith,
-  c.loop-test.true,
-  c.before.loop.invariant.1,
+  c.loop-k-test.true,
+  c.before.loop-k.invariant.1,
   (start c.before.before).pre.1.0.fits.few,
 )
 
-mul-goal-search-2 : tie.Need-overflow-mul-goal-search-2 invariant-loop decreases-loop
+mul-goal-search-2 : tie.Need-offset_bounds-places-k invariant-loop decreases-loop
 mul-goal-search-2 c = search rules
 
-array-read-goal-search-2 : tie.Need-array-read-goal-search-2 invariant-loop decreases-loop
+array-read-goal-search-2 : tie.Need-bounds-places-k invariant-loop decreases-loop
 array-read-goal-search-2 c = omega (
   arith,
-  c.loop-test.true,
-  c.before.loop.invariant.1,
+  c.loop-k-test.true,
+  c.before.loop-k.invariant.1,
   (start c.before.before).pre.1.0.fits.few,
 )
 
-goal-search-requires : tie.Need-goal-search-requires invariant-loop decreases-loop
+goal-search-requires : tie.Need-goal_search-answer-requires invariant-loop decreases-loop
 goal-search-requires c κs =
     let at = c.before.before in
     let pre = (start at.before).pre in
-    let (_, few, _, _, remembered) = at.loop.invariant in
-    (pre.0, (asked-stands _ pre.1.0.stands _ (omega (arith, c.before.loop-test.true, few)), remembered))
+    let (_, few, _, _, remembered) = at.loop-k.invariant in
+    (pre.0, (asked-stands _ pre.1.0.stands _ (omega (arith, c.before.loop-k-test.true, few)), remembered))
 
-joined-requires : tie.Need-joined-requires invariant-loop decreases-loop
+joined-requires : tie.Need-joined-met-requires invariant-loop decreases-loop
 joined-requires c κs = search rules
 
-loop-less : tie.Need-loop-smaller invariant-loop decreases-loop
+loop-less : tie.Need-loop-k-smaller invariant-loop decreases-loop
 loop-less c = search rules
 
-loop-again : tie.Need-loop-preserved invariant-loop decreases-loop
+loop-again : tie.Need-loop-k-preserved invariant-loop decreases-loop
 loop-again c =
     let sought = c.before.before.before in
-    let (one, remembered) = sought.goal-search.ensures in
-    let test = sought.before.before.loop-test.true in
+    let (one, remembered) = sought.goal_search-answer.ensures in
+    let test = sought.before.before.loop-k-test.true in
     let at = sought.before.before.before in
-    let (_, few, behind, same, _) = at.loop.invariant in
+    let (_, few, behind, same, _) = at.loop-k.invariant in
     let there = child-there (start at.before).pre.1.0 in (
       omega (arith, test),
       omega (arith, few),
-      later-next _ _ _ _ _ _ _ _ _ _ (omega (arith, test)) few (there _ (omega (arith, test, few))) c.joined.ensures
+      later-next _ _ _ _ _ _ _ _ _ _ (omega (arith, test)) few (there _ (omega (arith, test, few))) c.joined-met.ensures
           (judged-told (wide (start at.before)) one) behind,
-      c.before.before.memory.given ∙ same,
+      c.before.before.memory-1.given ∙ same,
       remembered,
     )
 
-same_length : tie.Need-same-length invariant-loop decreases-loop
-same_length c = c.before.loop.invariant.3
+same_length : tie.Need-shape_of-memory invariant-loop decreases-loop
+same_length c = c.before.loop-k.invariant.3
 
 returns : tie.Need-returns invariant-loop decreases-loop
 returns c =
-    let (from, _, told, _, remembered) = c.before.loop.invariant in
-    let last : c.before.loop.k ≡ (start c.before.before).args.from = omega (arith, c.loop-test.false, from) in
+    let (from, _, told, _, remembered) = c.before.loop-k.invariant in
+    let last : c.before.loop-k.k ≡ (start c.before.before).args.from = omega (arith, c.loop-k-test.false, from) in
     (rw last at told, remembered)
 
-pub met-from-spec : {M : Type 1} → statement M
-met-from-spec =
+pub met_from_spec : {M : Type 1} → statement M
+met_from_spec =
     tie.close
     (tie.spec
     invariant-loop

@@ -6,34 +6,34 @@ use borrow.Author.Rules.{rules}
 use Rattle.walking.proofs.put.Statement.{statement}
 use Rattle.walking.proofs.put.Tie as tie
 
-add-if1 : tie.Need-overflow-add-if1
+add-if1 : tie.Need-overflow_add-at
 add-if1 c = search rules
 
-mul-rec : tie.Need-overflow-mul-rec
+mul-rec : tie.Need-offset_bounds-rec-at
 mul-rec c = search rules
 
-slice-write-rec : tie.Need-slice-write-rec
+slice-write-rec : tie.Need-bounds-rec-at
 slice-write-rec c = search rules
 
-add-rec : tie.Need-overflow-add-rec
+add-rec : tie.Need-overflow_add-rec
 add-rec c = search rules
 
-mul-rec-2 : tie.Need-overflow-mul-rec-2
+mul-rec-2 : tie.Need-offset_bounds-rec-at-then-at-rec
 mul-rec-2 c = search rules
 
-slice-write-rec-2 : tie.Need-slice-write-rec-2
+slice-write-rec-2 : tie.Need-bounds-rec-at-then-at-rec
 slice-write-rec-2 c =
     let from = c.before.args in
-    omega (arith, c.if1.true, length-set from.rec.now from.at from.credential)
+    omega (arith, c.if-at-rec.true, length-set from.rec.now from.at from.credential)
 
-same_length : tie.Need-same-length
+same_length : tie.Need-shape_of-rec
 same_length c = search rules
 
-returns : tie.Need-returns
-returns c = put_both _ _ _ _ c.if1.true
+returns : tie.Need-returns-then-at-rec
+returns c = put_both _ _ _ _ c.if-at-rec.true
 
-returns-2 : tie.Need-returns-2
-returns-2 c = put-none _ _ _ _ c.if1.false
+returns-2 : tie.Need-returns-else-at-rec
+returns-2 c = put-none _ _ _ _ c.if-at-rec.false
 
 pub put_spec : {M : Type 1} → statement M
 put_spec =

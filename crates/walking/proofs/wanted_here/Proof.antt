@@ -9,15 +9,15 @@ use Rattle.walking.proofs.wanted_here.Statement.{statement}
 use Rattle.walking.proofs.wanted_here.Tie as tie
 
 -- the place before anything is made, and the one where the call was asked
-abbrev start : tie.After-struct-known → tie.Start
+abbrev start : tie.After-struct_known-1 → tie.Start
 start at = at.before.before.before.before.before.before
 
-returns : tie.Need-returns
+returns : tie.Need-returns-then-terms-eq0
 returns c =
     let (_, (children, (wanted, (remembered, (owed, from))))) = (start c.before).requires in
-    (here-none _ _ _ (family-wants wanted) _ owed _ c.if1.true (children-nothing children _ from), remembered)
+    (here-none _ _ _ (family-wants wanted) _ owed _ c.if-terms-eq0.true (children-nothing children _ from), remembered)
 
-only-requires : tie.Need-only-requires
+only-requires : tie.Need-only-now-requires
 only-requires c κs =
     let (_, (_, (wanted, (_, (owed, _))))) = (start c.before).requires in
     omega (arith, part-le _ _ owed, wanted.few)
@@ -27,19 +27,19 @@ has-requires c κs =
     let (_, (_, (wanted, (_, (owed, _))))) = (start c.before.before).requires in
     omega (arith, part-le _ _ owed, wanted.few)
 
-left-by-requires : tie.Need-left-by-requires
+left-by-requires : tie.Need-left_by-requires
 left-by-requires c κs = (start c.before.before.before.before).requires.1.1.0.few
 
-returns-2 : tie.Need-returns-2
+returns-2 : tie.Need-returns-then-has
 returns-2 c =
     let only = c.before.before.before in
     let (_, (children, (wanted, (remembered, (owed, from))))) = (start only.before.before).requires in (
-      here-all _ _ _ (family-wants wanted) _ owed _ _ only.only.ensures (children-nothing children _ from)
-          (sym c.before.before.has.ensures ∙ c.before.if2.true) _ c.left_by.ensures,
+      here-all _ _ _ (family-wants wanted) _ owed _ _ only.only-now.ensures (children-nothing children _ from)
+          (sym c.before.before.has.ensures ∙ c.before.if-has.true) _ c.left_by.ensures,
       remembered,
     )
 
-met-from-requires : tie.Need-met-from-requires
+met-from-requires : tie.Need-met_from-later-requires
 met-from-requires c κs =
     let (searched, (children, (_, (remembered, (_, from))))) = (start c.before.before.before.before.before).requires in
     (searched, (children, (from, remembered)))
@@ -47,26 +47,26 @@ met-from-requires c κs =
 joined-requires : tie.Need-joined-requires
 joined-requires c κs = search rules
 
-left-by-requires-2 : tie.Need-left-by-requires-2
+left-by-requires-2 : tie.Need-left_by-requires-2
 left-by-requires-2 c κs =
     (start c.before.before.before.before.before.before.before.before.before).requires.1.1.0.few
 
-same_length : tie.Need-same-length
+same_length : tie.Need-shape_of-memory
 same_length c = search rules
 
-returns-3 : tie.Need-returns-3
+returns-3 : tie.Need-returns
 returns-3 c =
     let behind = c.before.before.before.before in
-    let (told, remembered) = behind.met-from.ensures in
+    let (told, remembered) = behind.met_from-later.ensures in
     let only = behind.before.before.before.before in
     let (_, (_, (wanted, (_, (owed, _))))) = (start only.before.before).requires in (
-      here-left _ _ _ (family-wants wanted) _ owed _ _ only.only.ensures _ _ (λ X. refl) _ _ _ told
-          c.before.joined.ensures c.left-by2.ensures,
+      here-left _ _ _ (family-wants wanted) _ owed _ _ only.only-now.ensures _ _ (λ X. refl) _ _ _ told
+          c.before.joined.ensures c.left_by-2.ensures,
       remembered,
     )
 
-pub wanted-here-spec : {M : Type 1} → statement M
-wanted-here-spec =
+pub wanted_here_spec : {M : Type 1} → statement M
+wanted_here_spec =
     tie.close
     (tie.spec
     returns

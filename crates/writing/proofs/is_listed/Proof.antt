@@ -10,35 +10,35 @@ use Rattle.writing.proofs.is_listed.Tie as tie
 credentials-requires : tie.Need-credentials-requires
 credentials-requires c κs = search rules
 
-cast-if1 : tie.Need-overflow-cast-if1
+cast-if1 : tie.Need-overflow_cast-credentials
 cast-if1 c = search rules
 
-shr-if1 : tie.Need-overflow-shr-if1
+shr-if1 : tie.Need-overflow_shr-set
 shr-if1 c = search rules
 
-returns : tie.Need-returns
+returns : tie.Need-returns-then-set-credentials-ne0
 returns c =
     let pre = c.before.before.before.before.before.requires in
-    sym (beyond-unlisted _ pre.well_formed _ pre.valid _ _ c.before.credentials.ensures.same c.if1.true)
+    sym (beyond-unlisted _ pre.well_formed _ pre.valid _ _ c.before.credentials.ensures.same c.if-set-credentials-ne0.true)
 
 admits-requires : tie.Need-admits-requires
 admits-requires c κs = search rules
 
-returns-2 : tie.Need-returns-2
-returns-2 c = sym (least-not _ _ (failed c.before.admits.ensures c.if2.true))
+returns-2 : tie.Need-returns-then-not-admits
+returns-2 c = sym (least-not _ _ (failed c.before.admits.ensures c.if-not-admits.true))
 
-is-minimal-requires : tie.Need-is-minimal-requires
+is-minimal-requires : tie.Need-is_minimal-requires
 is-minimal-requires c κs =
     let at = c.before.before.before in
     let start = at.before.before.before.before in
-    let few = below_all start.args.table.now _ _ at.credentials.ensures.same c.before.before.if1.false in
-    (start.requires, (few, passed c.before.admits.ensures c.if2.false))
+    let few = below_all start.args.table.now _ _ at.credentials.ensures.same c.before.before.if-set-credentials-ne0.false in
+    (start.requires, (few, passed c.before.admits.ensures c.if-not-admits.false))
 
-returns-3 : tie.Need-returns-3
+returns-3 : tie.Need-returns
 returns-3 c = search rules
 
-pub is-listed-spec : {M : Type 1} → statement M
-is-listed-spec =
+pub is_listed_spec : {M : Type 1} → statement M
+is_listed_spec =
     tie.close
     (tie.spec
     credentials-requires

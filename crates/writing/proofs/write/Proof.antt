@@ -9,38 +9,38 @@ use borrow.Author.Rules.{rules}
 use Rattle.writing.proofs.write.Statement.{statement}
 use Rattle.writing.proofs.write.Tie as tie
 
-check-request-requires : tie.Need-check-request-requires
+check-request-requires : tie.Need-check_request-requires
 check-request-requires c κs = search rules
 
-enum_told : tie.Need-enum-told
+enum_told : tie.Need-enum_told-1
 enum_told c = search rules
 
-write-checked-requires : tie.Need-write-checked-requires
+write-checked-requires : tie.Need-write_checked-requires
 unfolding query_told
 write-checked-requires c κs =
-    let told = ap query_told c.before.enum_told.given.1 in
-    let both = request-accepted _ _ (sym c.before.before.before.check-request.ensures ∙ told) in
+    let told = ap query_told c.before.in-Valid.is in
+    let both = request-accepted _ _ (sym c.before.before.before.check_request.ensures ∙ told) in
     (both.0, both.1)
 
-enum-known-why : tie.Need-enum-known-why
+enum-known-why : tie.Need-enum_known-why
 enum-known-why c = search rules
 
-same_length : tie.Need-same-length
+same_length : tie.Need-shape_of-rec
 same_length c = search rules
 
-returns : tie.Need-returns
+returns : tie.Need-returns-in-Valid
 unfolding query_told
 returns c =
     let at = c.before.before.before in
-    let told = ap query_told at.before.enum_told.given.1 in
-    let accepts = sym at.before.before.before.check-request.ensures ∙ told in
+    let told = ap query_told at.before.in-Valid.is in
+    let accepts = sym at.before.before.before.check_request.ensures ∙ told in
     written-past _ _ _ _ accepts c.before.before.write_checked.ensures
 
-returns-2 : tie.Need-returns-2
+returns-2 : tie.Need-returns-in-Refused
 unfolding query_told written_told told
 returns-2 c =
-    let why = ap query_told (sym c.before.why.given.1) in
-    written-stopped _ _ _ _ (why ∙ c.before.before.before.check-request.ensures)
+    let why = ap query_told (sym c.before.in-Refused.is) in
+    written-stopped _ _ _ _ (why ∙ c.before.before.before.check_request.ensures)
 
 pub write_spec : {M : Type 1} → statement M
 write_spec =

@@ -9,64 +9,64 @@ use Rattle.writing.proofs.write_checked.Statement.{statement}
 use Rattle.writing.proofs.write_checked.Tie as tie
 
 -- where the record was asked for
-abbrev start : tie.After-index → tie.Start
+abbrev start : tie.After-index-index → tie.Start
 start at = at.before.before.before
 
-index-requires : tie.Need-index-requires
+index-requires : tie.Need-index-index-requires
 index-requires c κs = search rules
 
-automata-of-requires : tie.Need-automata-of-requires
+automata-of-requires : tie.Need-automata_of-requires
 automata-of-requires c κs = search rules
 
-slice-aggregate-write-over : tie.Need-slice-aggregate-write-over
+slice-aggregate-write-over : tie.Need-slice_bounds-write_over-end
 slice-aggregate-write-over c = search rules
 
-array-share-prefix-none : tie.Need-array-share-prefix-none
+array-share-prefix-none : tie.Need-slice_bounds-none-end
 array-share-prefix-none c = search rules
 
-slice-aggregate-write-over-2 : tie.Need-slice-aggregate-write-over-2
+slice-aggregate-write-over-2 : tie.Need-slice_bounds-write_over-end-then-automata_of-eq0
 slice-aggregate-write-over-2 c = search rules
 
-write-over-requires : tie.Need-write-over-requires
+write-over-requires : tie.Need-write_over-requires
 write-over-requires c κs =
     let index = c.before.before.before.before.before in
-    prepared-by (start index).requires index.index.ensures (no-arcs _ _ (simp length-take (omega arith)))
+    prepared-by (start index).requires index.index-index.ensures (no-arcs _ _ (simp length-take (omega arith)))
 
-same_length : tie.Need-same-length
+same_length : tie.Need-shape_of-rec-then-automata_of-eq0
 same_length c = search rules
 
-returns : tie.Need-returns
+returns : tie.Need-returns-then-automata_of-eq0
 returns c = search rules
 
-slice-aggregate-make-arcs : tie.Need-slice-aggregate-make-arcs
+slice-aggregate-make-arcs : tie.Need-slice_bounds-make_arcs-end
 slice-aggregate-make-arcs c = search rules
 
-slice-aggregate-make-arcs-2 : tie.Need-slice-aggregate-make-arcs-2
+slice-aggregate-make-arcs-2 : tie.Need-slice_bounds-make_arcs-end-2
 slice-aggregate-make-arcs-2 c = search rules
 
-make-arcs-requires : tie.Need-make-arcs-requires
+make-arcs-requires : tie.Need-make_arcs-requires
 make-arcs-requires c κs = search rules
 
-slice-aggregate-write-over-3 : tie.Need-slice-aggregate-write-over-3
+slice-aggregate-write-over-3 : tie.Need-slice_bounds-write_over-end-2
 slice-aggregate-write-over-3 c = search rules
 
-slice-aggregate-write-over-4 : tie.Need-slice-aggregate-write-over-4
+slice-aggregate-write-over-4 : tie.Need-slice_bounds-write_over-end-3
 slice-aggregate-write-over-4 c = search rules
 
-write-over-requires-2 : tie.Need-write-over-requires-2
+write-over-requires-2 : tie.Need-write_over-requires-2
 write-over-requires-2 c κs =
     let made = c.before.before.before.before in
     let index = made.before.before.before.before.before in
-    prepared-by (start index).requires index.index.ensures made.make-arcs.ensures.0
+    prepared-by (start index).requires index.index-index.ensures made.make_arcs.ensures.0
 
-same-length-2 : tie.Need-same-length-2
+same-length-2 : tie.Need-shape_of-rec
 same-length-2 c = search rules
 
-returns-2 : tie.Need-returns-2
+returns-2 : tie.Need-returns
 returns-2 c = search rules
 
-pub write-checked-spec : {M : Type 1} → statement M
-write-checked-spec =
+pub write_checked_spec : {M : Type 1} → statement M
+write_checked_spec =
     tie.close
     (tie.spec
     index-requires

@@ -20,10 +20,10 @@ use Rattle.writing.proofs.write_listed.Tie as tie
 wide-requires : tie.Need-wide-requires
 wide-requires c κs = search rules
 
-slice-aggregate-fill : tie.Need-slice-aggregate-fill
+slice-aggregate-fill : tie.Need-slice_bounds-fill-end
 slice-aggregate-fill c = search rules
 
-fill-requires : tie.Need-fill-requires
+fill-requires : tie.Need-fill-last-requires
 fill-requires c κs =
     let pre = c.before.before.before.before.before.before.requires in
     let wide = c.before.wide.ensures.0 in (
@@ -37,79 +37,79 @@ fill-requires c κs =
       ),
     )
 
-automata-of-requires : tie.Need-automata-of-requires
+automata-of-requires : tie.Need-automata_of-borne-requires
 automata-of-requires c κs = search rules
 
-marked-requires : tie.Need-marked-requires
+marked-requires : tie.Need-marked-owed-requires
 marked-requires c κs = search rules
 
-is-small-requires : tie.Need-is-small-requires
+is-small-requires : tie.Need-is_small-requires
 is-small-requires c κs = search rules
 
-slice-aggregate-write-settled : tie.Need-slice-aggregate-write-settled
+slice-aggregate-write-settled : tie.Need-slice_bounds-write_settled-end
 slice-aggregate-write-settled c = search rules
 
-slice-aggregate-write-settled-2 : tie.Need-slice-aggregate-write-settled-2
+slice-aggregate-write-settled-2 : tie.Need-slice_bounds-write_settled-end-then-is_small
 slice-aggregate-write-settled-2 c = search rules
 
 -- the place where the terms are known, and the one where the call was asked
 abbrev Ready : Type 0
-Ready = tie.After-marked
+Ready = tie.After-marked-owed
 
 abbrev asked : Ready → tie.Start
 asked at = at.before.before.before.before.before.before.before.before.before.before
 
 -- the automata of the set by their marks
 settled : (at : Ready) → let from = (asked at).args in
-    Settled from.table.now from.set (bit_xor at.before.automata-of.result at.marked.result) at.marked.result
-settled at = settled-by _ (asked at).requires.0.well_formed _ at.before.automata-of.ensures at.marked.ensures
+    Settled from.table.now from.set (bit_xor at.before.automata_of-borne.result at.marked-owed.result) at.marked-owed.result
+settled at = settled-by _ (asked at).requires.0.well_formed _ at.before.automata_of-borne.ensures at.marked-owed.ensures
 
 -- the members of the set, as they have been found
 filled : (at : Ready) → let from = (asked at).args in
-    let fill = at.before.before.before.fill in
+    let fill = at.before.before.before.fill-last in
     Members from.table.now from.set from.query.depth fill.result fill.new.1.1.1.1.0
 filled at =
     let fill = at.before.before.before in
-    rw fill.before.before.wide.ensures.0 at fill.fill.ensures
+    rw fill.before.before.wide.ensures.0 at fill.fill-last.ensures
 
 -- a cleared memory, of any length
 cleared : (at : Ready) (memory : List ℕ) → SlotIn memory 0 → Blank memory → let from = (asked at).args in
-    Remembered from.table.now from.set (bit_xor at.before.automata-of.result at.marked.result) at.marked.result
+    Remembered from.table.now from.set (bit_xor at.before.automata_of-borne.result at.marked-owed.result) at.marked-owed.result
     memory
 cleared at = remembered-none _ _ _ _ (owed-fits (asked at).requires.0.well_formed (settled at))
 
-write-settled-requires : tie.Need-write-settled-requires
+write-settled-requires : tie.Need-write_settled-requires
 write-settled-requires c κs =
     let at = c.before.before.before.before.before in
     let pre = (asked at).requires in
     (pre.0, (pre.1, (filled at, (settled at, cleared at _ (omega arith) (zeros few_cells)))))
 
-same_length : tie.Need-same-length
+same_length : tie.Need-shape_of-rec-then-is_small
 same_length c = search rules
 
-returns : tie.Need-returns
+returns : tie.Need-returns-then-is_small
 returns c = search rules
 
-slice-aggregate-write-settled-3 : tie.Need-slice-aggregate-write-settled-3
+slice-aggregate-write-settled-3 : tie.Need-slice_bounds-write_settled-end-2
 slice-aggregate-write-settled-3 c = search rules
 
-slice-aggregate-write-settled-4 : tie.Need-slice-aggregate-write-settled-4
+slice-aggregate-write-settled-4 : tie.Need-slice_bounds-write_settled-end-3
 slice-aggregate-write-settled-4 c = search rules
 
-write-settled-requires-2 : tie.Need-write-settled-requires-2
+write-settled-requires-2 : tie.Need-write_settled-requires-2
 write-settled-requires-2 c κs =
     let at = c.before.before.before.before.before in
     let pre = (asked at).requires in
     (pre.0, (pre.1, (filled at, (settled at, cleared at _ (omega arith) (zeros memory_cells)))))
 
-same-length-2 : tie.Need-same-length-2
+same-length-2 : tie.Need-shape_of-rec
 same-length-2 c = search rules
 
-returns-2 : tie.Need-returns-2
+returns-2 : tie.Need-returns
 returns-2 c = search rules
 
-pub write-listed-spec : {M : Type 1} → statement M
-write-listed-spec =
+pub write_listed_spec : {M : Type 1} → statement M
+write_listed_spec =
     tie.close
     (tie.spec
     wide-requires

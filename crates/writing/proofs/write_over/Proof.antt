@@ -8,32 +8,32 @@ use borrow.Author.Rules.{rules}
 use Rattle.writing.proofs.write_over.Statement.{statement}
 use Rattle.writing.proofs.write_over.Tie as tie
 
-is-listed-requires : tie.Need-is-listed-requires
+is-listed-requires : tie.Need-is_listed-requires
 is-listed-requires c κs = search rules
 
 refused-requires : tie.Need-refused-requires
 refused-requires c κs = search rules
 
-returns : tie.Need-returns
+returns : tie.Need-returns-then-not-is_listed
 unfolding number_of
 returns c =
-    let off = failed c.before.before.is-listed.ensures c.before.if1.true in
+    let off = failed c.before.before.is_listed.ensures c.before.if-not-is_listed.true in
     tells-instead _ _ _ _ c.refused.ensures refl (tells-unlisted _ _ _ _ off)
 
-write-listed-requires : tie.Need-write-listed-requires
+write-listed-requires : tie.Need-write_listed-requires
 write-listed-requires c κs = (
   c.before.before.before.before.before.before.before.requires,
-  passed c.before.before.is-listed.ensures c.before.if1.false,
+  passed c.before.before.is_listed.ensures c.before.if-not-is_listed.false,
 )
 
-same_length : tie.Need-same-length
+same_length : tie.Need-shape_of-rec
 same_length c = search rules
 
-returns-2 : tie.Need-returns-2
+returns-2 : tie.Need-returns
 returns-2 c = search rules
 
-pub write-over-spec : {M : Type 1} → statement M
-write-over-spec =
+pub write_over_spec : {M : Type 1} → statement M
+write_over_spec =
     tie.close
     (tie.spec
     is-listed-requires

@@ -13,15 +13,15 @@ use borrow.Author.Rules.{rules}
 use Rattle.writing.proofs.write_settled.Statement.{statement}
 use Rattle.writing.proofs.write_settled.Tie as tie
 
-slice-relend-prefix-from-goal : tie.Need-slice-relend-prefix-from-goal
+slice-relend-prefix-from-goal : tie.Need-slice_bounds-from_goal-end
 slice-relend-prefix-from-goal c = search rules
 
-slice-aggregate-from-goal : tie.Need-slice-aggregate-from-goal
+slice-aggregate-from-goal : tie.Need-slice_bounds-from_goal-end-2
 slice-aggregate-from-goal c = simp length-take (omega arith)
 
 -- the place before the first walk, and the one where the call was asked
 abbrev Ready : Type 0
-Ready = tie.After-from-goal-arg2
+Ready = tie.After-from_goal-arg-2-1
 
 abbrev asked : Ready → tie.Start
 asked at = at.before.before.before.before.before.before.before.before
@@ -40,7 +40,7 @@ walkable at =
     let pre = (asked at).requires in
     proves-under pre.0.well_formed pre.1.1.1.0 _ pre.0.valid pre.1.0
 
-from-goal-requires : tie.Need-from-goal-requires
+from-goal-requires : tie.Need-from_goal-len-requires
 from-goal-requires c κs =
     let pre = (asked c).requires in
     (pre.0, (pre.1.1.0, (pre.1.1.1.1, (walkable c, room c))))
@@ -48,47 +48,47 @@ from-goal-requires c κs =
 refused-requires : tie.Need-refused-requires
 refused-requires c κs = search rules
 
-same_length : tie.Need-same-length
+same_length : tie.Need-shape_of-memory-then-cells-len
 same_length c = search rules
 
-same-length-2 : tie.Need-same-length-2
+same-length-2 : tie.Need-shape_of-rec-then-cells-len
 same-length-2 c = search rules
 
-returns : tie.Need-returns
+returns : tie.Need-returns-then-cells-len
 unfolding number_of
 returns c =
     let first = c.before.before.before.before.before.before in
     let at = first.before in
     let pre = (asked at).requires.1 in
-    let counted = first.from-goal.ensures.0 in
+    let counted = first.from_goal-len.ensures.0 in
     tells-instead _ _ _ _ c.refused.ensures (passed-by counted (cells at))
-    (counted-longer _ pre.1.1.0 _ pre.0 refl counted c.before.if1.true)
+    (counted-longer _ pre.1.1.0 _ pre.0 refl counted c.before.if-cells-len.true)
 
-from-goal-requires-2 : tie.Need-from-goal-requires-2
+from-goal-requires-2 : tie.Need-from_goal-requires
 from-goal-requires-2 c κs =
     let first = c.before.before.before.before.before.before.before in
     let pre = (asked first.before).requires in
-    (pre.0, (pre.1.1.0, (first.from-goal.ensures.1, (walkable first.before, room first.before))))
+    (pre.0, (pre.1.1.0, (first.from_goal-len.ensures.1, (walkable first.before, room first.before))))
 
-same-length-3 : tie.Need-same-length-3
+same-length-3 : tie.Need-shape_of-memory
 same-length-3 c = search rules
 
-same-length-4 : tie.Need-same-length-4
+same-length-4 : tie.Need-shape_of-rec
 same-length-4 c = search rules
 
-returns-2 : tie.Need-returns-2
+returns-2 : tie.Need-returns
 unfolding written_told
 returns-2 c =
     let second = c.before.before.before.before in
     let first = second.before.before.before.before.before.before.before.before in
     let at = first.before in
     let pre = (asked at).requires.1 in
-    let counted = first.from-goal.ensures.0 in
-    counted-written _ pre.1.1.0 _ pre.0 refl counted second.before.before.before.if1.false
-    (rw (passed-by counted (cells at)) at second.from-goal2.ensures.0)
+    let counted = first.from_goal-len.ensures.0 in
+    counted-written _ pre.1.1.0 _ pre.0 refl counted second.before.before.before.if-cells-len.false
+    (rw (passed-by counted (cells at)) at second.from_goal.ensures.0)
 
-pub write-settled-spec : {M : Type 1} → statement M
-write-settled-spec =
+pub write_settled_spec : {M : Type 1} → statement M
+write_settled_spec =
     tie.close
     (tie.spec
     slice-relend-prefix-from-goal

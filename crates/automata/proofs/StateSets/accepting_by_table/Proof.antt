@@ -10,58 +10,58 @@ use Rattle.sets.specs.Sets.{set_of}
 use Rattle.automata.proofs.StateSets.accepting_by_table.Statement.{statement}
 use Rattle.automata.proofs.StateSets.accepting_by_table.Tie as tie
 
-abbrev invariant-loop : tie.invariant-loop
+abbrev invariant-loop : tie.invariant-loop-k
 invariant-loop table self mask₀ a k₀ mask k = (k ≤ a) × (mask ≡ set_of (accepts_at table self) k)
 
-abbrev decreases-loop : tie.decreases-loop
+abbrev decreases-loop : tie.decreases-loop-k
 decreases-loop table self mask₀ a k₀ mask k = a - k
 
-automata-requires : tie.Need-automata-requires invariant-loop decreases-loop
+automata-requires : tie.Need-automata-a-requires invariant-loop decreases-loop
 automata-requires c κs = search rules
 
-loop-holds : tie.Need-loop-init invariant-loop decreases-loop
+loop-holds : tie.Need-loop-k-init invariant-loop decreases-loop
 unfolding set_of
 loop-holds c = (omega arith, refl)
 
-add-automaton : tie.Need-overflow-add-automaton invariant-loop decreases-loop
+add-automaton : tie.Need-overflow_add-k invariant-loop decreases-loop
 add-automaton c = search rules
 
-automaton-requires : tie.Need-automaton-requires invariant-loop decreases-loop
+automaton-requires : tie.Need-automaton-automaton-requires invariant-loop decreases-loop
 automaton-requires c κs = search rules
 
-states-requires : tie.Need-states-requires invariant-loop decreases-loop
+states-requires : tie.Need-states-accepting-requires invariant-loop decreases-loop
 states-requires c κs = search rules
 
-mul-if1 : tie.Need-overflow-mul-if1 invariant-loop decreases-loop
+mul-if1 : tie.Need-offset_bounds-self-k invariant-loop decreases-loop
 mul-if1 c = search rules
 
-element-copy-out-if1 : tie.Need-element-copy-out-if1 invariant-loop decreases-loop
+element-copy-out-if1 : tie.Need-bounds-self-k invariant-loop decreases-loop
 element-copy-out-if1 c = search rules
 
-with-16-requires : tie.Need-with-16-requires invariant-loop decreases-loop
+with-16-requires : tie.Need-with_16-mask-requires invariant-loop decreases-loop
 with-16-requires c κs = search rules
 
-add-k : tie.Need-overflow-add-k invariant-loop decreases-loop
+add-k : tie.Need-overflow_add-k-in-loop-k invariant-loop decreases-loop
 add-k c = search rules
 
-loop-less : tie.Need-loop-smaller invariant-loop decreases-loop
+loop-less : tie.Need-loop-k-smaller invariant-loop decreases-loop
 loop-less c = search rules
 
-loop-again : tie.Need-loop-preserved invariant-loop decreases-loop
+loop-again : tie.Need-loop-k-preserved invariant-loop decreases-loop
 loop-again c =
-    let (in-range, so_far) = c.before.before.before.before.before.loop.invariant in
-    let read = c.before.before.before.automaton.ensures in
-    let accepting = c.before.before.states.ensures in
+    let (in-range, so_far) = c.before.before.before.before.before.loop-k.invariant in
+    let read = c.before.before.before.automaton-automaton.ensures in
+    let accepting = c.before.before.states-accepting.ensures in
     let self = c.before.before.before.before.before.before.before.before.args.t1 in
-    let mask = ⊎_elim (λ w. w.2 ∙ w.1.ensures ∙ accepting-more _ self _ so_far read (rw accepting at w.0.taken))
-    (λ w. w.1 ∙ accepting-same _ self _ so_far read (rw accepting at w.0.left)) c.if1.branch in
+    let mask = ⊎_elim (λ w. w.mask-is ∙ w.with_16-mask.ensures ∙ accepting-more _ self _ so_far read (rw accepting at w.if-self-k-ne0.true))
+    (λ w. w.mask-is ∙ accepting-same _ self _ so_far read (rw accepting at w.if-self-k-ne0.false)) c.if-self-k-ne0.branch-raw in
     (omega arith, mask)
 
 returns : tie.Need-returns invariant-loop decreases-loop
-returns c = c.before.loop.invariant.1 ∙ accepting-all _ _ _ (omega arith)
+returns c = c.before.loop-k.invariant.1 ∙ accepting-all _ _ _ (omega arith)
 
-pub accepting-by-table-spec : {M : Type 1} → statement M
-accepting-by-table-spec =
+pub accepting_by_table_spec : {M : Type 1} → statement M
+accepting_by_table_spec =
     tie.close
     (tie.spec
     invariant-loop

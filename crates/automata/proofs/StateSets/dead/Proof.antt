@@ -13,48 +13,48 @@ use Rattle.automata.specs.Together.{dead_set}
 use Rattle.automata.proofs.StateSets.dead.Statement.{statement}
 use Rattle.automata.proofs.StateSets.dead.Tie as tie
 
-abbrev invariant-loop : tie.invariant-loop
+abbrev invariant-loop : tie.invariant-loop-k
 invariant-loop table self mask₀ a k₀ mask k = (k ≤ a) × (mask ≡ set_of (is_empty self) k)
 
-abbrev decreases-loop : tie.decreases-loop
+abbrev decreases-loop : tie.decreases-loop-k
 decreases-loop table self mask₀ a k₀ mask k = a - k
 
-automata-requires : tie.Need-automata-requires invariant-loop decreases-loop
+automata-requires : tie.Need-automata-a-requires invariant-loop decreases-loop
 automata-requires c κs = search rules
 
-loop-holds : tie.Need-loop-init invariant-loop decreases-loop
+loop-holds : tie.Need-loop-k-init invariant-loop decreases-loop
 unfolding set_of
 loop-holds c = (omega arith, refl)
 
-mul-if1 : tie.Need-overflow-mul-if1 invariant-loop decreases-loop
+mul-if1 : tie.Need-offset_bounds-self-k invariant-loop decreases-loop
 mul-if1 c = search rules
 
-element-copy-out-if1 : tie.Need-element-copy-out-if1 invariant-loop decreases-loop
+element-copy-out-if1 : tie.Need-bounds-self-k invariant-loop decreases-loop
 element-copy-out-if1 c = search rules
 
-with-16-requires : tie.Need-with-16-requires invariant-loop decreases-loop
+with-16-requires : tie.Need-with_16-mask-requires invariant-loop decreases-loop
 with-16-requires c κs = search rules
 
-add-k : tie.Need-overflow-add-k invariant-loop decreases-loop
+add-k : tie.Need-overflow_add-k invariant-loop decreases-loop
 add-k c = search rules
 
-loop-less : tie.Need-loop-smaller invariant-loop decreases-loop
+loop-less : tie.Need-loop-k-smaller invariant-loop decreases-loop
 loop-less c = search rules
 
-loop-again : tie.Need-loop-preserved invariant-loop decreases-loop
+loop-again : tie.Need-loop-k-preserved invariant-loop decreases-loop
 loop-again c =
-    let (in-range, so_far) = c.before.before.before.loop.invariant in
+    let (in-range, so_far) = c.before.before.before.loop-k.invariant in
     let self = c.before.before.before.before.before.before.args.t1 in
-    let mask = ⊎_elim (λ w. w.2 ∙ w.1.ensures ∙ set_more (is_empty self) _ _ so_far (eq-eqb _ 0 w.0.taken))
-    (λ w. w.1 ∙ set-not (is_empty self) _ _ so_far (ne_eqb _ 0 w.0.left)) c.if1.branch in
+    let mask = ⊎_elim (λ w. w.mask-is ∙ w.with_16-mask.ensures ∙ set_more (is_empty self) _ _ so_far (eq-eqb _ 0 w.if-self-k-eq0.true))
+    (λ w. w.mask-is ∙ set-not (is_empty self) _ _ so_far (ne_eqb _ 0 w.if-self-k-eq0.false)) c.if-self-k-eq0.branch-raw in
     (omega arith, mask)
 
 returns : tie.Need-returns invariant-loop decreases-loop
 unfolding dead_set
-returns c = c.before.loop.invariant.1 ∙ ap (set_of _) (omega arith)
+returns c = c.before.loop-k.invariant.1 ∙ ap (set_of _) (omega arith)
 
-pub dead-spec : {M : Type 1} → statement M
-dead-spec =
+pub dead_spec : {M : Type 1} → statement M
+dead_spec =
     tie.close
     (tie.spec
     invariant-loop

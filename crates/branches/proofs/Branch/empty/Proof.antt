@@ -9,5 +9,5 @@ returns : tie.Need-returns
 unfolding above up_to
 returns c = (record { fits = omega arith; size = refl }, (refl, refl))
 
-pub empty-spec : {M : Type 1} → statement M
-empty-spec = tie.close (tie.spec returns)
+pub empty_spec : {M : Type 1} → statement M
+empty_spec = tie.close (tie.spec returns)

@@ -8,27 +8,27 @@ use Rattle.choice.proofs.middles.comes_before.Tie as tie
 credentials-requires : tie.Need-credentials-requires
 credentials-requires c κs = search rules
 
-returns : tie.Need-returns
+returns : tie.Need-returns-then-credentials-best
 returns c = before-none _ _ _ (omega arith)
 
-add-credential : tie.Need-overflow-add-credential
+add-credential : tie.Need-overflow_add-j
 add-credential c = search rules
 
-credential-requires : tie.Need-credential-requires
+credential-requires : tie.Need-credential-one-requires
 credential-requires c κs = search rules
 
-add-credential-2 : tie.Need-overflow-add-credential-2
+add-credential-2 : tie.Need-overflow_add-best
 add-credential-2 c = search rules
 
-credential-requires-2 : tie.Need-credential-requires-2
+credential-requires-2 : tie.Need-credential-other-requires
 credential-requires-2 c κs = search rules
 
-returns-2 : tie.Need-returns-2
+returns-2 : tie.Need-returns
 returns-2 c =
-    before-told _ _ _ (omega arith) _ _ c.before.before.before.credential.ensures c.before.before.credential2.ensures
+    before-told _ _ _ (omega arith) _ _ c.before.before.before.credential-one.ensures c.before.before.credential-other.ensures
 
-pub comes-before-spec : {M : Type 1} → statement M
-comes-before-spec =
+pub comes_before_spec : {M : Type 1} → statement M
+comes_before_spec =
     tie.close
     (tie.spec
     credentials-requires

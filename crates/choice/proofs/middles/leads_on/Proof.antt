@@ -10,23 +10,23 @@ use borrow.Author.Rules.{rules}
 use Rattle.choice.proofs.middles.leads_on.Statement.{statement}
 use Rattle.choice.proofs.middles.leads_on.Tie as tie
 
-asked-cell-requires : tie.Need-asked-cell-requires
+asked-cell-requires : tie.Need-asked_cell-requires
 asked-cell-requires c κs = search rules
 
-goal-search-requires : tie.Need-goal-search-requires
+goal-search-requires : tie.Need-goal_search-one-requires
 goal-search-requires c κs =
     let cell = c.before in
     let pre = cell.before.before.before.before.before.before.requires in
     let middle = pre.1.1.0 in
-    let stands = first-stands pre.0 pre.1.0.0 pre.1.0.1 middle.0 middle.1 cell.asked-cell.ensures.0 in
+    let stands = first-stands pre.0 pre.1.0.0 pre.1.0.1 middle.0 middle.1 cell.asked_cell.ensures.0 in
     (pre.0, (stands, pre.1.1.1.1))
 
-is-none-requires : tie.Need-is-none-requires
+is-none-requires : tie.Need-is_none-requires
 is-none-requires c κs = search rules
 
 -- the place where the first goal has been asked, and the one where the function was
 abbrev Found : Type 0
-Found = tie.After-goal-search
+Found = tie.After-goal_search-one
 
 abbrev asked : Found → tie.Start
 asked at = at.before.before.before.before.before.before.before.before
@@ -34,59 +34,59 @@ asked at = at.before.before.before.before.before.before.before.before
 wide : (at : tie.Start) → length at.args.above.persons ≡ most_credentials
 wide at = search rules
 
-same_length : tie.Need-same-length
+same_length : tie.Need-shape_of-memory-then-is_none
 same_length c = search rules
 
-returns : tie.Need-returns
+returns : tie.Need-returns-then-is_none
 returns c =
     let at = c.before.before.before.before in
     let pre = (asked at).requires in
     let middle = pre.1.1.0 in
-    let (judged, remembered) = at.goal-search.ensures in (
+    let (judged, remembered) = at.goal_search-one.ensures in (
       leads-none pre.0 pre.1.0.0 pre.1.0.1 middle.0 middle.1 _ _ _ pre.1.1.1.0
-          at.before.before.asked-cell.ensures.0 (judged-told (wide (asked at)) judged) c.before.is_none.ensures c.if1.true,
+          at.before.before.asked_cell.ensures.0 (judged-told (wide (asked at)) judged) c.before.is_none.ensures c.if-is_none.true,
       remembered,
     )
 
-link-cell-requires : tie.Need-link-cell-requires
+link-cell-requires : tie.Need-link_cell-requires
 link-cell-requires c κs =
     let pre = (asked c.before.before.before.before).requires in
     let few = pre.0.well_formed.sized.counted.few_credentials in
     (pre.0.indexed.placed, (omega (arith, pre.1.0.0.there, few), omega (arith, pre.1.1.0.0, few)))
 
-goal-search-requires-2 : tie.Need-goal-search-requires-2
+goal-search-requires-2 : tie.Need-goal_search-two-requires
 goal-search-requires-2 c κs =
     let cell = c.before in
     let at = cell.before.before.before.before.before in
     let pre = (asked at).requires in
     let middle = pre.1.1.0 in
-    let stands = second-stands pre.0 pre.1.0.0 pre.1.0.1 middle.0 middle.1 cell.link-cell.ensures.0 in
-    (pre.0, (stands, at.goal-search.ensures.1))
+    let stands = second-stands pre.0 pre.1.0.0 pre.1.0.1 middle.0 middle.1 cell.link_cell.ensures.0 in
+    (pre.0, (stands, at.goal_search-one.ensures.1))
 
-joined-requires : tie.Need-joined-requires
+joined-requires : tie.Need-joined-both-requires
 joined-requires c κs = search rules
 
 meets-requires : tie.Need-meets-requires
 meets-requires c κs = search rules
 
-same-length-2 : tie.Need-same-length-2
+same-length-2 : tie.Need-shape_of-memory
 same-length-2 c = search rules
 
-returns-2 : tie.Need-returns-2
+returns-2 : tie.Need-returns
 returns-2 c =
     let second = c.before.before.before.before in
     let at = second.before.before.before.before.before.before.before in
     let pre = (asked at).requires in
     let middle = pre.1.1.0 in
-    let (judged, remembered) = second.goal-search2.ensures in (
+    let (judged, remembered) = second.goal_search-two.ensures in (
       leads-told pre.0 pre.1.0.0 pre.1.0.1 middle.0 middle.1 _ _ _ pre.1.1.1.0
-          at.before.before.asked-cell.ensures.0 (judged-told (wide (asked at)) at.goal-search.ensures.0)
-          second.before.before.link-cell.ensures.0 _ (judged-told (wide (asked at)) judged) c.before.joined.ensures c.meets.ensures,
+          at.before.before.asked_cell.ensures.0 (judged-told (wide (asked at)) at.goal_search-one.ensures.0)
+          second.before.before.link_cell.ensures.0 _ (judged-told (wide (asked at)) judged) c.before.joined-both.ensures c.meets.ensures,
       remembered,
     )
 
-pub leads-on-spec : {M : Type 1} → statement M
-leads-on-spec =
+pub leads_on_spec : {M : Type 1} → statement M
+leads_on_spec =
     tie.close
     (tie.spec
     asked-cell-requires

@@ -15,124 +15,124 @@ use borrow.Author.Rules.{rules}
 use Rattle.choice.proofs.middles.least_middle.Statement.{statement}
 use Rattle.choice.proofs.middles.least_middle.Tie as tie
 
-abbrev invariant-loop : tie.invariant-loop
+abbrev invariant-loop : tie.invariant-loop-left
 invariant-loop table index arcs rows terms wanted person i levels states above memory₀ row left₀ memory left =
     MiddlesLeft table (leads table (suits_all table terms wanted levels above states) (suits_word table terms wanted states)
     (goal_at table person i) (suc i)) left
     × ((length memory ≡ length memory₀) × Remembered table terms.allowed terms.constraints terms.owed memory)
 
-abbrev decreases-loop : tie.decreases-loop
+abbrev decreases-loop : tie.decreases-loop-left
 decreases-loop table index arcs rows terms wanted person i levels states above memory₀ row left₀ memory left = left
 
-row-of-requires : tie.Need-row-of-requires invariant-loop decreases-loop
+row-of-requires : tie.Need-row_of-row-requires invariant-loop decreases-loop
 row-of-requires c κs = search rules
 
-listed-middles-requires : tie.Need-listed-middles-requires invariant-loop decreases-loop
+listed-middles-requires : tie.Need-listed_middles-left-requires invariant-loop decreases-loop
 listed-middles-requires c κs =
     let pre = c.before.before.before.before.before.before.requires in (
       pre.0.well_formed,
       (
         pre.0.indexed,
-        ((pre.0.members.room, row_fits pre.0.members c.row_of.ensures), (pre.1.0.0.who, pre.1.0.0.there)),
+        ((pre.0.members.room, row_fits pre.0.members c.row_of-row.ensures), (pre.1.0.0.who, pre.1.0.0.there)),
       ),
     )
 
 -- the place where the middles have been listed, and the one where the function was asked
 abbrev Listed : Type 0
-Listed = tie.After-listed-middles invariant-loop decreases-loop
+Listed = tie.After-listed_middles-left invariant-loop decreases-loop
 
 abbrev asked : Listed → tie.Start invariant-loop decreases-loop
 asked at = at.before.before.before.before.before.before.before
 
-loop-holds : tie.Need-loop-init invariant-loop decreases-loop
+loop-holds : tie.Need-loop-left-init invariant-loop decreases-loop
 loop-holds c =
     let pre = (asked c).requires in (
-      left-first pre.0 pre.1.0.0 pre.1.0.1 _ _ _ _ _ _ _ c.before.row_of.ensures c.listed-middles.ensures,
+      left-first pre.0 pre.1.0.0 pre.1.0.1 _ _ _ _ _ _ _ c.before.row_of-row.ensures c.listed_middles-left.ensures,
       (refl, pre.1.1.1.0),
     )
 
-sub-loop : tie.Need-overflow-sub-loop invariant-loop decreases-loop
+sub-loop : tie.Need-overflow_sub-left invariant-loop decreases-loop
 sub-loop c =
     let pre = (asked c.before).pre in
     let some = some-leads _ _ _ _ _ pre.1.0.1 pre.1.1.1.1 in
-    some-least _ (left-some _ _ _ c.loop.invariant.0 some)
+    some-least _ (left-some _ _ _ c.loop-left.invariant.0 some)
 
-least-named-requires : tie.Need-least-named-requires invariant-loop decreases-loop
+least-named-requires : tie.Need-least_named-j-requires invariant-loop decreases-loop
 least-named-requires c κs =
     let pre = (asked c.before.before).pre in
     let some = some-leads _ _ _ _ _ pre.1.0.1 pre.1.1.1.1 in
-    let left = c.before.loop.invariant.0 in
+    let left = c.before.loop-left.invariant.0 in
     (pre.0.well_formed, (left.few, left-some _ _ _ left some))
 
-leads-on-requires : tie.Need-leads-on-requires invariant-loop decreases-loop
+leads-on-requires : tie.Need-leads_on-requires invariant-loop decreases-loop
 leads-on-requires c κs =
     let at = c.before.before.before in
     let pre = (asked at.before).pre in
-    let named = c.before.least-named.ensures in
-    let (left, (same, remembered)) = at.loop.invariant in
+    let named = c.before.least_named-j.ensures in
+    let (left, (same, remembered)) = at.loop-left.invariant in
     (pre.0, (pre.1.0, ((named.there, left.people _ named.member), (pre.1.1.0, remembered))))
 
 -- the place where the least of those left has been found: its bit is one of 32
 abbrev Named : Type 0
-Named = tie.After-least-named invariant-loop decreases-loop
+Named = tie.After-least_named-j invariant-loop decreases-loop
 
-near : (at : Named) → at.least-named.result < 32
+near : (at : Named) → at.least_named-j.result < 32
 near at =
     let pre = (asked at.before.before.before).pre in
-    omega (arith, below-most pre.0.well_formed _ at.least-named.ensures.there)
+    omega (arith, below-most pre.0.well_formed _ at.least_named-j.ensures.there)
 
-same_length : tie.Need-same-length invariant-loop decreases-loop
+same_length : tie.Need-shape_of-memory-then-leads_on invariant-loop decreases-loop
 same_length c =
-    c.before.before.memory.given ∙ c.before.before.before.before.before.before.before.loop.invariant.1.0
+    c.before.before.memory-1.given ∙ c.before.before.before.before.before.before.before.loop-left.invariant.1.0
 
-returns : tie.Need-returns invariant-loop decreases-loop
+returns : tie.Need-returns-then-leads_on invariant-loop decreases-loop
 returns c =
     let named = c.before.before.before.before.before in
-    let (leading, remembered) = c.before.before.before.leads-on.ensures in (
-      least-leads _ _ _ named.before.before.loop.invariant.0 _ named.least-named.ensures (sym leading ∙ c.if1.true),
+    let (leading, remembered) = c.before.before.before.leads_on.ensures in (
+      least-leads _ _ _ named.before.before.loop-left.invariant.0 _ named.least_named-j.ensures (sym leading ∙ c.if-leads_on.true),
       remembered,
     )
 
-cast-left : tie.Need-overflow-cast-left invariant-loop decreases-loop
+cast-left : tie.Need-overflow_cast-left invariant-loop decreases-loop
 cast-left c = omega (arith, near c.before.before.before.before.before)
 
-shl-left : tie.Need-overflow-shl-left invariant-loop decreases-loop
+shl-left : tie.Need-overflow_shl-left invariant-loop decreases-loop
 shl-left c = omega (arith, near c.before.before.before.before.before)
 
-loop-less : tie.Need-loop-smaller invariant-loop decreases-loop
+loop-less : tie.Need-loop-left-smaller invariant-loop decreases-loop
 loop-less c =
     let named = c.before.before.before.before.before in
-    left_less _ _ _ named.before.before.loop.invariant.0 _ named.least-named.ensures _ (one_bit 32 _ (near named))
+    left_less _ _ _ named.before.before.loop-left.invariant.0 _ named.least_named-j.ensures _ (one_bit 32 _ (near named))
 
-loop-again : tie.Need-loop-preserved invariant-loop decreases-loop
+loop-again : tie.Need-loop-left-preserved invariant-loop decreases-loop
 loop-again c =
     let named = c.before.before.before.before.before in
-    let (leading, remembered) = c.before.before.before.leads-on.ensures in (
-      left-next _ _ _ named.before.before.loop.invariant.0 _ named.least-named.ensures (sym leading ∙ c.if1.false) _
+    let (leading, remembered) = c.before.before.before.leads_on.ensures in (
+      left-next _ _ _ named.before.before.loop-left.invariant.0 _ named.least_named-j.ensures (sym leading ∙ c.if-leads_on.false) _
           (one_bit 32 _ (near named)),
-      (c.before.before.memory.given ∙ c.before.before.before.before.before.before.before.loop.invariant.1.0, remembered),
+      (c.before.before.memory-1.given ∙ c.before.before.before.before.before.before.before.loop-left.invariant.1.0, remembered),
     )
 
-least-named-requires-2 : tie.Need-least-named-requires-2 invariant-loop decreases-loop
+least-named-requires-2 : tie.Need-least_named-requires invariant-loop decreases-loop
 least-named-requires-2 c κs =
     let pre = (asked c.before.before).pre in
     let some = some-leads _ _ _ _ _ pre.1.0.1 pre.1.1.1.1 in
-    let left = c.before.loop.invariant.0 in
+    let left = c.before.loop-left.invariant.0 in
     (pre.0.well_formed, (left.few, left-some _ _ _ left some))
 
-same-length-2 : tie.Need-same-length-2 invariant-loop decreases-loop
+same-length-2 : tie.Need-shape_of-memory invariant-loop decreases-loop
 same-length-2 c = search rules
 
-returns-2 : tie.Need-returns-2 invariant-loop decreases-loop
+returns-2 : tie.Need-returns invariant-loop decreases-loop
 returns-2 c =
     let at = c.before.before in
     let pre = (asked at.before).pre in
     let some = some-leads _ _ _ _ _ pre.1.0.1 pre.1.1.1.1 in
-    let (left, (same, remembered)) = at.loop.invariant in
-    (only-leads _ _ _ left _ c.least-named2.ensures some c.before.loop-test.false, remembered)
+    let (left, (same, remembered)) = at.loop-left.invariant in
+    (only-leads _ _ _ left _ c.least_named.ensures some c.before.loop-left-test.false, remembered)
 
-pub least-middle-spec : {M : Type 1} → statement M
-least-middle-spec =
+pub least_middle_spec : {M : Type 1} → statement M
+least_middle_spec =
     tie.close
     (tie.spec
     invariant-loop

@@ -9,52 +9,52 @@ use borrow.Author.Rules.{rules}
 use Rattle.choice.proofs.middles.least_named.Statement.{statement}
 use Rattle.choice.proofs.middles.least_named.Tie as tie
 
-abbrev invariant-loop : tie.invariant-loop
+abbrev invariant-loop : tie.invariant-loop-j
 invariant-loop table places n best₀ j₀ best j = (j ≤ n) × NamedTo table places j best
 
-abbrev decreases-loop : tie.decreases-loop
+abbrev decreases-loop : tie.decreases-loop-j
 decreases-loop table places n best₀ j₀ best j = n - j
 
-credentials-requires : tie.Need-credentials-requires invariant-loop decreases-loop
+credentials-requires : tie.Need-credentials-n-requires invariant-loop decreases-loop
 credentials-requires c κs = search rules
 
-loop-holds : tie.Need-loop-init invariant-loop decreases-loop
-loop-holds c = (omega arith, named_none _ _ _ c.credentials.ensures.same)
+loop-holds : tie.Need-loop-j-init invariant-loop decreases-loop
+loop-holds c = (omega arith, named_none _ _ _ c.credentials-n.ensures.same)
 
 has-requires : tie.Need-has-requires invariant-loop decreases-loop
 has-requires c κs = search rules
 
-comes-before-requires : tie.Need-comes-before-requires invariant-loop decreases-loop
+comes-before-requires : tie.Need-comes_before-requires invariant-loop decreases-loop
 comes-before-requires c κs = search rules
 
-add-j : tie.Need-overflow-add-j invariant-loop decreases-loop
+add-j : tie.Need-overflow_add-j invariant-loop decreases-loop
 add-j c = search rules
 
-loop-less : tie.Need-loop-smaller invariant-loop decreases-loop
+loop-less : tie.Need-loop-j-smaller invariant-loop decreases-loop
 loop-less c = search rules
 
-loop-again : tie.Need-loop-preserved invariant-loop decreases-loop
+loop-again : tie.Need-loop-j-preserved invariant-loop decreases-loop
 loop-again c =
     let loop = c.before.before.before in
-    let so_far = loop.loop.invariant.1 in
+    let so_far = loop.loop-j.invariant.1 in
     let has = sym c.before.has.ensures in
-    let there : loop.loop.j < credentials loop.before.before.before.args.table.now =
-    omega (arith, c.before.before.loop-test.true, loop.before.credentials.ensures.same) in (
+    let there : loop.loop-j.j < credentials loop.before.before.before.args.table.now =
+    omega (arith, c.before.before.loop-j-test.true, loop.before.credentials-n.ensures.same) in (
       omega arith,
       ⊎_elim (λ w. rw w.3 (named_here _ _ _ _ so_far there (has ∙ w.0.taken) (sym w.1.ensures ∙ w.2.taken)))
           (⊎_elim (λ w. rw w.3 (named-kept _ _ _ _ so_far (sym w.1.ensures ∙ w.2.left)))
-          (λ w. rw w.1 (named-out _ _ _ _ so_far (has ∙ w.0.left)))) c.if1.branch,
+          (λ w. rw w.1 (named-out _ _ _ _ so_far (has ∙ w.0.left)))) c.if-has.branch-raw,
     )
 
 returns : tie.Need-returns invariant-loop decreases-loop
 returns c =
-    let loop = c.before.loop in
+    let loop = c.before.loop-j in
     let pre = c.before.before.before.before.requires in
-    let all = c.before.before.credentials.ensures.same in
-    named-all _ _ _ _ (omega (arith, loop.invariant.0, c.loop-test.false, all)) loop.invariant.1 pre.1.0 pre.1.1
+    let all = c.before.before.credentials-n.ensures.same in
+    named-all _ _ _ _ (omega (arith, loop.invariant.0, c.loop-j-test.false, all)) loop.invariant.1 pre.1.0 pre.1.1
 
-pub least-named-spec : {M : Type 1} → statement M
-least-named-spec =
+pub least_named_spec : {M : Type 1} → statement M
+least_named_spec =
     tie.close
     (tie.spec
     invariant-loop

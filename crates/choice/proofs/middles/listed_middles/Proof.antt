@@ -11,65 +11,65 @@ use borrow.Author.Rules.{rules}
 use Rattle.choice.proofs.middles.listed_middles.Statement.{statement}
 use Rattle.choice.proofs.middles.listed_middles.Tie as tie
 
-abbrev invariant-loop : tie.invariant-loop
+abbrev invariant-loop : tie.invariant-loop-j
 invariant-loop table index rows row person i n first found₀ j₀ found j =
     (j ≤ n) × (found ≡ listed_middles table index rows row person i j)
 
-abbrev decreases-loop : tie.decreases-loop
+abbrev decreases-loop : tie.decreases-loop-j
 decreases-loop table index rows row person i n first found₀ j₀ found j = n - j
 
-credentials-requires : tie.Need-credentials-requires invariant-loop decreases-loop
+credentials-requires : tie.Need-credentials-n-requires invariant-loop decreases-loop
 credentials-requires c κs = search rules
 
-asked-cell-requires : tie.Need-asked-cell-requires invariant-loop decreases-loop
+asked-cell-requires : tie.Need-asked_cell-first-requires invariant-loop decreases-loop
 asked-cell-requires c κs = search rules
 
-loop-holds : tie.Need-loop-init invariant-loop decreases-loop
+loop-holds : tie.Need-loop-j-init invariant-loop decreases-loop
 unfolding listed_middles set_of
 loop-holds c = (omega arith, refl)
 
-link-cell-requires : tie.Need-link-cell-requires invariant-loop decreases-loop
+link-cell-requires : tie.Need-link_cell-second-requires invariant-loop decreases-loop
 link-cell-requires c κs = search rules
 
-is-middle-requires : tie.Need-is-middle-requires invariant-loop decreases-loop
+is-middle-requires : tie.Need-is_middle-requires invariant-loop decreases-loop
 is-middle-requires c κs =
     let loop = c.before.before in
     let start = loop.before.before.before.before.before.before in
     let pre = start.requires in
-    let there : loop.loop.j < credentials start.args.table.now =
-    omega (arith, c.before.loop-test.true, loop.before.before.credentials.ensures.same) in
-    let first = loop.before.asked-cell.ensures.1 in
-    (pre.0, (pre.1.0, (pre.1.1.0, ((pre.1.1.1.0, there), (first, c.link-cell.ensures.1)))))
+    let there : loop.loop-j.j < credentials start.args.table.now =
+    omega (arith, c.before.loop-j-test.true, loop.before.before.credentials-n.ensures.same) in
+    let first = loop.before.asked_cell-first.ensures.1 in
+    (pre.0, (pre.1.0, (pre.1.1.0, ((pre.1.1.1.0, there), (first, c.link_cell-second.ensures.1)))))
 
-with-requires : tie.Need-with-requires invariant-loop decreases-loop
+with-requires : tie.Need-with-found-requires invariant-loop decreases-loop
 with-requires c κs = search rules
 
-add-j : tie.Need-overflow-add-j invariant-loop decreases-loop
+add-j : tie.Need-overflow_add-j invariant-loop decreases-loop
 add-j c = search rules
 
-loop-less : tie.Need-loop-smaller invariant-loop decreases-loop
+loop-less : tie.Need-loop-j-smaller invariant-loop decreases-loop
 loop-less c = search rules
 
-loop-again : tie.Need-loop-preserved invariant-loop decreases-loop
+loop-again : tie.Need-loop-j-preserved invariant-loop decreases-loop
 loop-again c =
     let at = c.before in
-    let loop = at.before.before.before.loop in
-    let first = at.before.before.before.before.asked-cell.ensures.0 in
-    let second = at.before.link-cell.ensures.0 in
-    let told = at.is-middle.ensures in (
+    let loop = at.before.before.before.loop-j in
+    let first = at.before.before.before.before.asked_cell-first.ensures.0 in
+    let second = at.before.link_cell-second.ensures.0 in
+    let told = at.is_middle.ensures in (
       omega arith,
-      ⊎_elim (λ w. w.2 ∙ w.1.ensures ∙ listed_more _ _ _ _ _ _ _ _ _ _ loop.invariant.1 first second told w.0.taken)
-          (λ w. w.1 ∙ listed-not _ _ _ _ _ _ _ _ _ _ loop.invariant.1 first second told w.0.left) c.if1.branch,
+      ⊎_elim (λ w. w.found-is ∙ w.with-found.ensures ∙ listed_more _ _ _ _ _ _ _ _ _ _ loop.invariant.1 first second told w.if-is_middle.true)
+          (λ w. w.found-is ∙ listed-not _ _ _ _ _ _ _ _ _ _ loop.invariant.1 first second told w.if-is_middle.false) c.if-is_middle.branch-raw,
     )
 
 returns : tie.Need-returns invariant-loop decreases-loop
 returns c =
-    let loop = c.before.loop in
-    let all : loop.j ≡ c.before.before.before.credentials.result = omega arith in
-    loop.invariant.1 ∙ ap (listed_middles _ _ _ _ _ _) (all ∙ c.before.before.before.credentials.ensures.same)
+    let loop = c.before.loop-j in
+    let all : loop.j ≡ c.before.before.before.credentials-n.result = omega arith in
+    loop.invariant.1 ∙ ap (listed_middles _ _ _ _ _ _) (all ∙ c.before.before.before.credentials-n.ensures.same)
 
-pub listed-middles-spec : {M : Type 1} → statement M
-listed-middles-spec =
+pub listed_middles_spec : {M : Type 1} → statement M
+listed_middles_spec =
     tie.close
     (tie.spec
     invariant-loop

@@ -9,15 +9,15 @@ use Rattle.derivation.proofs.Asking.{answer-is, when-off, when-on}
 use Rattle.derivation.proofs.rules.containment.Statement.{statement}
 use Rattle.derivation.proofs.rules.containment.Tie as tie
 
-not-applying-requires : tie.Need-not-applying-requires
+not-applying-requires : tie.Need-not_applying-requires
 not-applying-requires c κs = search rules
 
-returns : tie.Need-returns
-returns c = answer-is c.not-applying.ensures (when-off _ (ne_eqb _ 0 c.before.if1.true))
+returns : tie.Need-returns-then-middle-ne0
+returns c = answer-is c.not_applying.ensures (when-off _ (ne_eqb _ 0 c.before.if-middle-ne0.true))
 
-returns-2 : tie.Need-returns-2
+returns-2 : tie.Need-returns
 unfolding given pick
-returns-2 c = (record { fits = omega arith; size = refl }, when-on _ (eq-eqb _ 0 c.before.if1.false))
+returns-2 c = (record { fits = omega arith; size = refl }, when-on _ (eq-eqb _ 0 c.before.if-middle-ne0.false))
 
-pub containment-spec : {M : Type 1} → statement M
-containment-spec = tie.close (tie.spec not-applying-requires returns returns-2)
+pub containment_spec : {M : Type 1} → statement M
+containment_spec = tie.close (tie.spec not-applying-requires returns returns-2)

@@ -11,60 +11,60 @@ use Rattle.derivation.proofs.Asking.{Asked, answer-is, asked-all, asked-more, as
 use Rattle.derivation.proofs.rules.intersection.Statement.{statement}
 use Rattle.derivation.proofs.rules.intersection.Tie as tie
 
-abbrev invariant-loop : tie.invariant-loop
+abbrev invariant-loop : tie.invariant-loop-i
 invariant-loop goal middle chain len goals₀ i₀ goals i = (i ≤ len) × Asked goal chain.roles goals i
 
-abbrev decreases-loop : tie.decreases-loop
+abbrev decreases-loop : tie.decreases-loop-i
 decreases-loop goal middle chain len goals₀ i₀ goals i = len - i
 
-not-applying-requires : tie.Need-not-applying-requires invariant-loop decreases-loop
+not-applying-requires : tie.Need-not_applying-requires invariant-loop decreases-loop
 not-applying-requires c κs = search rules
 
-returns : tie.Need-returns invariant-loop decreases-loop
-returns c = answer-is c.not-applying.ensures (when-off _ (ne_eqb _ 0 c.before.if1.true))
+returns : tie.Need-returns-then-middle-ne0 invariant-loop decreases-loop
+returns c = answer-is c.not_applying.ensures (when-off _ (ne_eqb _ 0 c.before.if-middle-ne0.true))
 
-loop-holds : tie.Need-loop-init invariant-loop decreases-loop
+loop-holds : tie.Need-loop-i-init invariant-loop decreases-loop
 loop-holds c = (omega arith, asked-none _ _ _ refl)
 
-mul-role : tie.Need-overflow-mul-role invariant-loop decreases-loop
+mul-role : tie.Need-offset_bounds-chain-i invariant-loop decreases-loop
 mul-role c = search rules
 
-element-copy-out-role : tie.Need-element-copy-out-role invariant-loop decreases-loop
+element-copy-out-role : tie.Need-bounds-chain-i invariant-loop decreases-loop
 element-copy-out-role c =
     let pre = c.before.before.before.before.requires in
     omega (arith, pre.0)
 
-mul-goals : tie.Need-overflow-mul-goals invariant-loop decreases-loop
+mul-goals : tie.Need-offset_bounds-goals-i invariant-loop decreases-loop
 mul-goals c = search rules
 
-array-set-from-goals : tie.Need-array-set-from-goals invariant-loop decreases-loop
+array-set-from-goals : tie.Need-bounds-goals-i invariant-loop decreases-loop
 array-set-from-goals c =
     let pre = c.before.before.before.before.before.requires in
     omega (arith, pre.0)
 
-add-i : tie.Need-overflow-add-i invariant-loop decreases-loop
+add-i : tie.Need-overflow_add-i invariant-loop decreases-loop
 add-i c = search rules
 
-loop-less : tie.Need-loop-smaller invariant-loop decreases-loop
+loop-less : tie.Need-loop-i-smaller invariant-loop decreases-loop
 loop-less c = search rules
 
-loop-again : tie.Need-loop-preserved invariant-loop decreases-loop
+loop-again : tie.Need-loop-i-preserved invariant-loop decreases-loop
 loop-again c =
-    let loop = c.before.before.before.loop in
+    let loop = c.before.before.before.loop-i in
     let pre = c.before.before.before.before.before.requires in
     (omega arith, asked-more _ _ _ _ _ loop.invariant.1 (omega (arith, pre.0)) (omega (arith, pre.0, pre.1)))
 
-returns-2 : tie.Need-returns-2 invariant-loop decreases-loop
+returns-2 : tie.Need-returns invariant-loop decreases-loop
 unfolding given pick
 returns-2 c =
-    let loop = c.before.loop in
+    let loop = c.before.loop-i in
     let start = c.before.before.before in
     let all = asked-all _ _ _ loop.i start.args.t1.len (omega arith) loop.invariant.1 in
-    let none = eq-eqb _ 0 c.before.before.if1.false in
+    let none = eq-eqb _ 0 c.before.before.if-middle-ne0.false in
     (record { fits = start.requires.0; size = loop.invariant.1.size }, ap some all ∙ when-on _ none)
 
-pub intersection-spec : {M : Type 1} → statement M
-intersection-spec =
+pub intersection_spec : {M : Type 1} → statement M
+intersection_spec =
     tie.close
     (tie.spec
     invariant-loop

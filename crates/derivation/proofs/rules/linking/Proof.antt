@@ -8,29 +8,29 @@ use Rattle.derivation.proofs.Asking.{answer-is, principal-none, principal-over, 
 use Rattle.derivation.proofs.rules.linking.Statement.{statement}
 use Rattle.derivation.proofs.rules.linking.Tie as tie
 
-not-applying-requires : tie.Need-not-applying-requires
+not-applying-requires : tie.Need-not_applying-requires
 not-applying-requires c κs = search rules
 
-returns : tie.Need-returns
-returns c = answer-is c.not-applying.ensures (when-off _ (principal-none _ c.before.if1.true))
+returns : tie.Need-returns-then-middle-eq0
+returns c = answer-is c.not_applying.ensures (when-off _ (principal-none _ c.before.if-middle-eq0.true))
 
-not-applying-requires-2 : tie.Need-not-applying-requires-2
+not-applying-requires-2 : tie.Need-not_applying-requires-then-middle-gt-MOST_PRINCIPALS
 not-applying-requires-2 c κs = search rules
 
-returns-2 : tie.Need-returns-2
-returns-2 c = answer-is c.not-applying2.ensures (when-off _ (principal-over _ c.before.if2.true))
+returns-2 : tie.Need-returns-then-middle-gt-MOST_PRINCIPALS
+returns-2 c = answer-is c.not_applying-then-middle-gt-MOST_PRINCIPALS.ensures (when-off _ (principal-over _ c.before.if-middle-gt-MOST_PRINCIPALS.true))
 
-array-set-from-goals : tie.Need-array-set-from-goals
+array-set-from-goals : tie.Need-bounds-goals-1
 array-set-from-goals c = search rules
 
-returns-3 : tie.Need-returns-3
+returns-3 : tie.Need-returns
 unfolding given pick
 returns-3 c =
-    let there = principal-there _ c.before.before.before.if1.false c.before.before.if2.false in
+    let there = principal-there _ c.before.before.before.if-middle-eq0.false c.before.before.if-middle-gt-MOST_PRINCIPALS.false in
     (record { fits = omega arith; size = refl }, when-on _ there)
 
-pub linking-spec : {M : Type 1} → statement M
-linking-spec =
+pub linking_spec : {M : Type 1} → statement M
+linking_spec =
     tie.close
     (tie.spec
     not-applying-requires

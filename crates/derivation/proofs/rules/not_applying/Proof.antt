@@ -10,5 +10,5 @@ returns : tie.Need-returns
 unfolding given pick
 returns c = (record { fits = omega arith; size = refl }, refl)
 
-pub not-applying-spec : {M : Type 1} → statement M
-not-applying-spec = tie.close (tie.spec returns)
+pub not_applying_spec : {M : Type 1} → statement M
+not_applying_spec = tie.close (tie.spec returns)

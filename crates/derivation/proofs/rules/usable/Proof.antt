@@ -15,11 +15,11 @@ wide-requires c κs = search rules
 credentials-requires : tie.Need-credentials-requires
 credentials-requires c κs = search rules
 
-returns : tie.Need-returns
-returns c = ap₂ leb c.before.wide.ensures.0 c.credentials.ensures.same ∙ usable-under _ _ c.before.before.if1.true
+returns : tie.Need-returns-then-c-ne0
+returns c = ap₂ leb c.before.wide.ensures.0 c.credentials.ensures.same ∙ usable-under _ _ c.before.before.if-c-ne0.true
 
-returns-2 : tie.Need-returns-2
-returns-2 c = ap not (eq-eqb _ 0 c.if1.false) ∙ zero-unusable _ _ c.if1.false
+returns-2 : tie.Need-returns-else-c-ne0
+returns-2 c = ap not (eq-eqb _ 0 c.if-c-ne0.false) ∙ zero-unusable _ _ c.if-c-ne0.false
 
-pub usable-spec : {M : Type 1} → statement M
-usable-spec = tie.close (tie.spec wide-requires credentials-requires returns returns-2)
+pub usable_spec : {M : Type 1} → statement M
+usable_spec = tie.close (tie.spec wide-requires credentials-requires returns returns-2)

@@ -9,46 +9,46 @@ use borrow.Author.Rules.{rules}
 use Rattle.families.proofs.Family.completes.Statement.{statement}
 use Rattle.families.proofs.Family.completes.Tie as tie
 
-abbrev invariant-loop : tie.invariant-loop
+abbrev invariant-loop : tie.invariant-loop-more
 invariant-loop self later set more₀ more = Sought (λ Z. in_family self (bit_or set Z)) later more
 
-abbrev decreases-loop : tie.decreases-loop
+abbrev decreases-loop : tie.decreases-loop-more
 decreases-loop self later set more₀ more = all_sets - more
 
-next-requires : tie.Need-next-requires invariant-loop decreases-loop
+next-requires : tie.Need-next-more-requires invariant-loop decreases-loop
 next-requires c κs = search rules
 
-loop-holds : tie.Need-loop-init invariant-loop decreases-loop
-loop-holds c = sought-none _ _ _ c.next.ensures
+loop-holds : tie.Need-loop-more-init invariant-loop decreases-loop
+loop-holds c = sought-none _ _ _ c.next-more.ensures
 
 has-requires : tie.Need-has-requires invariant-loop decreases-loop
-has-requires c κs = or_lt 8 _ _ c.before.before.before.requires c.loop-test.true
+has-requires c κs = or_lt 8 _ _ c.before.before.before.requires c.loop-more-test.true
 
-returns : tie.Need-returns invariant-loop decreases-loop
+returns : tie.Need-returns-then-has invariant-loop decreases-loop
 unfolding completes
 returns c =
-    sym (sought-here _ _ _ c.before.before.before.loop.invariant (omega arith) (sym c.before.has.ensures ∙ c.if1.true))
+    sym (sought-here _ _ _ c.before.before.before.loop-more.invariant (omega arith) (sym c.before.has.ensures ∙ c.if-has.true))
 
-add-next : tie.Need-overflow-add-next invariant-loop decreases-loop
+add-next : tie.Need-overflow_add-more invariant-loop decreases-loop
 add-next c = search rules
 
-next-requires-2 : tie.Need-next-requires-2 invariant-loop decreases-loop
+next-requires-2 : tie.Need-next-more-requires-in-loop-more invariant-loop decreases-loop
 next-requires-2 c κs = search rules
 
-loop-less : tie.Need-loop-smaller invariant-loop decreases-loop
-loop-less c = omega (arith, c.next2.ensures.later)
+loop-less : tie.Need-loop-more-smaller invariant-loop decreases-loop
+loop-less c = omega (arith, c.next-more-in-loop-more.ensures.later)
 
-loop-again : tie.Need-loop-preserved invariant-loop decreases-loop
+loop-again : tie.Need-loop-more-preserved invariant-loop decreases-loop
 loop-again c =
-    sought-next _ _ _ _ c.before.before.before.before.loop.invariant c.next2.ensures
-    (sym c.before.before.has.ensures ∙ c.before.if1.false)
+    sought-next _ _ _ _ c.before.before.before.before.loop-more.invariant c.next-more-in-loop-more.ensures
+    (sym c.before.before.has.ensures ∙ c.before.if-has.false)
 
-returns-2 : tie.Need-returns-2 invariant-loop decreases-loop
+returns-2 : tie.Need-returns invariant-loop decreases-loop
 unfolding completes
-returns-2 c = sym (sought-all _ _ _ c.before.loop.invariant (omega arith))
+returns-2 c = sym (sought-all _ _ _ c.before.loop-more.invariant (omega arith))
 
-pub completes-spec : {M : Type 1} → statement M
-completes-spec =
+pub completes_spec : {M : Type 1} → statement M
+completes_spec =
     tie.close
     (tie.spec
     invariant-loop

@@ -4,16 +4,16 @@ use borrow.Author.Rules.{rules}
 use Rattle.families.proofs.Family.has.Statement.{statement}
 use Rattle.families.proofs.Family.has.Tie as tie
 
-cast-has : tie.Need-overflow-cast-has
+cast-has : tie.Need-overflow_cast-set
 cast-has c = search rules
 
-mul-has : tie.Need-overflow-mul-has
+mul-has : tie.Need-offset_bounds-self-set
 mul-has c = search rules
 
-element-copy-out-has : tie.Need-element-copy-out-has
+element-copy-out-has : tie.Need-bounds-self-set
 element-copy-out-has c = search rules
 
-cast-has-2 : tie.Need-overflow-cast-has-2
+cast-has-2 : tie.Need-overflow_cast-set-2
 cast-has-2 c = search rules
 
 has-requires : tie.Need-has-requires
@@ -23,6 +23,6 @@ returns : tie.Need-returns
 unfolding in_family
 returns c = c.has.ensures
 
-pub has-spec : {M : Type 1} → statement M
-has-spec =
+pub has_spec : {M : Type 1} → statement M
+has_spec =
     tie.close (tie.spec cast-has mul-has element-copy-out-has cast-has-2 has-requires returns)

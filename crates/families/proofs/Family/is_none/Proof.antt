@@ -12,5 +12,5 @@ meets-requires c κs = search rules
 returns : tie.Need-returns
 returns c = ap not (c.meets.ensures ∙ itself _)
 
-pub is-none-spec : {M : Type 1} → statement M
-is-none-spec = tie.close (tie.spec meets-requires returns)
+pub is_none_spec : {M : Type 1} → statement M
+is_none_spec = tie.close (tie.spec meets-requires returns)

@@ -10,44 +10,44 @@ use borrow.Author.Rules.{rules}
 use Rattle.families.proofs.Family.is_part.Statement.{statement}
 use Rattle.families.proofs.Family.is_part.Tie as tie
 
-abbrev invariant-loop : tie.invariant-loop
+abbrev invariant-loop : tie.invariant-loop-j
 invariant-loop self other j₀ j = (j ≤ family_words) × (any_below (beyond self other) (32 * j) ≡ false)
 
-abbrev decreases-loop : tie.decreases-loop
+abbrev decreases-loop : tie.decreases-loop-j
 decreases-loop self other j₀ j = family_words - j
 
-loop-holds : tie.Need-loop-init invariant-loop decreases-loop
+loop-holds : tie.Need-loop-j-init invariant-loop decreases-loop
 loop-holds c = (omega arith, none_below _)
 
-mul-word : tie.Need-overflow-mul-word invariant-loop decreases-loop
+mul-word : tie.Need-offset_bounds-self-j invariant-loop decreases-loop
 mul-word c = search rules
 
-element-copy-out-word : tie.Need-element-copy-out-word invariant-loop decreases-loop
+element-copy-out-word : tie.Need-bounds-self-j invariant-loop decreases-loop
 element-copy-out-word c = search rules
 
-mul-if1 : tie.Need-overflow-mul-if1 invariant-loop decreases-loop
+mul-if1 : tie.Need-offset_bounds-other-j invariant-loop decreases-loop
 mul-if1 c = search rules
 
-element-copy-out-if1 : tie.Need-element-copy-out-if1 invariant-loop decreases-loop
+element-copy-out-if1 : tie.Need-bounds-other-j invariant-loop decreases-loop
 element-copy-out-if1 c = search rules
 
-returns : tie.Need-returns invariant-loop decreases-loop
-returns c = within-not _ _ _ (omega arith) (search rules) c.if1.true
+returns : tie.Need-returns-then-word-other invariant-loop decreases-loop
+returns c = within-not _ _ _ (omega arith) (search rules) c.if-word-other.true
 
-add-j : tie.Need-overflow-add-j invariant-loop decreases-loop
+add-j : tie.Need-overflow_add-j invariant-loop decreases-loop
 add-j c = search rules
 
-loop-less : tie.Need-loop-smaller invariant-loop decreases-loop
+loop-less : tie.Need-loop-j-smaller invariant-loop decreases-loop
 loop-less c = search rules
 
-loop-again : tie.Need-loop-preserved invariant-loop decreases-loop
-loop-again c = (omega arith, within-next _ _ _ c.before.before.before.before.loop.invariant.1 c.if1.false)
+loop-again : tie.Need-loop-j-preserved invariant-loop decreases-loop
+loop-again c = (omega arith, within-next _ _ _ c.before.before.before.before.loop-j.invariant.1 c.if-word-other.false)
 
-returns-2 : tie.Need-returns-2 invariant-loop decreases-loop
-returns-2 c = within_all _ _ _ c.before.loop.invariant.1 (omega arith)
+returns-2 : tie.Need-returns invariant-loop decreases-loop
+returns-2 c = within_all _ _ _ c.before.loop-j.invariant.1 (omega arith)
 
-pub is-part-spec : {M : Type 1} → statement M
-is-part-spec =
+pub is_part_spec : {M : Type 1} → statement M
+is_part_spec =
     tie.close
     (tie.spec
     invariant-loop

@@ -8,47 +8,47 @@ use borrow.Author.Rules.{rules}
 use Rattle.families.proofs.Family.joined.Statement.{statement}
 use Rattle.families.proofs.Family.joined.Tie as tie
 
-abbrev invariant-loop : tie.invariant-loop
+abbrev invariant-loop : tie.invariant-loop-set
 invariant-loop self other all₀ set₀ all set = Gathered (raises other) self set all
 
-abbrev decreases-loop : tie.decreases-loop
+abbrev decreases-loop : tie.decreases-loop-set
 decreases-loop self other all₀ set₀ all set = all_sets - set
 
-none-requires : tie.Need-none-requires invariant-loop decreases-loop
+none-requires : tie.Need-none-all-requires invariant-loop decreases-loop
 none-requires c κs = search rules
 
-next-requires : tie.Need-next-requires invariant-loop decreases-loop
+next-requires : tie.Need-next-set-requires invariant-loop decreases-loop
 next-requires c κs = search rules
 
-loop-holds : tie.Need-loop-init invariant-loop decreases-loop
-loop-holds c = gathered_none _ _ _ _ c.next.ensures c.before.none.ensures
+loop-holds : tie.Need-loop-set-init invariant-loop decreases-loop
+loop-holds c = gathered_none _ _ _ _ c.next-set.ensures c.before.none-all.ensures
 
 raised-requires : tie.Need-raised-requires invariant-loop decreases-loop
 raised-requires c κs = search rules
 
-or-requires : tie.Need-or-requires invariant-loop decreases-loop
+or-requires : tie.Need-or-all-requires invariant-loop decreases-loop
 or-requires c κs = search rules
 
-add-next : tie.Need-overflow-add-next invariant-loop decreases-loop
+add-next : tie.Need-overflow_add-set invariant-loop decreases-loop
 add-next c = search rules
 
-next-requires-2 : tie.Need-next-requires-2 invariant-loop decreases-loop
+next-requires-2 : tie.Need-next-set-requires-in-loop-set invariant-loop decreases-loop
 next-requires-2 c κs = search rules
 
-loop-less : tie.Need-loop-smaller invariant-loop decreases-loop
-loop-less c = omega (arith, c.next2.ensures.later)
+loop-less : tie.Need-loop-set-smaller invariant-loop decreases-loop
+loop-less c = omega (arith, c.next-set-in-loop-set.ensures.later)
 
-loop-again : tie.Need-loop-preserved invariant-loop decreases-loop
+loop-again : tie.Need-loop-set-preserved invariant-loop decreases-loop
 loop-again c =
-    gathered_next _ _ _ _ _ _ c.before.before.before.before.loop.invariant (omega arith) c.next2.ensures
-    (or-made _ _ _ _ c.before.before.raised.ensures c.before.or.ensures)
+    gathered_next _ _ _ _ _ _ c.before.before.before.before.loop-set.invariant (omega arith) c.next-set-in-loop-set.ensures
+    (or-made _ _ _ _ c.before.before.raised.ensures c.before.or-all.ensures)
 
 returns : tie.Need-returns invariant-loop decreases-loop
 unfolding joins
-returns c = gathered-all _ _ _ _ c.before.loop.invariant (omega arith)
+returns c = gathered-all _ _ _ _ c.before.loop-set.invariant (omega arith)
 
-pub joined-spec : {M : Type 1} → statement M
-joined-spec =
+pub joined_spec : {M : Type 1} → statement M
+joined_spec =
     tie.close
     (tie.spec
     invariant-loop

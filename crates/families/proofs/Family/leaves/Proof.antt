@@ -11,13 +11,13 @@ use Rattle.families.proofs.Family.leaves.Tie as tie
 completes-requires : tie.Need-completes-requires
 completes-requires c κs = search rules
 
-returns : tie.Need-returns
+returns : tie.Need-returns-then-set-most
 unfolding leaves part
-returns c = c.completes.ensures ∙ and-on (eq-eqb _ _ c.before.if1.true)
+returns c = c.completes.ensures ∙ and-on (eq-eqb _ _ c.before.if-set-most.true)
 
-returns-2 : tie.Need-returns-2
+returns-2 : tie.Need-returns-else-set-most
 unfolding leaves part
-returns-2 c = and-off _ (ne_eqb _ _ c.if1.false)
+returns-2 c = and-off _ (ne_eqb _ _ c.if-set-most.false)
 
-pub leaves-spec : {M : Type 1} → statement M
-leaves-spec = tie.close (tie.spec completes-requires returns returns-2)
+pub leaves_spec : {M : Type 1} → statement M
+leaves_spec = tie.close (tie.spec completes-requires returns returns-2)

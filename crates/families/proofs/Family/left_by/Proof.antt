@@ -9,44 +9,44 @@ use borrow.Author.Rules.{rules}
 use Rattle.families.proofs.Family.left_by.Statement.{statement}
 use Rattle.families.proofs.Family.left_by.Tie as tie
 
-abbrev invariant-loop : tie.invariant-loop
+abbrev invariant-loop : tie.invariant-loop-set
 invariant-loop self later most left₀ set₀ left set = (set ≤ most + 1) × Taken (leaves self later most) set left
 
-abbrev decreases-loop : tie.decreases-loop
+abbrev decreases-loop : tie.decreases-loop-set
 decreases-loop self later most left₀ set₀ left set = most + 1 - set
 
-none-requires : tie.Need-none-requires invariant-loop decreases-loop
+none-requires : tie.Need-none-left-requires invariant-loop decreases-loop
 none-requires c κs = search rules
 
-loop-holds : tie.Need-loop-init invariant-loop decreases-loop
-loop-holds c = (omega arith, taken_none _ _ c.none.ensures)
+loop-holds : tie.Need-loop-set-init invariant-loop decreases-loop
+loop-holds c = (omega arith, taken_none _ _ c.none-left.ensures)
 
 leaves-requires : tie.Need-leaves-requires invariant-loop decreases-loop
 leaves-requires c κs = search rules
 
-with-requires : tie.Need-with-requires invariant-loop decreases-loop
+with-requires : tie.Need-with-left-requires invariant-loop decreases-loop
 with-requires c κs = search rules
 
-add-set : tie.Need-overflow-add-set invariant-loop decreases-loop
+add-set : tie.Need-overflow_add-set invariant-loop decreases-loop
 add-set c = search rules
 
-loop-less : tie.Need-loop-smaller invariant-loop decreases-loop
+loop-less : tie.Need-loop-set-smaller invariant-loop decreases-loop
 loop-less c = search rules
 
-loop-again : tie.Need-loop-preserved invariant-loop decreases-loop
+loop-again : tie.Need-loop-set-preserved invariant-loop decreases-loop
 loop-again c =
     let told = sym c.before.leaves.ensures in
-    let so_far = c.before.before.before.loop.invariant.1 in (
+    let so_far = c.before.before.before.loop-set.invariant.1 in (
       omega arith,
-      ⊎_elim (λ w. rw w.2 (taken-one _ _ _ so_far _ (told ∙ w.0.taken) w.1.ensures))
-          (λ w. rw w.1 (taken_not _ _ _ so_far (told ∙ w.0.left))) c.if1.branch,
+      ⊎_elim (λ w. rw w.left-is (taken-one _ _ _ so_far _ (told ∙ w.if-leaves.true) w.with-left.ensures))
+          (λ w. rw w.left-is (taken_not _ _ _ so_far (told ∙ w.if-leaves.false))) c.if-leaves.branch-raw,
     )
 
 returns : tie.Need-returns invariant-loop decreases-loop
-returns c = left-all _ _ _ _ _ c.before.loop.invariant.1 (omega arith)
+returns c = left-all _ _ _ _ _ c.before.loop-set.invariant.1 (omega arith)
 
-pub left-by-spec : {M : Type 1} → statement M
-left-by-spec =
+pub left_by_spec : {M : Type 1} → statement M
+left_by_spec =
     tie.close
     (tie.spec
     invariant-loop

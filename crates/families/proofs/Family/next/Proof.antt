@@ -8,59 +8,59 @@ use borrow.Author.Rules.{rules}
 use Rattle.families.proofs.Family.next.Statement.{statement}
 use Rattle.families.proofs.Family.next.Tie as tie
 
-abbrev invariant-loop : tie.invariant-loop
+abbrev invariant-loop : tie.invariant-loop-set
 invariant-loop from self set₀ set = PassedOver self from set
 
-abbrev decreases-loop : tie.decreases-loop
+abbrev decreases-loop : tie.decreases-loop-set
 decreases-loop from self set₀ set = all_sets - set
 
-loop-holds : tie.Need-loop-init invariant-loop decreases-loop
+loop-holds : tie.Need-loop-set-init invariant-loop decreases-loop
 loop-holds c = passed_none _ _ c.requires
 
-cast-rest : tie.Need-overflow-cast-rest invariant-loop decreases-loop
+cast-rest : tie.Need-overflow_cast-rest invariant-loop decreases-loop
 cast-rest c = search rules
 
-mul-rest : tie.Need-overflow-mul-rest invariant-loop decreases-loop
+mul-rest : tie.Need-offset_bounds-self-set invariant-loop decreases-loop
 mul-rest c = search rules
 
-element-copy-out-rest : tie.Need-element-copy-out-rest invariant-loop decreases-loop
+element-copy-out-rest : tie.Need-bounds-self-set invariant-loop decreases-loop
 element-copy-out-rest c = search rules
 
-cast-rest-2 : tie.Need-overflow-cast-rest-2 invariant-loop decreases-loop
+cast-rest-2 : tie.Need-overflow_cast-rest-in-loop-set invariant-loop decreases-loop
 cast-rest-2 c = search rules
 
-shr-rest : tie.Need-overflow-shr-rest invariant-loop decreases-loop
+shr-rest : tie.Need-overflow_shr-rest invariant-loop decreases-loop
 shr-rest c = search rules
 
-returns : tie.Need-returns invariant-loop decreases-loop
-returns c = next_here _ _ _ _ c.before.before.before.loop.invariant (omega arith) refl c.if1.true
+returns : tie.Need-returns-then-rest-eq1 invariant-loop decreases-loop
+returns c = next_here _ _ _ _ c.before.before.before.loop-set.invariant (omega arith) refl c.if-rest-eq1.true
 
-add-set : tie.Need-overflow-add-set invariant-loop decreases-loop
+add-set : tie.Need-overflow_add-set invariant-loop decreases-loop
 add-set c = search rules
 
-mul-set : tie.Need-overflow-mul-set invariant-loop decreases-loop
+mul-set : tie.Need-overflow_mul-set invariant-loop decreases-loop
 mul-set c = search rules
 
-add-set-2 : tie.Need-overflow-add-set-2 invariant-loop decreases-loop
+add-set-2 : tie.Need-overflow_add-set-else-rest-eq0 invariant-loop decreases-loop
 add-set-2 c = search rules
 
-loop-less : tie.Need-loop-smaller invariant-loop decreases-loop
+loop-less : tie.Need-loop-set-smaller-then-rest-eq0 invariant-loop decreases-loop
 loop-less c = search rules
 
-loop-again : tie.Need-loop-preserved invariant-loop decreases-loop
-loop-again c = passed-word _ _ _ _ c.before.before.before.before.loop.invariant (omega arith) refl c.if2.true
+loop-again : tie.Need-loop-set-preserved-then-rest-eq0 invariant-loop decreases-loop
+loop-again c = passed-word _ _ _ _ c.before.before.before.before.loop-set.invariant (omega arith) refl c.if-rest-eq0.true
 
-loop-less-2 : tie.Need-loop-smaller-2 invariant-loop decreases-loop
+loop-less-2 : tie.Need-loop-set-smaller invariant-loop decreases-loop
 loop-less-2 c = search rules
 
-loop-again-2 : tie.Need-loop-preserved-2 invariant-loop decreases-loop
-loop-again-2 c = passed-one _ _ _ _ c.before.before.before.before.loop.invariant (omega arith) refl c.before.if1.false
+loop-again-2 : tie.Need-loop-set-preserved invariant-loop decreases-loop
+loop-again-2 c = passed-one _ _ _ _ c.before.before.before.before.loop-set.invariant (omega arith) refl c.before.if-rest-eq1.false
 
-returns-2 : tie.Need-returns-2 invariant-loop decreases-loop
-returns-2 c = next-none _ _ _ c.before.loop.invariant (omega arith)
+returns-2 : tie.Need-returns invariant-loop decreases-loop
+returns-2 c = next-none _ _ _ c.before.loop-set.invariant (omega arith)
 
-pub next-spec : {M : Type 1} → statement M
-next-spec =
+pub next_spec : {M : Type 1} → statement M
+next_spec =
     tie.close
     (tie.spec
     invariant-loop

@@ -13,5 +13,5 @@ with-requires c κs = search rules
 returns : tie.Need-returns
 returns c = only_one _ _ _ c.before.none.ensures c.with.ensures
 
-pub only-spec : {M : Type 1} → statement M
-only-spec = tie.close (tie.spec none-requires with-requires returns)
+pub only_spec : {M : Type 1} → statement M
+only_spec = tie.close (tie.spec none-requires with-requires returns)

@@ -5,32 +5,32 @@ use borrow.Author.Rules.{rules}
 use Rattle.families.proofs.Family.with.Statement.{statement}
 use Rattle.families.proofs.Family.with.Tie as tie
 
-cast-at : tie.Need-overflow-cast-at
+cast-at : tie.Need-overflow_cast-at
 cast-at c = search rules
 
-mul-with : tie.Need-overflow-mul-with
+mul-with : tie.Need-offset_bounds-words-at
 mul-with c = search rules
 
-array-read-with : tie.Need-array-read-with
+array-read-with : tie.Need-bounds-words-at
 array-read-with c = search rules
 
-cast-with : tie.Need-overflow-cast-with
+cast-with : tie.Need-overflow_cast-set
 cast-with c = search rules
 
 with-requires : tie.Need-with-requires
 with-requires c κs = search rules
 
-mul_words : tie.Need-overflow-mul-words
+mul_words : tie.Need-offset_bounds-words-at-2
 mul_words c = search rules
 
-array-write-words : tie.Need-array-write-words
+array-write-words : tie.Need-bounds-words-at-2
 array-write-words c = search rules
 
 returns : tie.Need-returns
 returns c = one_more _ _ c.before.before.requires (search rules) _ c.with.ensures
 
-pub with-spec : {M : Type 1} → statement M
-with-spec =
+pub with_spec : {M : Type 1} → statement M
+with_spec =
     tie.close
     (tie.spec
     cast-at

@@ -11,13 +11,13 @@ use Rattle.families.proofs.spreading.lifted.Tie as tie
 having-requires : tie.Need-having-requires
 having-requires c κs = search rules
 
-cast-result : tie.Need-overflow-cast-result
+cast-result : tie.Need-overflow_cast-result
 cast-result c = search rules
 
-shl-result : tie.Need-overflow-shl-result
+shl-result : tie.Need-overflow_shl-result
 shl-result c = search rules
 
-shl-result-2 : tie.Need-overflow-shl-result-2
+shl-result-2 : tie.Need-overflow_shl-result-2
 shl-result-2 c =
     let i = c.before.args.i in
     rw (one_bit 32 i (omega arith)) (pow-lt {i = i} {j = word_bits} c.before.requires)
@@ -25,5 +25,5 @@ shl-result-2 c =
 returns : tie.Need-returns
 returns c = rw (one_bit 32 c.before.args.i (omega arith)) (lifted-spread _ _ _ c.having.ensures)
 
-pub lifted-spec : {M : Type 1} → statement M
-lifted-spec = tie.close (tie.spec having-requires cast-result shl-result shl-result-2 returns)
+pub lifted_spec : {M : Type 1} → statement M
+lifted_spec = tie.close (tie.spec having-requires cast-result shl-result shl-result-2 returns)

@@ -9,41 +9,41 @@ use borrow.Author.Rules.{rules}
 use Rattle.families.proofs.spreading.spread.Statement.{statement}
 use Rattle.families.proofs.spreading.spread.Tie as tie
 
-abbrev invariant-loop : tie.invariant-loop
+abbrev invariant-loop : tie.invariant-loop-i
 invariant-loop word low all₀ i₀ all i = (i ≤ word_bits) × Spread word (lowest low i) all
 
-abbrev decreases-loop : tie.decreases-loop
+abbrev decreases-loop : tie.decreases-loop-i
 decreases-loop word low all₀ i₀ all i = word_bits - i
 
-loop-holds : tie.Need-loop-init invariant-loop decreases-loop
+loop-holds : tie.Need-loop-i-init invariant-loop decreases-loop
 loop-holds c = (omega arith, spread_none _ _)
 
-has-16-requires : tie.Need-has-16-requires invariant-loop decreases-loop
+has-16-requires : tie.Need-has_16-requires invariant-loop decreases-loop
 has-16-requires c κs = search rules
 
-lifted-requires : tie.Need-lifted-requires invariant-loop decreases-loop
+lifted-requires : tie.Need-lifted-all-requires invariant-loop decreases-loop
 lifted-requires c κs = search rules
 
-add-i : tie.Need-overflow-add-i invariant-loop decreases-loop
+add-i : tie.Need-overflow_add-i invariant-loop decreases-loop
 add-i c = search rules
 
-loop-less : tie.Need-loop-smaller invariant-loop decreases-loop
+loop-less : tie.Need-loop-i-smaller invariant-loop decreases-loop
 loop-less c = search rules
 
-loop-again : tie.Need-loop-preserved invariant-loop decreases-loop
+loop-again : tie.Need-loop-i-preserved invariant-loop decreases-loop
 loop-again c =
-    let so_far = c.before.before.before.loop.invariant.1 in
-    let told = sym c.before.has-16.ensures in (
+    let so_far = c.before.before.before.loop-i.invariant.1 in
+    let told = sym c.before.has_16.ensures in (
       omega arith,
-      ⊎_elim (λ w. rw w.2 (spread-more _ _ _ _ so_far _ (told ∙ w.0.taken) w.1.ensures))
-          (λ w. rw w.1 (spread-not _ _ _ _ so_far (told ∙ w.0.left))) c.if1.branch,
+      ⊎_elim (λ w. rw w.all-is (spread-more _ _ _ _ so_far _ (told ∙ w.if-has_16.true) w.lifted-all.ensures))
+          (λ w. rw w.all-is (spread-not _ _ _ _ so_far (told ∙ w.if-has_16.false))) c.if-has_16.branch-raw,
     )
 
 returns : tie.Need-returns invariant-loop decreases-loop
-returns c = spread-all _ _ _ _ c.before.before.requires (omega arith) c.before.loop.invariant.1
+returns c = spread-all _ _ _ _ c.before.before.requires (omega arith) c.before.loop-i.invariant.1
 
-pub spread-spec : {M : Type 1} → statement M
-spread-spec =
+pub spread_spec : {M : Type 1} → statement M
+spread_spec =
     tie.close
     (tie.spec
     invariant-loop

@@ -6,14 +6,14 @@ use borrow.Author.Rules.{rules}
 use Rattle.members.proofs.cells.goal_person.Statement.{statement}
 use Rattle.members.proofs.cells.goal_person.Tie as tie
 
-shared-slice-read-result : tie.Need-shared-slice-read-result
+shared-slice-read-result : tie.Need-bounds-index-501
 shared-slice-read-result c = search rules
 
-cast-result : tie.Need-overflow-cast-result
+cast-result : tie.Need-overflow_cast-result
 cast-result c = omega (arith, c.before.requires.small goal_person)
 
 returns : tie.Need-returns
 returns c = (refl, c.before.requires.small goal_person)
 
-pub goal-person-spec : {M : Type 1} → statement M
-goal-person-spec = tie.close (tie.spec shared-slice-read-result cast-result returns)
+pub goal_person_spec : {M : Type 1} → statement M
+goal_person_spec = tie.close (tie.spec shared-slice-read-result cast-result returns)

@@ -5,24 +5,24 @@ use borrow.Author.Rules.{rules}
 use Rattle.members.proofs.cells.is_person.Statement.{statement}
 use Rattle.members.proofs.cells.is_person.Tie as tie
 
-add-credential : tie.Need-overflow-add-credential
+add-credential : tie.Need-overflow_add-j
 add-credential c = search rules
 
-credential-requires : tie.Need-credential-requires
+credential-requires : tie.Need-credential-credential-requires
 credential-requires c κs = search rules
 
-returns : tie.Need-returns
-returns c = no-person _ _ _ c.before.before.credential.ensures c.if1.true
+returns : tie.Need-returns-then-credential-ne-SIMPLE_MEMBERSHIP
+returns c = no-person _ _ _ c.before.before.credential-credential.ensures c.if-credential-ne-SIMPLE_MEMBERSHIP.true
 
-asked-cell-requires : tie.Need-asked-cell-requires
+asked-cell-requires : tie.Need-asked_cell-requires
 asked-cell-requires c κs = search rules
 
-returns-2 : tie.Need-returns-2
+returns-2 : tie.Need-returns
 returns-2 c =
-    let credential = c.before.before.before.credential in
+    let credential = c.before.before.before.credential-credential in
     let pre = c.before.before.before.before.before.before.requires in
-    person-here _ _ _ credential.ensures _ pre.1.0 pre.1.1 c.before.if1.false _ c.asked-cell.ensures.0
+    person-here _ _ _ credential.ensures _ pre.1.0 pre.1.1 c.before.if-credential-ne-SIMPLE_MEMBERSHIP.false _ c.asked_cell.ensures.0
 
-pub is-person-spec : {M : Type 1} → statement M
-is-person-spec =
+pub is_person_spec : {M : Type 1} → statement M
+is_person_spec =
     tie.close (tie.spec add-credential credential-requires returns asked-cell-requires returns-2)

@@ -6,25 +6,25 @@ use borrow.Author.Rules.{rules}
 use Rattle.members.proofs.cells.link_cell.Statement.{statement}
 use Rattle.members.proofs.cells.link_cell.Tie as tie
 
-mul-result : tie.Need-overflow-mul-result
+mul-result : tie.Need-overflow_mul-result
 mul-result c = search rules
 
-add-result : tie.Need-overflow-add-result
+add-result : tie.Need-overflow_add-result
 add-result c = search rules
 
-add-result-2 : tie.Need-overflow-add-result-2
+add-result-2 : tie.Need-overflow_add-result-2
 add-result-2 c = search rules
 
-shared-slice-read-result : tie.Need-shared-slice-read-result
+shared-slice-read-result : tie.Need-bounds-index-i
 shared-slice-read-result c = search rules
 
-cast-result : tie.Need-overflow-cast-result
+cast-result : tie.Need-overflow_cast-result
 cast-result c = omega (arith, c.before.requires.0.small (link_cell c.before.args.i c.before.args.j))
 
 returns : tie.Need-returns
 returns c = (refl, c.before.requires.0.small (link_cell c.before.args.i c.before.args.j))
 
-pub link-cell-spec : {M : Type 1} → statement M
-link-cell-spec =
+pub link_cell_spec : {M : Type 1} → statement M
+link_cell_spec =
     tie.close
     (tie.spec mul-result add-result add-result-2 shared-slice-read-result cast-result returns)

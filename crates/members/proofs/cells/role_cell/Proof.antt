@@ -6,17 +6,17 @@ use borrow.Author.Rules.{rules}
 use Rattle.members.proofs.cells.role_cell.Statement.{statement}
 use Rattle.members.proofs.cells.role_cell.Tie as tie
 
-mul-result : tie.Need-overflow-mul-result
+mul-result : tie.Need-overflow_mul-result
 mul-result c = search rules
 
-shared-slice-read-result : tie.Need-shared-slice-read-result
+shared-slice-read-result : tie.Need-bounds-index-i
 shared-slice-read-result c = search rules
 
-cast-result : tie.Need-overflow-cast-result
+cast-result : tie.Need-overflow_cast-result
 cast-result c = omega (arith, c.before.requires.0.small (role_cell c.before.args.i))
 
 returns : tie.Need-returns
 returns c = (refl, c.before.requires.0.small (role_cell c.before.args.i))
 
-pub role-cell-spec : {M : Type 1} → statement M
-role-cell-spec = tie.close (tie.spec mul-result shared-slice-read-result cast-result returns)
+pub role_cell_spec : {M : Type 1} → statement M
+role_cell_spec = tie.close (tie.spec mul-result shared-slice-read-result cast-result returns)

@@ -5,12 +5,12 @@ use Rattle.scans.specs.Rows.{good, records}
 use Rattle.scans.proofs.Row.is_good.Statement.{statement}
 use Rattle.scans.proofs.Row.is_good.Tie as tie
 
-enum_told : tie.Need-enum-told
+enum_told : tie.Need-enum_told-1
 enum_told c = search rules
 
 credential-requires : tie.Need-credential-requires
 unfolding records
-credential-requires c κs = let pre = c.before.before.before.requires in (pre.0, rw c.enum_told.given.1 at pre.1)
+credential-requires c κs = let pre = c.before.before.before.requires in (pre.0, rw c.in-Credentials.is at pre.1)
 
 cells-requires : tie.Need-cells-requires
 cells-requires c κs = search rules
@@ -18,70 +18,70 @@ cells-requires c κs = search rules
 automata-requires : tie.Need-automata-requires
 automata-requires c κs = search rules
 
-credential-ok-requires : tie.Need-credential-ok-requires
+credential-ok-requires : tie.Need-credential_ok-requires
 credential-ok-requires c κs = search rules
 
-enum-told-2 : tie.Need-enum-told-2
+enum-told-2 : tie.Need-enum_told-in-Cells
 enum-told-2 c = search rules
 
 cell-requires : tie.Need-cell-requires
 unfolding records
-cell-requires c κs = let pre = c.before.before.before.requires in (pre.0, rw c.enum-told2.given.1 at pre.1)
+cell-requires c κs = let pre = c.before.before.before.requires in (pre.0, rw c.in-Cells.is at pre.1)
 
-cells-requires-2 : tie.Need-cells-requires-2
+cells-requires-2 : tie.Need-cells-requires-in-Cells
 cells-requires-2 c κs = search rules
 
-cell-ok-requires : tie.Need-cell-ok-requires
+cell-ok-requires : tie.Need-cell_ok-requires
 cell-ok-requires c κs = search rules
 
-enum-told-3 : tie.Need-enum-told-3
+enum-told-3 : tie.Need-enum_told-in-Edges
 enum-told-3 c = search rules
 
 edge-requires : tie.Need-edge-requires
 unfolding records
-edge-requires c κs = let pre = c.before.before.before.requires in (pre.0, rw c.enum-told3.given.1 at pre.1)
+edge-requires c κs = let pre = c.before.before.before.requires in (pre.0, rw c.in-Edges.is at pre.1)
 
-automata-requires-2 : tie.Need-automata-requires-2
+automata-requires-2 : tie.Need-automata-requires-in-Edges
 automata-requires-2 c κs = search rules
 
-edge-ok-requires : tie.Need-edge-ok-requires
+edge-ok-requires : tie.Need-edge_ok-requires
 edge-ok-requires c κs = search rules
 
-enum-told-4 : tie.Need-enum-told-4
+enum-told-4 : tie.Need-enum_told-in-Marks
 enum-told-4 c = search rules
 
 automaton-requires : tie.Need-automaton-requires
 unfolding records
-automaton-requires c κs = let pre = c.before.before.before.requires in (pre.0, rw c.enum-told4.given.1 at pre.1)
+automaton-requires c κs = let pre = c.before.before.before.requires in (pre.0, rw c.in-Marks.is at pre.1)
 
-mark-ok-requires : tie.Need-mark-ok-requires
+mark-ok-requires : tie.Need-mark_ok-requires
 mark-ok-requires c κs = search rules
 
-returns : tie.Need-returns
+returns : tie.Need-returns-in-Credentials
 unfolding good good_credential_to
 returns c =
     let read = c.before.before.before.credential.ensures in
-    let row = c.before.before.before.before.enum_told.given.1 in
-    rw (row, ← read, ← c.before.before.cells.ensures.same, ← c.before.automata.ensures.same) c.credential-ok.ensures
+    let row = c.before.before.before.before.in-Credentials.is in
+    rw (row, ← read, ← c.before.before.cells.ensures.same, ← c.before.automata.ensures.same) c.credential_ok.ensures
 
-returns-2 : tie.Need-returns-2
+returns-2 : tie.Need-returns-in-Cells
 unfolding good good_cell_to
 returns-2 c =
-    let row = c.before.before.before.enum-told2.given.1 in
-    rw (row, ← c.before.before.cell.ensures, ← c.before.cells2.ensures.same) c.cell-ok.ensures
+    let row = c.before.before.before.in-Cells.is in
+    rw (row, ← c.before.before.cell.ensures, ← c.before.cells-in-Cells.ensures.same) c.cell_ok.ensures
 
-returns-3 : tie.Need-returns-3
+returns-3 : tie.Need-returns-in-Edges
 unfolding good good_edge_to
 returns-3 c =
-    let row = c.before.before.before.enum-told3.given.1 in
-    rw (row, ← c.before.before.edge.ensures, ← c.before.automata2.ensures.same) c.edge-ok.ensures
+    let row = c.before.before.before.in-Edges.is in
+    rw (row, ← c.before.before.edge.ensures, ← c.before.automata-in-Edges.ensures.same) c.edge_ok.ensures
 
-returns-4 : tie.Need-returns-4
+returns-4 : tie.Need-returns-in-Marks
 unfolding good good_mark
-returns-4 c = rw (c.before.before.enum-told4.given.1, ← c.before.automaton.ensures) c.mark-ok.ensures
+returns-4 c = rw (c.before.before.in-Marks.is, ← c.before.automaton.ensures) c.mark_ok.ensures
 
-pub is-good-spec : {M : Type 1} → statement M
-is-good-spec =
+pub is_good_spec : {M : Type 1} → statement M
+is_good_spec =
     tie.close
     (tie.spec
     enum_told

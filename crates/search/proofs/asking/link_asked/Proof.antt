@@ -6,15 +6,15 @@ use borrow.Author.Rules.{rules}
 use Rattle.search.proofs.asking.link_asked.Statement.{statement}
 use Rattle.search.proofs.asking.link_asked.Tie as tie
 
-array-write-persons : tie.Need-array-write-persons
+array-write-persons : tie.Need-bounds-persons-0
 array-write-persons c = search rules
 
-array-write-places : tie.Need-array-write-places
+array-write-places : tie.Need-bounds-places-0
 array-write-places c = search rules
 
 returns : tie.Need-returns
 unfolding asked_pairs pairs_from
 returns c = (record { few = omega arith; people = refl; roles = refl }, refl)
 
-pub link-asked-spec : {M : Type 1} → statement M
-link-asked-spec = tie.close (tie.spec array-write-persons array-write-places returns)
+pub link_asked_spec : {M : Type 1} → statement M
+link_asked_spec = tie.close (tie.spec array-write-persons array-write-places returns)

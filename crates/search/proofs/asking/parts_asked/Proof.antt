@@ -3,19 +3,19 @@ use Rattle.search.proofs.Pairs.{asks_none, asks-one, asks-parts}
 use Rattle.search.proofs.asking.parts_asked.Statement.{statement}
 use Rattle.search.proofs.asking.parts_asked.Tie as tie
 
-chain-requires : tie.Need-chain-requires
+chain-requires : tie.Need-chain-chain-requires
 chain-requires c κs =
     let pre = c.before.before.requires in
-    (pre.0, (pre.1.0.first c.if1.true, pre.1.0.chained c.if1.true))
+    (pre.0, (pre.1.0.first c.if-kind-eq-INTERSECTION_CONTAINMENT.true, pre.1.0.chained c.if-kind-eq-INTERSECTION_CONTAINMENT.true))
 
-returns : tie.Need-returns
-returns c = asks-parts _ _ c.before.if1.true _ c.chain.ensures
+returns : tie.Need-returns-then-kind-eq-INTERSECTION_CONTAINMENT
+returns c = asks-parts _ _ c.before.if-kind-eq-INTERSECTION_CONTAINMENT.true _ c.chain-chain.ensures
 
-returns-2 : tie.Need-returns-2
-returns-2 c = asks-one _ _ c.if2.true
+returns-2 : tie.Need-returns-then-kind-eq-SIMPLE_CONTAINMENT
+returns-2 c = asks-one _ _ c.if-kind-eq-SIMPLE_CONTAINMENT.true
 
-returns-3 : tie.Need-returns-3
-returns-3 c = asks_none _ _ c.if2.false c.before.before.before.requires.1.1 c.before.if1.false
+returns-3 : tie.Need-returns
+returns-3 c = asks_none _ _ c.if-kind-eq-SIMPLE_CONTAINMENT.false c.before.before.before.requires.1.1 c.before.if-kind-eq-INTERSECTION_CONTAINMENT.false
 
-pub parts-asked-spec : {M : Type 1} → statement M
-parts-asked-spec = tie.close (tie.spec chain-requires returns returns-2 returns-3)
+pub parts_asked_spec : {M : Type 1} → statement M
+parts_asked_spec = tie.close (tie.spec chain-requires returns returns-2 returns-3)

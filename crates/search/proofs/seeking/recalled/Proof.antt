@@ -17,23 +17,23 @@ eight at = search rules
 recalls-requires : tie.Need-recalls-requires
 recalls-requires c κs = search rules
 
-family-at-requires : tie.Need-family-at-requires
+family-at-requires : tie.Need-family_at-wanted-requires
 family-at-requires c κs = search rules
 
-is-none-requires : tie.Need-is-none-requires
+is-none-requires : tie.Need-is_none-requires
 is-none-requires c κs = search rules
 
-blocking-at-requires : tie.Need-blocking-at-requires
+blocking-at-requires : tie.Need-blocking_at-requires
 blocking-at-requires c κs = search rules
 
-returns : tie.Need-returns
+returns : tie.Need-returns-then-recalls
 returns c =
     let at = c.before.before in
-    let recalled = at.before.before.recalls.ensures at.before.if1.true in
+    let recalled = at.before.before.recalls.ensures at.before.if-recalls.true in
     let start = at.before.before.before.before in (
       (λ t S A remembered. (
-        recalled-covered t S A _ remembered recalled _ c.blocking-at.ensures,
-        recalled-bounds t S A _ remembered recalled _ c.blocking-at.ensures start.requires.0 (eight start) _ at.family-at.ensures,
+        recalled-covered t S A _ remembered recalled _ c.blocking_at.ensures,
+        recalled-bounds t S A _ remembered recalled _ c.blocking_at.ensures start.requires.0 (eight start) _ at.family_at-wanted.ensures,
       )),
       no-sets _ _ c.before.is_none.ensures,
     )
@@ -44,14 +44,14 @@ only-requires c κs = search rules
 nothing-requires : tie.Need-nothing-requires
 nothing-requires c κs = search rules
 
-returns-2 : tie.Need-returns-2
+returns-2 : tie.Need-returns
 returns-2 c = (
   (λ t S A remembered. (rw c.nothing.ensures (covers-none _), only-bounds remembered.few _ _ _ c.before.only.ensures)),
   (λ never. absurd (false-true never)),
 )
 
-pub recalled-spec : {M : Type 1} → statement M
-recalled-spec =
+pub recalled_spec : {M : Type 1} → statement M
+recalled_spec =
     tie.close
     (tie.spec
     recalls-requires

@@ -11,9 +11,9 @@ use Rattle.table.proofs.Reason.number.Tie as tie
 number-there : {there : Reason} (r : Reason) → r ≡ there → number_of there ≡ number_of r
 number-there r here = sym (ap number_of here)
 
-pub number-spec : {M : Type 1} → statement M
+pub number_spec : {M : Type 1} → statement M
 unfolding number_of
-number-spec =
+number_spec =
     tie.close
     (tie.spec
     (λ c. search rules)
@@ -33,20 +33,20 @@ number-spec =
     (λ c. search rules)
     (λ c. search rules)
     (λ c. search rules)
-    (λ c. number-there _ c.enum_told.given.1)
-    (λ c. number-there _ c.enum-told2.given.1)
-    (λ c. number-there _ c.enum-told3.given.1)
-    (λ c. number-there _ c.enum-told4.given.1)
-    (λ c. number-there _ c.enum-told5.given.1)
-    (λ c. number-there _ c.enum-told6.given.1)
-    (λ c. number-there _ c.enum-told7.given.1)
-    (λ c. number-there _ c.enum-told8.given.1)
-    (λ c. number-there _ c.enum-told9.given.1)
-    (λ c. number-there _ c.enum-told10.given.1)
-    (λ c. number-there _ c.enum-told11.given.1)
-    (λ c. number-there _ c.enum-told12.given.1)
-    (λ c. number-there _ c.enum-told13.given.1)
-    (λ c. number-there _ c.enum-told14.given.1)
-    (λ c. number-there _ c.enum-told15.given.1)
-    (λ c. number-there _ c.enum-told16.given.1)
-    (λ c. number-there _ c.enum-told17.given.1))
+    (λ c. number-there _ c.in-ShortHead.is)
+    (λ c. number-there _ c.in-CountOverLimit.is)
+    (λ c. number-there _ c.in-WrongLength.is)
+    (λ c. number-there _ c.in-Credential.is)
+    (λ c. number-there _ c.in-Cell.is)
+    (λ c. number-there _ c.in-Chain.is)
+    (λ c. number-there _ c.in-Edge.is)
+    (λ c. number-there _ c.in-Query.is)
+    (λ c. number-there _ c.in-NoMinimalSet.is)
+    (λ c. number-there _ c.in-LongerThanBuffer.is)
+    (λ c. number-there _ c.in-RecordLength.is)
+    (λ c. number-there _ c.in-Node.is)
+    (λ c. number-there _ c.in-Branch.is)
+    (λ c. number-there _ c.in-Word.is)
+    (λ c. number-there _ c.in-NotListed.is)
+    (λ c. number-there _ c.in-LongerRecord.is)
+    (λ c. number-there _ c.in-Mark.is))

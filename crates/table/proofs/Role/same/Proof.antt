@@ -5,15 +5,15 @@ use Rattle.table.specs.Layout.{same_role}
 use Rattle.table.proofs.Role.same.Statement.{statement}
 use Rattle.table.proofs.Role.same.Tie as tie
 
-returns : tie.Need-returns
+returns : tie.Need-returns-then-self-other
 unfolding same_role
 returns c =
-    let if1 = c.before.before.if1 in
+    let if1 = c.before.before.if-self-other in
     and-on (eq-eqb _ _ if1.true)
 
-returns-2 : tie.Need-returns-2
+returns-2 : tie.Need-returns-else-self-other
 unfolding same_role
-returns-2 c = and-off _ (ne_eqb _ _ c.if1.false)
+returns-2 c = and-off _ (ne_eqb _ _ c.if-self-other.false)
 
 pub same_spec : {M : Type 1} → statement M
 same_spec = tie.close (tie.spec returns returns-2)

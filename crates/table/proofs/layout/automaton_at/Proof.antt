@@ -3,35 +3,35 @@ use borrow.Author.Rules.{rules}
 use Rattle.table.proofs.layout.automaton_at.Statement.{statement}
 use Rattle.table.proofs.layout.automaton_at.Tie as tie
 
-mul-t3 : tie.Need-overflow-mul-t3
+mul-t3 : tie.Need-offset_bounds-table-at
 mul-t3 c = search rules
 
-shared-slice-read-t5 : tie.Need-shared-slice-read-t5
+shared-slice-read-t5 : tie.Need-bounds-table-at
 shared-slice-read-t5 c = search rules
 
-add-t6 : tie.Need-overflow-add-t6
+add-t6 : tie.Need-overflow_add-result
 add-t6 c = search rules
 
-mul-t7 : tie.Need-overflow-mul-t7
+mul-t7 : tie.Need-offset_bounds-table-at-2
 mul-t7 c = search rules
 
-shared-slice-read-t9 : tie.Need-shared-slice-read-t9
+shared-slice-read-t9 : tie.Need-bounds-table-at-2
 shared-slice-read-t9 c = search rules
 
-add-t10 : tie.Need-overflow-add-t10
+add-t10 : tie.Need-overflow_add-result-2
 add-t10 c = search rules
 
-mul-t11 : tie.Need-overflow-mul-t11
+mul-t11 : tie.Need-offset_bounds-table-at-3
 mul-t11 c = search rules
 
-shared-slice-read-t13 : tie.Need-shared-slice-read-t13
+shared-slice-read-t13 : tie.Need-bounds-table-at-3
 shared-slice-read-t13 c = search rules
 
 returns : tie.Need-returns
 returns c = search rules
 
-pub automaton-at-spec : {M : Type 1} → statement M
-automaton-at-spec =
+pub automaton_at_spec : {M : Type 1} → statement M
+automaton_at_spec =
     tie.close
     (tie.spec
     mul-t3

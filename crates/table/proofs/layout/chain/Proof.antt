@@ -10,56 +10,56 @@ use Rattle.table.specs.Limits.{most_parts}
 use Rattle.table.proofs.layout.chain.Statement.{statement}
 use Rattle.table.proofs.layout.chain.Tie as tie
 
-abbrev invariant-loop : tie.invariant-loop
+abbrev invariant-loop : tie.invariant-loop-j
 invariant-loop table first roles₀ len₀ j₀ roles len j = Gathered table first roles len j
 
-abbrev decreases-loop : tie.decreases-loop
+abbrev decreases-loop : tie.decreases-loop-j
 decreases-loop table first roles₀ len₀ j₀ roles len j = 5 - len
 
-loop-holds : tie.Need-loop-init invariant-loop decreases-loop
+loop-holds : tie.Need-loop-j-init invariant-loop decreases-loop
 loop-holds c = gather-starts _ _ _ refl c.before.requires.1.0.last
 
 wide-requires : tie.Need-wide-requires invariant-loop decreases-loop
 wide-requires c κs = search rules
 
-cell-requires : tie.Need-cell-requires invariant-loop decreases-loop
+cell-requires : tie.Need-cell-c-requires invariant-loop decreases-loop
 cell-requires c κs = search rules
 
-room : (c : tie.After-cell invariant-loop decreases-loop) → c.before.before.before.loop.len < most_parts
+room : (c : tie.After-cell-c invariant-loop decreases-loop) → c.before.before.before.loop-j.len < most_parts
 room c =
-    let loop = c.before.before.before.loop in
+    let loop = c.before.before.before.loop-j in
     let pre = c.before.before.before.before.before.requires in
-    gather-room _ _ _ _ _ loop.invariant pre.1.1 c.before.before.loop-test.true
+    gather-room _ _ _ _ _ loop.invariant pre.1.1 c.before.before.loop-j-test.true
 
-mul-roles : tie.Need-overflow-mul-roles invariant-loop decreases-loop
+mul-roles : tie.Need-offset_bounds-roles-len invariant-loop decreases-loop
 mul-roles c = omega (arith, room c.before)
 
-array-set-from-roles : tie.Need-array-set-from-roles invariant-loop decreases-loop
+array-set-from-roles : tie.Need-bounds-roles-len invariant-loop decreases-loop
 array-set-from-roles c = room c.before
 
-add-len : tie.Need-overflow-add-len invariant-loop decreases-loop
+add-len : tie.Need-overflow_add-len invariant-loop decreases-loop
 add-len c = omega (arith, room c.before)
 
-loop-less : tie.Need-loop-smaller invariant-loop decreases-loop
+loop-less : tie.Need-loop-j-smaller invariant-loop decreases-loop
 loop-less c = omega (arith, room c.before)
 
-loop-again : tie.Need-loop-preserved invariant-loop decreases-loop
+loop-again : tie.Need-loop-j-preserved invariant-loop decreases-loop
 loop-again c =
     let wide = c.before.before.wide in
-    let loop = c.before.before.before.before.loop in
+    let loop = c.before.before.before.before.loop-j in
     let wf = c.before.before.before.before.before.before.requires.0 in
     let inside = (wf-cell _ wf loop.j (omega (arith, loop.invariant.walked.inside))).next in
-    rw (c.before.cell.ensures, wide.ensures.0)
-    (gather-goes-on _ _ _ _ _ loop.invariant inside c.before.before.before.loop-test.true (room c.before))
+    rw (c.before.cell-c.ensures, wide.ensures.0)
+    (gather-goes-on _ _ _ _ _ loop.invariant inside c.before.before.before.loop-j-test.true (room c.before))
 
 returns : tie.Need-returns invariant-loop decreases-loop
 returns c =
-    let gathered = c.before.loop.invariant in
-    let roles = gather-ends _ _ _ _ _ gathered c.loop-test.false in
+    let gathered = c.before.loop-j.invariant in
+    let roles = gather-ends _ _ _ _ _ gathered c.loop-j-test.false in
     record { few = gathered.walked.few; room = gathered.room; roles = roles }
 
-pub chain-spec : {M : Type 1} → statement M
-chain-spec =
+pub chain_spec : {M : Type 1} → statement M
+chain_spec =
     tie.close
     (tie.spec
     invariant-loop

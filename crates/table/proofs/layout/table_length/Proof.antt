@@ -3,21 +3,21 @@ use borrow.Author.Rules.{rules}
 use Rattle.table.proofs.layout.table_length.Statement.{statement}
 use Rattle.table.proofs.layout.table_length.Tie as tie
 
-edges-base-requires : tie.Need-edges-base-requires
+edges-base-requires : tie.Need-edges_base-requires
 edges-base-requires c κs = search rules
 
 edges-requires : tie.Need-edges-requires
 edges-requires c κs = search rules
 
-mul-result : tie.Need-overflow-mul-result
+mul-result : tie.Need-overflow_mul-result
 mul-result c = search rules
 
-add-result : tie.Need-overflow-add-result
+add-result : tie.Need-overflow_add-result
 add-result c = search rules
 
 returns : tie.Need-returns
 returns c = search rules
 
-pub table-length-spec : {M : Type 1} → statement M
-table-length-spec =
+pub table_length_spec : {M : Type 1} → statement M
+table_length_spec =
     tie.close (tie.spec edges-base-requires edges-requires mul-result add-result returns)

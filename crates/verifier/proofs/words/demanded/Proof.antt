@@ -4,13 +4,13 @@ use Rattle.sets.specs.Logic.{pick}
 use Rattle.verifier.proofs.words.demanded.Statement.{statement}
 use Rattle.verifier.proofs.words.demanded.Tie as tie
 
-returns : tie.Need-returns
+returns : tie.Need-returns-then-mark-eq-SOME_WORD
 unfolding pick
-returns c = rw (eq-eqb _ 1 c.if1.true)
+returns c = rw (eq-eqb _ 1 c.if-mark-eq-SOME_WORD.true)
 
-returns-2 : tie.Need-returns-2
+returns-2 : tie.Need-returns
 unfolding pick
-returns-2 c = rw (ne_eqb _ 1 c.if1.false)
+returns-2 c = rw (ne_eqb _ 1 c.if-mark-eq-SOME_WORD.false)
 
-pub demanded-spec : {M : Type 1} → statement M
-demanded-spec = tie.close (tie.spec returns returns-2)
+pub demanded_spec : {M : Type 1} → statement M
+demanded_spec = tie.close (tie.spec returns returns-2)

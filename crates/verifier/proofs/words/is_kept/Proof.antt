@@ -5,27 +5,27 @@ use Rattle.sets.proofs.Tests.{failed, passed}
 use Rattle.verifier.proofs.words.is_kept.Statement.{statement}
 use Rattle.verifier.proofs.words.is_kept.Tie as tie
 
-sub-has-16 : tie.Need-overflow-sub-has-16
+sub-has-16 : tie.Need-overflow_sub-k
 sub-has-16 c = search rules
 
-has-16-requires : tie.Need-has-16-requires
+has-16-requires : tie.Need-has_16-requires
 has-16-requires c κs = search rules
 
-returns : tie.Need-returns
+returns : tie.Need-returns-then-not-has_16
 unfolding ◌or◌
-returns c = rw (failed c.before.has-16.ensures c.if1.true)
+returns c = rw (failed c.before.has_16.ensures c.if-not-has_16.true)
 
-sub-has-16-2 : tie.Need-overflow-sub-has-16-2
+sub-has-16-2 : tie.Need-overflow_sub-k-2
 sub-has-16-2 c = search rules
 
-has-16-requires-2 : tie.Need-has-16-requires-2
+has-16-requires-2 : tie.Need-has_16-requires-2
 has-16-requires-2 c κs = search rules
 
-returns-2 : tie.Need-returns-2
+returns-2 : tie.Need-returns
 unfolding ◌or◌
-returns-2 c = rw (passed c.before.before.has-16.ensures c.before.if1.false) c.has-162.ensures
+returns-2 c = rw (passed c.before.before.has_16.ensures c.before.if-not-has_16.false) c.has_16-2.ensures
 
-pub is-kept-spec : {M : Type 1} → statement M
-is-kept-spec =
+pub is_kept_spec : {M : Type 1} → statement M
+is_kept_spec =
     tie.close
     (tie.spec sub-has-16 has-16-requires returns sub-has-16-2 has-16-requires-2 returns-2)

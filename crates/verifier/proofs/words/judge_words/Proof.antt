@@ -17,79 +17,79 @@ use Rattle.verifier.proofs.Judged.{kept-flag}
 use Rattle.verifier.proofs.words.judge_words.Statement.{statement}
 use Rattle.verifier.proofs.words.judge_words.Tie as tie
 
-abbrev invariant-loop : tie.invariant-loop
+abbrev invariant-loop : tie.invariant-loop-k
 invariant-loop table used every some imposed a k₀ k = (k ≤ a) × (demand_each (keeps table used every some) k 14 ≡ accepted 0)
 
-abbrev decreases-loop : tie.decreases-loop
+abbrev decreases-loop : tie.decreases-loop-k
 decreases-loop table used every some imposed a k₀ k = a - k
 
 -- where automaton k + 1 has been looked at: the code's flag is the test
-abbrev start : tie.At-loop invariant-loop decreases-loop → tie.Start invariant-loop decreases-loop
+abbrev start : tie.At-loop-k invariant-loop decreases-loop → tie.Start invariant-loop decreases-loop
 start at = at.before.before.before.before
 
-abbrev test : tie.At-loop invariant-loop decreases-loop → ℕ → Bool
+abbrev test : tie.At-loop-k invariant-loop decreases-loop → ℕ → Bool
 test at = let from = (start at).args in keeps from.table.now from.used from.every from.some
 
-abbrev looped : tie.After-is-kept invariant-loop decreases-loop → tie.At-loop invariant-loop decreases-loop
+abbrev looped : tie.After-is_kept invariant-loop decreases-loop → tie.At-loop-k invariant-loop decreases-loop
 looped at = at.before.before.before.before
 
-kept : (at : tie.After-is-kept invariant-loop decreases-loop) → at.is-kept.result ≡ test (looped at) ((looped at).loop.k + 1)
+kept : (at : tie.After-is_kept invariant-loop decreases-loop) → at.is_kept.result ≡ test (looped at) ((looped at).loop-k.k + 1)
 kept at =
-    let imposed = (looped at).before.before.automata-of.ensures in
-    let read = at.before.before.automaton.ensures in
-    at.is-kept.ensures ∙ kept-flag _ _ _ _ _ _ _ imposed read at.before.demanded.ensures
+    let imposed = (looped at).before.before.automata_of-imposed.ensures in
+    let read = at.before.before.automaton-automaton.ensures in
+    at.is_kept.ensures ∙ kept-flag _ _ _ _ _ _ _ imposed read at.before.demanded.ensures
 
-automata-of-requires : tie.Need-automata-of-requires invariant-loop decreases-loop
+automata-of-requires : tie.Need-automata_of-imposed-requires invariant-loop decreases-loop
 automata-of-requires c κs = search rules
 
-automata-requires : tie.Need-automata-requires invariant-loop decreases-loop
+automata-requires : tie.Need-automata-a-requires invariant-loop decreases-loop
 automata-requires c κs = search rules
 
-loop-holds : tie.Need-loop-init invariant-loop decreases-loop
+loop-holds : tie.Need-loop-k-init invariant-loop decreases-loop
 unfolding demand_each
 loop-holds c = (omega arith, refl)
 
-add-k : tie.Need-overflow-add-k invariant-loop decreases-loop
+add-k : tie.Need-overflow_add-k invariant-loop decreases-loop
 add-k c = search rules
 
-automaton-requires : tie.Need-automaton-requires invariant-loop decreases-loop
+automaton-requires : tie.Need-automaton-automaton-requires invariant-loop decreases-loop
 automaton-requires c κs = search rules
 
 demanded-requires : tie.Need-demanded-requires invariant-loop decreases-loop
 demanded-requires c κs = search rules
 
-is-kept-requires : tie.Need-is-kept-requires invariant-loop decreases-loop
+is-kept-requires : tie.Need-is_kept-requires invariant-loop decreases-loop
 is-kept-requires c κs = search rules
 
 refused-requires : tie.Need-refused-requires invariant-loop decreases-loop
 refused-requires c κs = search rules
 
-returns : tie.Need-returns invariant-loop decreases-loop
+returns : tie.Need-returns-then-not-is_kept invariant-loop decreases-loop
 unfolding number_of
 returns c =
     let loop = looped c.before.before in
-    let stops = failed (kept c.before.before) c.before.if1.true in
+    let stops = failed (kept c.before.before) c.before.if-not-is_kept.true in
     let all = automata (start loop).args.table.now in
     c.refused.ensures
-    ∙ refused-then _ (each-stops (test loop) 14 loop.loop.k all (omega arith) loop.loop.inv.1 stops)
+    ∙ refused-then _ (each-stops (test loop) 14 loop.loop-k.k all (omega arith) loop.loop-k.inv.1 stops)
 
-loop-less : tie.Need-loop-smaller invariant-loop decreases-loop
+loop-less : tie.Need-loop-k-smaller invariant-loop decreases-loop
 loop-less c = search rules
 
-loop-again : tie.Need-loop-preserved invariant-loop decreases-loop
+loop-again : tie.Need-loop-k-preserved invariant-loop decreases-loop
 loop-again c =
     let loop = looped c.before in
-    (omega arith, each-passes (test loop) 14 _ loop.loop.inv.1 (passed (kept c.before) c.if1.false))
+    (omega arith, each-passes (test loop) 14 _ loop.loop-k.inv.1 (passed (kept c.before) c.if-not-is_kept.false))
 
-returns-2 : tie.Need-returns-2 invariant-loop decreases-loop
+returns-2 : tie.Need-returns invariant-loop decreases-loop
 unfolding verdict_told
 returns-2 c =
     let loop = c.before in
     let all = automata (start loop).args.table.now in
-    then-on (sym (each-through (test loop) 14 loop.loop.k all (omega arith) loop.loop.invariant.1))
+    then-on (sym (each-through (test loop) 14 loop.loop-k.k all (omega arith) loop.loop-k.invariant.1))
 
-pub judge-words-spec : {M : Type 1} → statement M
-judge-words-spec =
+pub judge_words_spec : {M : Type 1} → statement M
+judge_words_spec =
     tie.close
     (tie.spec
     invariant-loop

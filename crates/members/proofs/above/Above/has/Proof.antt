@@ -4,10 +4,10 @@ use Rattle.members.specs.Above.{pair_above}
 use Rattle.members.proofs.above.Above.has.Statement.{statement}
 use Rattle.members.proofs.above.Above.has.Tie as tie
 
-mul-has : tie.Need-overflow-mul-has
+mul-has : tie.Need-offset_bounds-self-place
 mul-has c = search rules
 
-element-copy-out-has : tie.Need-element-copy-out-has
+element-copy-out-has : tie.Need-bounds-self-place
 element-copy-out-has c = search rules
 
 has-requires : tie.Need-has-requires
@@ -17,5 +17,5 @@ returns : tie.Need-returns
 unfolding pair_above
 returns c = c.has.ensures
 
-pub has-spec : {M : Type 1} → statement M
-has-spec = tie.close (tie.spec mul-has element-copy-out-has has-requires returns)
+pub has_spec : {M : Type 1} → statement M
+has_spec = tie.close (tie.spec mul-has element-copy-out-has has-requires returns)
