@@ -3,6 +3,8 @@
 // used, so each automaton that the set bears is either done without, by leaving its credentials out, or imposed on every word or
 // owed some word, by its mark. One search tells of all automata that may be owed which of them can be met together; those that
 // cannot be met at all are done without at once. specs/Admits.antt says what the answer means.
+#![tactic(auto)]
+
 ghost use Rattle.std.specs.Prelude.{◌≡◌, false, suc, ◌-◌, ◌<◌, ◌≤◌, eqb};
 ghost use Rattle.std.specs.Int.Bits.{bit_or};
 ghost use Rattle.families.specs.Families.{all_sets};
@@ -47,7 +49,7 @@ pub fn admits(
 
 // Whether the set proves the membership under the constraints and with what is owed, and each automaton from k down to 1 that it
 // bears can be done without or met beside them. `marks` are the automata of the table that demand some word.
-#[cycle(admits_by_admits_found_admits_free_admits_over_admits_under_imposes_one_owes_one)]
+#[cycle(admit)]
 fn admits_under(
     table: &[Number],
     query: Query,
@@ -76,7 +78,7 @@ fn admits_under(
 }
 
 // The same on the terms of a search, with the table of members of the set.
-#[cycle(admits_by_admits_found_admits_free_admits_over_admits_under_imposes_one_owes_one)]
+#[cycle(admit)]
 fn admits_over(
     table: &[Number],
     query: Query,
@@ -102,7 +104,7 @@ fn admits_over(
 
 // The same where it is found what can be met of `asked`, which is all that is owed and all that the set may owe. What cannot be met
 // beside what is owed is done without.
-#[cycle(admits_by_admits_found_admits_free_admits_over_admits_under_imposes_one_owes_one)]
+#[cycle(admit)]
 fn admits_found(
     table: &[Number],
     query: Query,
@@ -147,7 +149,7 @@ fn admits_found(
 }
 
 // The same where no automaton is imposed and none can be owed: whether the set proves is known without a search.
-#[cycle(admits_by_admits_found_admits_free_admits_over_admits_under_imposes_one_owes_one)]
+#[cycle(admit)]
 fn admits_free(
     table: &[Number],
     query: Query,
@@ -177,7 +179,7 @@ fn admits_free(
 
 // Whether each automaton from k down to 1 that the set bears can be done without or met, where `found` tells what can be met of
 // all that the set may owe.
-#[cycle(admits_by_admits_found_admits_free_admits_over_admits_under_imposes_one_owes_one)]
+#[cycle(admit)]
 fn admits_by(
     table: &[Number],
     query: Query,
@@ -220,7 +222,7 @@ fn admits_by(
 }
 
 // The same where automaton k is borne and demands some word: whether it can be met is known, so that is asked first.
-#[cycle(admits_by_admits_found_admits_free_admits_over_admits_under_imposes_one_owes_one)]
+#[cycle(admit)]
 fn owes_one(
     table: &[Number],
     query: Query,
@@ -270,7 +272,7 @@ fn owes_one(
 }
 
 // The same where automaton k is borne and demands every word.
-#[cycle(admits_by_admits_found_admits_free_admits_over_admits_under_imposes_one_owes_one)]
+#[cycle(admit)]
 fn imposes_one(
     table: &[Number],
     query: Query,

@@ -1,5 +1,7 @@
 // How a C call is answered: a query from its four numbers, and a result with the value or the position that is written.
 // specs/Answer.antt says what outcome these are.
+#![tactic(auto)]
+
 ghost use Rattle.std.specs.Prelude.{◌≡◌};
 ghost use Rattle.table.specs.Outcome.{Outcome};
 ghost use Rattle.table.specs.Checks.{as_query, told};

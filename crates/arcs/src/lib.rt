@@ -1,6 +1,8 @@
 // The index of arcs, row by row: which edges match the role that a credential defines, found once and not at each move. Edges that
 // lead to states of one number are one arc, which has for each automaton the mask of the states from which they lead. What is in
 // the index, crate moves says (specs/Arcs.antt); which rows are made, and when, bears on time alone.
+#![tactic(auto)]
+
 ghost use Rattle.std.specs.Prelude.{◌≡◌, ◌<◌, get_or, length, replicate};
 ghost use Rattle.table.specs.Layout.{credentials};
 ghost use Rattle.table.specs.Holding.{WellFormed};

@@ -1,5 +1,7 @@
 // The automata attached to the credentials of a set, and those of a set of automata that demand some word: automaton k counts
 // 2^(k-1).
+#![tactic(auto)]
+
 ghost use Rattle.std.specs.Prelude.{◌≡◌, not, suc, ◌-◌, ◌^◌, ◌<◌, ◌≤◌, eqb};
 ghost use Rattle.std.specs.Int.Bits.{bit_or};
 ghost use Rattle.sets.specs.Logic.{◌and◌, pick};

@@ -1,5 +1,7 @@
 // State sets of all automata of a table, and how they move along a role, by what the table says (docs/DEFINITION.md, "Words"). The
 // sets of all eight travel together, by value: each child of a node starts from its own copy. Crate moves has a faster way.
+#![tactic(auto)]
+
 ghost use Rattle.std.specs.Prelude.{◌≡◌};
 ghost use Rattle.table.specs.Holding.{WellFormed};
 ghost use Rattle.automata.specs.Together.{accepting_set, dead_set, moved_sets, starting_sets};

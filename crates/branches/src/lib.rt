@@ -1,5 +1,7 @@
 // The goals on the way from the query to a node, as the reader holds them. specs/Rules.antt of the crate derivation says what may
 // not repeat there; of the reader's code this crate alone knows it.
+#![tactic(auto)]
+
 ghost use Rattle.std.specs.Prelude.{◌≡◌, [], ◌∷◌, ◌+◌, ◌<◌};
 ghost use Rattle.table.specs.Limits.{most_depth};
 ghost use Rattle.derivation.specs.Rules.{fresh, same_goal};

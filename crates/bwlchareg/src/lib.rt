@@ -1,6 +1,8 @@
 // The C interface. A slice is a pointer and a length. Each call returns 0 or the refusal's number in docs/DEFINITION.md, and
 // writes the position, or on 0 the value that the call returns: 0 where there is none. bindings/c/bwlchareg.h has the promises
 // in words.
+#![tactic(auto)]
+
 ghost use Rattle.std.specs.Prelude.{◌≡◌, length};
 ghost use Rattle.table.specs.Checks.{as_query, request_outcome, table_outcome};
 ghost use Rattle.verifier.specs.Verdict.{verdict};

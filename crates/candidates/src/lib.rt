@@ -1,5 +1,7 @@
 // One set of a region: an admitted one is put into the buffer, in its place (crate sorted), if it is minimal; one that is not
 // admitted is grown, so that what lies outside of it is a cut (crate cuts). specs/Candidates.antt says what is asked and given.
+#![tactic(auto)]
+
 ghost use Rattle.std.specs.Prelude.{◌≡◌, true, false, not, ℕ, ◌^◌, ◌<◌, ltb};
 ghost use Rattle.std.specs.Int.Bits.{bit_xor};
 ghost use Rattle.sets.specs.Logic.{◌and◌};

@@ -1,6 +1,8 @@
 // The checks that stop a bad table or a bad query: the request's rows of docs/DEFINITION.md, "Where each input is stopped".
 // Every slice of every length gets "accepted" or exactly its refusal, and nothing is written. What the checks mean is in table's
 // specs/Checks.antt.
+#![tactic(auto)]
+
 mod rows; // rows.rt: rows 1 to 3, and refusals
 
 ghost use Rattle.std.specs.Prelude.{◌≡◌};

@@ -1,6 +1,8 @@
 // The choice at a node of the first record (docs/DEFINITION.md, "The first record"): the least credential of the set that proves
 // the goal such that what is wanted of the owed automata can be met, and with it the least middle. That some credential does is
 // known beforehand, so that the last candidate needs no search. specs/Choice.antt says what is chosen.
+#![tactic(auto)]
+
 mod middles; // middles.rt: the least middle of a credential of kind 3
 
 ghost use Rattle.std.specs.Prelude.{◌≡◌, true, [], ◌∷◌, suc, ◌<◌, ◌≤◌, get_or};

@@ -1,5 +1,7 @@
 // Cuts: what lies outside of a set that does not pass a monotone test. Every set that passes meets every cut. The cuts found so far
 // are the first `count` cells of an array. specs/Cuts.antt says what they tell; proofs/ has the laws, for any monotone test.
+#![tactic(auto)]
+
 ghost use Rattle.std.specs.Prelude.{◌≡◌, true, ℕ, ◌^◌, ◌<◌, ◌≤◌, length};
 ghost use Rattle.sets.specs.Logic.{◌and◌};
 ghost use Rattle.sets.specs.Sets.{in_set, part};

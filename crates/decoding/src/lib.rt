@@ -1,5 +1,7 @@
 // Bytes as 16-bit numbers, low byte first, and the query that the first four are (docs/DEFINITION.md, "The listing program").
 // specs/Decoding.antt says which bytes count and which numbers they hold.
+#![tactic(auto)]
+
 ghost use Rattle.std.specs.Prelude.{◌≡◌, ◌++◌, ◌/◌, ◌≤◌, drop, length};
 ghost use Rattle.decoding.specs.Decoding.{counted_bytes, from_bytes, numbers_of, query_of, query_size};
 

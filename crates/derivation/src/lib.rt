@@ -1,6 +1,8 @@
 // Derivations of memberships by the rules of RT0 (docs/DEFINITION.md, "Derivations"): which goals a credential asks, and what may
 // not repeat on a branch. The verifier's end and the holder's end both go by these. specs/Rules.antt, Forest.antt and Words.antt
 // say what a derivation is, specs/Accepted.antt when a record is accepted.
+#![tactic(auto)]
+
 pub mod rules; // rules.rt: which goals a credential asks
 
 ghost use Rattle.std.specs.Prelude.{◌≡◌};

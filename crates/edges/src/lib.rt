@@ -1,5 +1,7 @@
 // One edge of an automaton (docs/DEFINITION.md, "Words"): which roles its label matches, and what it gives from a state set. An
 // edge is two masks, of its `from` state and of its `to` state, so a set is moved whole and never asked for a single state.
+#![tactic(auto)]
+
 ghost use Rattle.std.specs.Prelude.{◌≡◌, ◌^◌, ◌≤◌};
 ghost use Rattle.sets.specs.Logic.{pick};
 ghost use Rattle.sets.specs.Sets.{meets};

@@ -1,5 +1,7 @@
 // One node of a record: rows 11 to 13 of docs/DEFINITION.md, "Where each input is stopped", and what is kept once the node is
 // entered. specs/Entry.antt says how a node is entered.
+#![tactic(auto)]
+
 ghost use Rattle.std.specs.Prelude.{◌≡◌, ◌+◌, ◌-◌, ◌^◌, ◌<◌, ◌≤◌};
 ghost use Rattle.std.specs.Int.Bits.{bit_and, bit_or};
 ghost use Rattle.table.specs.Limits.{most_credentials, most_depth, most_parts};

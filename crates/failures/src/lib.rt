@@ -2,6 +2,8 @@
 // of sets of automata. Below every branch that has the blocking pairs the goal can meet no set that the family does not cover. A goal
 // whose family has no set fails there.
 // specs/Failures.antt says what the cells hold.
+#![tactic(auto)]
+
 ghost use Rattle.std.specs.Prelude.{◌≡◌, true, ◌<◌, ◌≤◌};
 ghost use Rattle.families.specs.Families.{family_words};
 ghost use Rattle.table.specs.Limits.{most_automata, most_credentials, most_depth};

@@ -1,6 +1,8 @@
 // Families: sets of sets of automata, for a search that has to know which automata some word each can be made to accept. A set of
 // automata is a number below 256, automaton k counting 2^(k-1), so a family is 256 bits. specs/Families.antt says what each
 // function makes; proofs/Covering.antt has the laws of what a family covers.
+#![tactic(auto)]
+
 mod spreading; // spreading.rt: bits put into all numbers of a word at once
 
 ghost use Rattle.std.specs.Prelude.{◌≡◌, false, not, true, ◌<◌, ◌≤◌, eqb};

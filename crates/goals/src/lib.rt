@@ -1,5 +1,7 @@
 // The tests of which the search is made. Each is told by the table, its indexes and the rows of members alone: nothing is sought.
 // Goals are asked by the places of principal and role (crate members). specs/Goals.antt says what the answers mean.
+#![tactic(auto)]
+
 ghost use Rattle.std.specs.Prelude.{◌≡◌, suc, ◌<◌, ◌≤◌, get_or, length, eqb};
 ghost use Rattle.std.specs.Int.Bits.{bit_and};
 ghost use Rattle.sets.specs.Logic.{◌and◌, ◌or◌};

@@ -1,6 +1,8 @@
 // The index of a table and a query: roles and principals by their places, so that a search compares and looks up small numbers.
 // It is made once; a set of allowed credentials changes nothing in it. specs/Members.antt of the crate members says what it holds,
 // specs/Indexing.antt how it is made.
+#![tactic(auto)]
+
 ghost use Rattle.std.specs.Prelude.{◌≡◌, true};
 ghost use Rattle.table.specs.Limits.{most_parts};
 ghost use Rattle.table.specs.Layout.{Numbered, cells, credentials};

@@ -1,5 +1,7 @@
 // The listing program's input (docs/DEFINITION.md, "The listing program"): bytes as 16-bit numbers (crate decoding), the query's
 // four and then the table. specs/Input.antt says what is told of it.
+#![tactic(auto)]
+
 ghost use Rattle.std.specs.Prelude.{◌≡◌, ◌≤◌, length};
 ghost use Rattle.listing.specs.Minimal.{buffer_after, listing, listing_told};
 ghost use Rattle.decoding.specs.Decoding.{query_of, query_size};

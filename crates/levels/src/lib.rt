@@ -1,5 +1,7 @@
 // The table of members: for each level a row of masks, one for each role by its place; a mask is a set of principals by theirs.
 // specs/Members.antt of the crate members says what it holds, specs/Levels.antt how it is filled.
+#![tactic(auto)]
+
 ghost use Rattle.std.specs.Prelude.{◌≡◌, ◌<◌, ◌≤◌, length};
 ghost use Rattle.table.specs.Limits.{most_depth};
 ghost use Rattle.table.specs.Holding.{WellFormed};

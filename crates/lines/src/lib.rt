@@ -1,6 +1,8 @@
 // What is printed of a list and of a refusal (docs/DEFINITION.md, "The listing program"), put at the start of a buffer: one decimal
 // set a line, then `sets` and the count; or one line `refused`, the number, the position. specs/Printed.antt says which bytes
 // these are. The crate printing says which of the two is printed for an input.
+#![tactic(auto)]
+
 ghost use Rattle.std.specs.Prelude.{[], ◌∷◌, ◌+◌, ◌*◌, ◌<◌, ◌≤◌, length};
 ghost use Rattle.lines.specs.Printed.{cells, decimal, glyph, line, lines, room};
 ghost use Rattle.lines.specs.Printed.{Filled, printed_list, printed_refusal};

@@ -2,6 +2,8 @@
 // "The list"). It knows of derivations only which sets of credentials admit an accepted record (crate admission), and leaves the
 // search over sets to crate regions. specs/Minimal.antt says what the answer and the buffer are; specs/Demands.antt states that
 // this is the list that the definition means.
+#![tactic(auto)]
+
 ghost use Rattle.std.specs.Prelude.{◌≡◌, length, true};
 ghost use Rattle.table.specs.Holding.{WellFormed};
 ghost use Rattle.table.specs.Checks.{Valid, number_of};

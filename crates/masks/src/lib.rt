@@ -1,5 +1,7 @@
 // One row of the table of members: who is in the roles that a credential asks, and whom the credential proves by them to be in its
 // own (specs/Masks.antt). Nothing is written here; crate levels fills the table.
+#![tactic(auto)]
+
 ghost use Rattle.std.specs.Prelude.{◌≡◌, ◌<◌};
 ghost use Rattle.table.specs.Limits.{most_parts};
 ghost use Rattle.table.specs.Holding.{WellFormed};

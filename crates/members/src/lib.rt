@@ -1,6 +1,8 @@
 // Members by levels: who is in which role within so many levels where nothing may be refused. A derivation proves nothing else,
 // so a search need not ask for anything else. Roles and principals are places, in an index of the table and the query and on the
 // way to a node. specs/Members.antt says what the index and the table of members hold; the crates indexing and levels make them.
+#![tactic(auto)]
+
 mod above; // above.rt: the pairs of principal and role above a node
 mod cells; // cells.rt: the cells of an index
 

@@ -1,5 +1,7 @@
 // Whether an admitted set is minimal, by leaving out one credential at a time. The list asks it where it keeps no cuts, and the call
 // that writes asks it of the set that it is given.
+#![tactic(auto)]
+
 ghost use Rattle.std.specs.Prelude.{◌≡◌, true, ◌^◌, ◌<◌};
 ghost use Rattle.std.specs.Int.Bits.{bit_xor};
 ghost use Rattle.sets.specs.Logic.{◌and◌};

@@ -1,6 +1,8 @@
 // The listing program: reads at most 4,096 bytes of standard input, the query's four numbers and then the table, and prints what
 // `printing::answer` makes of them (docs/DEFINITION.md, "The listing program"). A read or a write that fails is told on standard
 // error.
+#![tactic(auto)]
+
 ghost use Rattle.std.specs.Prelude.{◌≤◌, length};
 
 use libc::{STDERR_FILENO, STDIN_FILENO, STDOUT_FILENO};

@@ -1,5 +1,7 @@
 // How the state sets of all eight automata move along a role, and which automata accept, by an index of arcs (docs/DEFINITION.md,
 // "Words"; specs/Arcs.antt). Where the index has no row for a role, or there is no index, the table tells.
+#![tactic(auto)]
+
 ghost use Rattle.std.specs.Prelude.{◌≡◌, ◌⊎◌, suc, ◌+◌, ◌<◌, ◌≤◌, get_or, length, eqb};
 ghost use Rattle.table.specs.Limits.{most_credentials};
 ghost use Rattle.table.specs.Layout.{credential, credentials};

@@ -1,5 +1,7 @@
 // One row of an index of arcs, cell by cell: it is cleared, an arc is looked for in it, and an edge is put into an arc
 // (specs/Placing.antt). Crate moves says what is in the index, crate arcs which edges go into a row.
+#![tactic(auto)]
+
 ghost use Rattle.std.specs.Prelude.{◌≡◌, ◌<◌, ◌≤◌, length};
 ghost use Rattle.table.specs.Limits.{last_state, most_automata, most_credentials};
 ghost use Rattle.table.specs.Layout.{Numbered};

@@ -1,5 +1,7 @@
 // What the listing program prints for its input (docs/DEFINITION.md, "The listing program"): the list, or the refusal.
 // specs/Program.antt says what that is; the crate lines puts the bytes.
+#![tactic(auto)]
+
 ghost use Rattle.std.specs.Prelude.{[], ◌≤◌, length};
 ghost use Rattle.table.specs.Checks.{told};
 ghost use Rattle.lines.specs.Printed.{Filled, printed, room};

@@ -1,4 +1,6 @@
 // What a single record must be, given by value: the ranges of docs/DEFINITION.md, "The table", by kind and by label.
+#![tactic(auto)]
+
 ghost use Rattle.std.specs.Prelude.{◌≡◌};
 ghost use Rattle.table.specs.Checks;
 

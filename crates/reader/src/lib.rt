@@ -2,6 +2,8 @@
 // sub-derivation hands back the rest of the caller's record, from the next node on; what it keeps on the way it keeps in numbers
 // that the caller lends. What is done at one node is in the crate entering. specs/Reading.antt says how a record is read,
 // specs/Tally.antt what is kept.
+#![tactic(auto)]
+
 ghost use Rattle.std.specs.Prelude.{◌≡◌, ◌+◌, ◌^◌, ◌<◌, ◌≤◌, length};
 ghost use Rattle.table.specs.Limits.{most_depth};
 ghost use Rattle.table.specs.Holding.{WellFormed};

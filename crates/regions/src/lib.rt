@@ -2,6 +2,8 @@
 // keeps the cuts that it has found: what lies outside of a set that is not admitted, so that every admitted set meets every
 // cut (crate cuts). What is done with one set of a region is in the crate candidates. specs/Below.antt says what is asked and
 // given.
+#![tactic(auto)]
+
 ghost use Rattle.cuts.specs.Cuts.{Ready};
 ghost use Rattle.table.specs.Layout.{credentials};
 ghost use Rattle.search.specs.Search.{Prepared};

@@ -1,6 +1,8 @@
 // Which credentials bear on a query, by roles alone, whoever the members are: those whose role can be reached from the query's.
 // Without this a wallet of mostly unrelated credentials would cost two to their number. A set of roles is the set of their places
 // (crate members): the role at place r counts 2^r.
+#![tactic(auto)]
+
 ghost use Rattle.std.specs.Prelude.{◌≡◌, not, true, ◌<◌, ◌≤◌, get_or, replicate};
 ghost use Rattle.sets.specs.Logic.{◌and◌};
 ghost use Rattle.sets.specs.Sets.{in_set};

@@ -2,6 +2,8 @@
 // 512 numbers of 16 bits, low byte first: kind (1 list, 2 verify), the query's four, cells of the buffer, length of the table,
 // length of the record; then the table, the record, and zeros. Each cell holds a pattern beforehand, so that an untouched one
 // shows. What was listed is written as records, too.
+#![tactic(auto)]
+
 ghost use Rattle.std.specs.Prelude.{◌≤◌, ◌≡◌, length};
 
 use libc::{STDIN_FILENO, STDOUT_FILENO};

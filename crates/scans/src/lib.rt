@@ -1,5 +1,7 @@
 // The rows of checks that look for a bad record in a whole table, by ascending number, and the counts of its head. The rows after
 // the head are asked only of a table with the length that its head says. specs/Rows.antt says what each row asks.
+#![tactic(auto)]
+
 ghost use Rattle.std.specs.Prelude.{◌≡◌, ◌≤◌, length};
 ghost use Rattle.table.specs.Outcome.{Outcome};
 ghost use Rattle.table.specs.Layout;

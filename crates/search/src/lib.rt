@@ -2,6 +2,8 @@
 // word must be accepted by each of some other automata (docs/DEFINITION.md, "The list"). It knows of derivations what
 // `derivation` promises: which goals a credential asks, and what may not repeat on a branch. specs/Search.antt says what the
 // answers mean, specs/Failing.antt what is remembered on the way.
+#![tactic(auto)]
+
 mod asking; // asking.rt: the goals that a credential asks
 mod seeking; // seeking.rt: goal search and credential search, which call each other
 

@@ -47,7 +47,7 @@ struct Known {
 // What can be met by proving, within `levels` levels, that the principal at `person` is in the role at `place`. The goal fails if the
 // table of members does not have it, if it is already on the branch, or if it is known to fail here. The search ends once it has
 // found all that the goal can still meet; if it finds less, it remembers that.
-#[cycle(asked_search_credential_search_definers_search_goal_search_link_search_linked_search_parts_search_shared_search)]
+#[cycle(seek)]
 pub fn goal_search(
     table: &[Number],
     index: &[u8],
@@ -108,7 +108,7 @@ pub fn goal_search(
 // What can be met by the allowed credentials that define the goal's role. The goal is on the branch now, and `levels` levels are left
 // for what a credential asks. Where an imposed automaton is dead no word is accepted, so the branch is left; an owed one that is dead
 // can be met no more, so the search does not wait for it. No more credentials are tried once all that is wanted is found.
-#[cycle(asked_search_credential_search_definers_search_goal_search_link_search_linked_search_parts_search_shared_search)]
+#[cycle(seek)]
 fn definers_search(
     table: &[Number],
     index: &[u8],
@@ -167,7 +167,7 @@ fn definers_search(
 }
 
 // What can be met where credential i + 1 proves the goal, with some middle; `levels` levels are left for what it asks.
-#[cycle(asked_search_credential_search_definers_search_goal_search_link_search_linked_search_parts_search_shared_search)]
+#[cycle(seek)]
 pub fn credential_search(
     table: &[Number],
     index: &[u8],
@@ -209,7 +209,7 @@ pub fn credential_search(
 }
 
 // Credential i + 1, of kind 2 or 4, proves the goal: the principal is in each of the roles that it asks.
-#[cycle(asked_search_credential_search_definers_search_goal_search_link_search_linked_search_parts_search_shared_search)]
+#[cycle(seek)]
 fn parts_search(
     table: &[Number],
     index: &[u8],
@@ -266,7 +266,7 @@ fn parts_search(
 }
 
 // Credential i + 1, of kind 3, proves the goal: some middle is in its first role, and the principal in the middle's second.
-#[cycle(asked_search_credential_search_definers_search_goal_search_link_search_linked_search_parts_search_shared_search)]
+#[cycle(seek)]
 fn linked_search(
     table: &[Number],
     index: &[u8],
@@ -313,7 +313,7 @@ fn linked_search(
 }
 
 // The principal at `middle` is in the role at `first`, and the one at `person` in the role at `second`.
-#[cycle(asked_search_credential_search_definers_search_goal_search_link_search_linked_search_parts_search_shared_search)]
+#[cycle(seek)]
 fn link_search(
     table: &[Number],
     index: &[u8],
@@ -355,7 +355,7 @@ fn link_search(
 
 // All goals that are asked, which share out what is owed: two of them may meet two different automata, also where they are the same
 // goal twice. The same goal is sought once.
-#[cycle(asked_search_credential_search_definers_search_goal_search_link_search_linked_search_parts_search_shared_search)]
+#[cycle(seek)]
 fn shared_search(
     table: &[Number],
     index: &[u8],
@@ -397,7 +397,7 @@ fn shared_search(
 }
 
 // Goal k of those that are asked, where `each` has what the later ones can meet: it is sought unless one of them is the same.
-#[cycle(asked_search_credential_search_definers_search_goal_search_link_search_linked_search_parts_search_shared_search)]
+#[cycle(seek)]
 fn asked_search(
     table: &[Number],
     index: &[u8],

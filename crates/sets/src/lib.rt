@@ -1,5 +1,7 @@
 // Sets as numbers, and the tests that every definition is made of. Member i counts 2^i: a state s counts 2^s, automaton k counts
 // 2^(k-1), credential i counts 2^(i-1). specs/Sets.antt says what being a member means; proofs/Members.antt has its laws.
+#![tactic(auto)]
+
 ghost use Rattle.std.specs.Prelude.{◌≡◌, ◌^◌, ◌<◌};
 ghost use Rattle.std.specs.Int.Bits.{bit_or};
 ghost use Rattle.sets.specs.Sets.{in_set};

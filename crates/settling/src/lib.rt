@@ -1,6 +1,8 @@
 // The steps by which an automaton that a set of credentials bears is settled (docs/DEFINITION.md, "The list"): it is met, on terms
 // of a search that owe it or impose it, or done without, by leaving out the credentials that bear it. What a search found says
 // which of those that may be owed cannot be met. specs/Settling.antt says what these are; the crate admission decides by them.
+#![tactic(auto)]
+
 ghost use Rattle.std.specs.Prelude.{◌≡◌, ◌-◌, ◌^◌, ◌<◌, ◌≤◌};
 ghost use Rattle.std.specs.Int.Bits.{bit_or};
 ghost use Rattle.families.specs.Families.{all_sets};

@@ -1,5 +1,7 @@
 // The least numbers found so far, ascending, in a buffer of any length. It serves a listing that finds its sets in no order.
 // specs/Sorted.antt says what the buffer holds.
+#![tactic(auto)]
+
 ghost use Rattle.std.specs.Prelude.{◌^◌, ◌<◌};
 ghost use Rattle.sorted.specs.Sorted.{Inserted};
 

@@ -1,6 +1,8 @@
 // The types of a table of credentials and of a query, as docs/DEFINITION.md lays them out, and why an input is stopped. What an
 // accepted table and a valid query are is in specs/Checks.antt; what an accepted table gives its readers, in
 // proofs/WellFormed.antt. The crate `checks` makes the checks.
+#![tactic(auto)]
+
 pub mod layout; // layout.rt: the records of a table, by number
 
 ghost use Rattle.std.specs.Prelude.{◌≡◌};

@@ -1,6 +1,8 @@
 // The verifier's end: whether a proof record derives the queried membership by the rules of RT0 and meets every
 // automaton attached to a credential that it uses (docs/DEFINITION.md, "Records" and "Words"). Crate reader reads the record.
 // specs/Verdict.antt says what the answer means; specs/DemandTwo.antt states that it is right.
+#![tactic(auto)]
+
 mod words; // words.rt: row 14
 
 ghost use Rattle.std.specs.Prelude.{◌≡◌, [], ◌∷◌, ◌≤◌};

@@ -2,6 +2,8 @@
 // the node asks is walked in order. A walk stops as soon as it has more numbers than there is room for. On the way it is known
 // which sets of the owed automata a goal may meet: what it meets has to leave to the goals behind it what they can meet.
 // specs/First.antt says which record it is, specs/Walked.antt what is left in the cells.
+#![tactic(auto)]
+
 ghost use Rattle.std.specs.Prelude.{◌≡◌, true, [], ◌∷◌, ◌+◌, ◌^◌, ◌<◌, ◌≤◌, eqb};
 ghost use Rattle.std.specs.Int.Bits.{bit_or};
 ghost use Rattle.sets.specs.Sets.{part};
@@ -77,7 +79,7 @@ pub fn from_goal(
 
 // Walks the record of the principal at `person` in the role at `place`, such that it meets a set of the family `wanted`. It
 // goes into the cells from `at` on. Where the cell behind it lies beyond `most`, the walk may have stopped before.
-#[cycle(walk_walk_asked)]
+#[cycle(walk_on)]
 fn walk(
     table: &[Number],
     index: &[u8],
@@ -153,7 +155,7 @@ fn walk(
 
 // Walks the records of the goals that are asked, in order. Each goal may meet what leaves to those behind it what they can meet
 // of what those before it have not met.
-#[cycle(walk_walk_asked)]
+#[cycle(walk_on)]
 fn walk_asked(
     table: &[Number],
     index: &[u8],

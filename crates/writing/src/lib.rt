@@ -2,6 +2,8 @@
 // (crate walking) twice, once to count and once to write, so that a record that does not fit leaves every cell unchanged.
 // specs/Writing.antt says what the answer and the cells are; specs/Writes.antt states that this is the record that the
 // definition means.
+#![tactic(auto)]
+
 ghost use Rattle.std.specs.Prelude.{◌≡◌, true, length};
 ghost use Rattle.table.specs.Outcome.{Outcome};
 ghost use Rattle.table.specs.Holding.{WellFormed};

@@ -29,42 +29,42 @@ abbrev put-number-claims : ℕ → put-number-lts.Claims
 put-number-claims t = (put-digit-reads.Asked, put-digit-reads.Learnt, put-number-below t, put-number.Post)
 
 put-number-put-digit-requires : (t : ℕ)
-    → put-number-lts.Need-put-digit-requires (put-number-claims t) (put-number-at t) put-number.Post
-put-number-put-digit-requires t c κs = omega (arith, c.before.before.before.requires, length-one _ c.before.if1.true)
+    → put-number-lts.Need-put_digit-requires (put-number-claims t) (put-number-at t) put-number.Post
+put-number-put-digit-requires t c κs = omega (arith, c.before.before.before.requires, length-one _ c.before.if-number-lt10.true)
 
-put-number-same-length : (t : ℕ) → put-number-lts.Need-same-length (put-number-claims t) (put-number-at t) put-number.Post
-put-number-same-length t c = c.before.before.put-digit.auto.0
+put-number-same-length : (t : ℕ) → put-number-lts.Need-shape_of-out-then-number-lt10 (put-number-claims t) (put-number-at t) put-number.Post
+put-number-same-length t c = c.before.before.put_digit.auto.0
 
-put-number-returns : (t : ℕ) → put-number-lts.Need-returns (put-number-claims t) (put-number-at t) put-number.Post
-put-number-returns t c = put-single _ c.before.before.before.before.if1.true c.before.before.put-digit.ensures
+put-number-returns : (t : ℕ) → put-number-lts.Need-returns-then-number-lt10 (put-number-claims t) (put-number-at t) put-number.Post
+put-number-returns t c = put-single _ c.before.before.before.before.if-number-lt10.true c.before.before.put_digit.ensures
 
 put-number-put-number-requires : (t : ℕ)
-    → put-number-lts.Need-put-number-requires (put-number-claims t) (put-number-at t) put-number.Post
-put-number-put-number-requires t c κs = omega (arith, c.before.before.before.requires, length_more _ c.before.if1.false)
+    → put-number-lts.Need-put_number-last-requires (put-number-claims t) (put-number-at t) put-number.Post
+put-number-put-number-requires t c κs = omega (arith, c.before.before.before.requires, length_more _ c.before.if-number-lt10.false)
 
 put-number-put-digit-requires-2 : (t : ℕ)
-    → put-number-lts.Need-put-digit-requires-2 (put-number-claims t) (put-number-at t) put-number.Post
+    → put-number-lts.Need-put_digit-requires-2 (put-number-claims t) (put-number-at t) put-number.Post
 put-number-put-digit-requires-2 t c κs =
     let number = c.before.before.before in
     let test = number .before .before in
     let start = test.before.before in
     omega (arith, start.requires, number .put-number .ensures, number .put-number .auto .0, length_more _ test.if1.false)
 
-put-number-same-length-2 : (t : ℕ) → put-number-lts.Need-same-length-2 (put-number-claims t) (put-number-at t) put-number.Post
+put-number-same-length-2 : (t : ℕ) → put-number-lts.Need-shape_of-out (put-number-claims t) (put-number-at t) put-number.Post
 put-number-same-length-2 t c =
     let last = c.before.before in
     let number = last.before.before.before.before in
-    last.put-digit2.auto.0 ∙ number .put-number .auto .0
+    last.put_digit-2.auto.0 ∙ number .put-number .auto .0
 
-put-number-returns-2 : (t : ℕ) → put-number-lts.Need-returns-2 (put-number-claims t) (put-number-at t) put-number.Post
+put-number-returns-2 : (t : ℕ) → put-number-lts.Need-returns (put-number-claims t) (put-number-at t) put-number.Post
 put-number-returns-2 t c =
     let last = c.before.before in
     let number = last.before.before.before.before in
     let test = number .before .before in
-    put-more _ test.if1.false (number .put-number .ensures) last.put-digit2.ensures
+    put-more _ test.if1.false (number .put-number .ensures) last.put_digit-2.ensures
 
-pub +put-number-spec : {M : Type 1} → statement M
-+put-number-spec = close μ-put-number λ t. put-number-lts.spec (put-number-claims t) (put-number-at t)
+pub +put_number_spec : {M : Type 1} → statement M
++put_number_spec = close μ-put-number λ t. put-number-lts.spec (put-number-claims t) (put-number-at t)
     put-number.Post
     (put-number-put-digit-requires t)
     (put-number-same-length t)

@@ -37,14 +37,14 @@ read_at t = and 8 read-kinds.ps (is 8 read-kinds.ps μ-read t) read.Pre
 abbrev read_below : ℕ → In 8 read-kinds.ps
 read_below t = and 8 read-kinds.ps (falls 8 read-kinds.ps ◌<◌ μ-read t) read.Pre
 
-abbrev read-Inv-loop : read-lts.invariant-loop
+abbrev read-Inv-loop : read-lts.invariant-loop-i
 read-Inv-loop table rec levels arcs₀ used₀ nodes₀ every₀ some₀ refusal₀ stopped place below len goals rest₀ deeper i₀
     arcs used nodes every some refusal rest i =
     Onward table (levels - 1) (above deeper) goals len below.states rest₀ used₀ nodes₀ every₀ some₀
     rest used nodes every some refusal i
     × Arcs table arcs × (length arcs ≡ length arcs₀)
 
-abbrev read-μ-loop : read-lts.decreases-loop
+abbrev read-μ-loop : read-lts.decreases-loop-i
 read-μ-loop table rec levels arcs₀ used₀ nodes₀ every₀ some₀ refusal₀ stopped place below len goals rest₀ deeper i₀
     arcs used nodes every some refusal rest i =
     len - i
@@ -72,37 +72,37 @@ read-claims t = (
 module _ (t : ℕ) where
   -- where a node has been entered
   abbrev Entered : Type 0
-  Entered = read-lts.Else1 (read-claims t) (read_at t) read.Post read-Inv-loop read-μ-loop
+  Entered = read-lts.Else-stopped-ne0 (read-claims t) (read_at t) read.Post read-Inv-loop read-μ-loop
 
   abbrev start : Entered → read-lts.Start (read-claims t) (read_at t) read.Post read-Inv-loop read-μ-loop
   start at = at.before.before.before.before.before.before
 
   node : (at : Entered) → let from = (start at).args in
-      Node from.table.now from.levels from.branch from.goal from.rec.now at.before.enter.result
+      Node from.table.now from.levels from.branch from.goal from.rec.now at.before.enter-step.result
   node at =
-      let enter = at.before.enter in
-      record { table = (start at).pre.1.0; held = enter.ensures.0; enters = enter.ensures.1; goes = at.if1.left }
+      let enter = at.before.enter-step in
+      record { table = (start at).pre.1.0; held = enter.ensures.0; enters = enter.ensures.1; goes = at.if-stopped-ne0.left }
 
   -- where the row of its credential has been asked for
   abbrev Asked : Type 0
-  Asked = read-lts.After-arcs (read-claims t) (read_at t) read.Post read-Inv-loop read-μ-loop
+  Asked = read-lts.After-arcs-1 (read-claims t) (read_at t) read.Post read-Inv-loop read-μ-loop
 
   abbrev entered : Asked → Entered
   entered at = at.before.before.before.before
 
-  place : (at : Asked) → at.before.before.before.wide.result ≡ (entered at).before.enter.result.credential
-  place at = at.before.before.before.wide.ensures.0
+  place : (at : Asked) → at.before.before.before.wide-place.result ≡ (entered at).before.enter-step.result.credential
+  place at = at.before.before.before.wide-place.ensures.0
 
   -- where the sets have been moved
   abbrev Moved : Type 0
-  Moved = read-lts.After-moved (read-claims t) (read_at t) read.Post read-Inv-loop read-μ-loop
+  Moved = read-lts.After-moved-below (read-claims t) (read_at t) read.Post read-Inv-loop read-μ-loop
 
   abbrev asked : Moved → Asked
   asked at = at.before.before.before
 
   -- where all is kept that its children start from
   abbrev WordsKept : Type 0
-  WordsKept = read-lts.After-after-node (read-claims t) (read_at t) read.Post read-Inv-loop read-μ-loop
+  WordsKept = read-lts.After-after_node-kept (read-claims t) (read_at t) read.Post read-Inv-loop read-μ-loop
 
   abbrev moved : WordsKept → Moved
   moved at = at.before.before.before.before.before.before.before
@@ -113,85 +113,85 @@ module _ (t : ℕ) where
   abbrev Keeps : WordsKept → List Goal → Type 0
   Keeps at deeper =
       let from = (start (own at)).args in
-      let step = (own at).before.enter.result in
+      let step = (own at).before.enter-step.result in
       Down from.table.now from.branch from.goal from.states step from.used.now from.every.now
-      from.some.now deeper (moved at).moved.result.states at.before.before.before.before.with-credential.result
-      at.after-node.result.every at.after-node.result.some
+      from.some.now deeper (moved at).moved-below.result.states at.before.before.before.before.with_credential.result
+      at.after_node-kept.result.every at.after_node-kept.result.some
 
   keeps : (at : WordsKept) (deeper : List Goal) → let from = (start (own at)).args in
       deeper ≡ from.goal ∷ above from.branch → Keeps at deeper
   keeps at deeper branches =
       record {
         branches = branches;
-        moves = node-moves (node (own at)) (place (asked (moved at))) _ (moved at).moved.ensures;
-        uses = at.before.before.before.before.with-credential.ensures;
-        keeps = at.after-node.ensures;
+        moves = node-moves (node (own at)) (place (asked (moved at))) _ (moved at).moved-below.ensures;
+        uses = at.before.before.before.before.with_credential.ensures;
+        keeps = at.after_node-kept.ensures;
       }
 
   -- where its children are to be read
   abbrev Children : Type 0
-  Children = read-lts.After-with (read-claims t) (read_at t) read.Post read-Inv-loop read-μ-loop
+  Children = read-lts.After-with-deeper (read-claims t) (read_at t) read.Post read-Inv-loop read-μ-loop
 
   abbrev kept : Children → WordsKept
   kept at = at.before.before.before
 
-  down : (at : Children) → Keeps (kept at) (above at.with.result)
-  down at = keeps (kept at) _ at.with.ensures.1.1
+  down : (at : Children) → Keeps (kept at) (above at.with-deeper.result)
+  down at = keeps (kept at) _ at.with-deeper.ensures.1.1
 
-  deeper-fits : (at : Children) → let deeper = at.with.result in
+  deeper-fits : (at : Children) → let deeper = at.with-deeper.result in
       GoalsFit most_depth deeper.len deeper.goals × (deeper.len + ((start (own (kept at))).args.levels - 1) ≤ most_depth)
   deeper-fits at =
       let from = own (kept at) in
-      let one_more = at.with.ensures.1.0 in
-      (at.with.ensures.0, omega (arith, one_more, (start from).pre.1.1.0.1, node-level (node from)))
+      let one_more = at.with-deeper.ensures.1.0 in
+      (at.with-deeper.ensures.0, omega (arith, one_more, (start from).pre.1.1.0.1, node-level (node from)))
 
   -- where a child has been read
   abbrev Read : Type 0
-  Read = read-lts.After-arcs2 (read-claims t) (read_at t) read.Post read-Inv-loop read-μ-loop
+  Read = read-lts.After-arcs-in-loop-i-1 (read-claims t) (read_at t) read.Post read-Inv-loop read-μ-loop
 
-  abbrev inside : Read → read-lts.In-loop (read-claims t) (read_at t) read.Post read-Inv-loop read-μ-loop
+  abbrev inside : Read → read-lts.In-loop-i (read-claims t) (read_at t) read.Post read-Inv-loop read-μ-loop
   inside at = at.before.before.before.before.before.before.before.before.before
 
-read-add-nodes : (t : ℕ) → read-lts.Need-overflow-add-nodes (read-claims t) (read_at t) read.Post read-Inv-loop read-μ-loop
+read-add-nodes : (t : ℕ) → read-lts.Need-overflow_add-nodes (read-claims t) (read_at t) read.Post read-Inv-loop read-μ-loop
 read-add-nodes t c = omega (arith, c.before.before.before.before.requires.1.1.1.0)
 
-read-enter-requires : (t : ℕ) → read-lts.Need-enter-requires (read-claims t) (read_at t) read.Post read-Inv-loop read-μ-loop
+read-enter-requires : (t : ℕ) → read-lts.Need-enter-step-requires (read-claims t) (read_at t) read.Post read-Inv-loop read-μ-loop
 read-enter-requires t c κs = let pre = c.before.before.before.before.requires in (pre.1.0, pre.1.1.0)
 
-read-returns : (t : ℕ) → read-lts.Need-returns (read-claims t) (read_at t) read.Post read-Inv-loop read-μ-loop
+read-returns : (t : ℕ) → read-lts.Need-returns-then-stopped-ne0 (read-claims t) (read_at t) read.Post read-Inv-loop read-μ-loop
 read-returns t c =
     let pre = c.before.before.before.before.before.before.requires in
-    (node-halts _ _ c.before.enter.ensures.1 c.if1.true, pre.1.1.1.1.1)
+    (node-halts _ _ c.before.enter-step.ensures.1 c.if-stopped-ne0.true, pre.1.1.1.1.1)
 
-read-wide-requires : (t : ℕ) → read-lts.Need-wide-requires (read-claims t) (read_at t) read.Post read-Inv-loop read-μ-loop
+read-wide-requires : (t : ℕ) → read-lts.Need-wide-place-requires (read-claims t) (read_at t) read.Post read-Inv-loop read-μ-loop
 read-wide-requires t c κs = tt
 
-read-sub-place : (t : ℕ) → read-lts.Need-overflow-sub-place (read-claims t) (read_at t) read.Post read-Inv-loop read-μ-loop
-read-sub-place t c = omega (arith, c.wide.ensures.0, node-credential (node t c.before))
+read-sub-place : (t : ℕ) → read-lts.Need-overflow_sub-place (read-claims t) (read_at t) read.Post read-Inv-loop read-μ-loop
+read-sub-place t c = omega (arith, c.wide-place.ensures.0, node-credential (node t c.before))
 
 read-ask-requires : (t : ℕ) → read-lts.Need-ask-requires (read-claims t) (read_at t) read.Post read-Inv-loop read-μ-loop
 read-ask-requires t c κs =
     let at = c.before.before in
     let pre = (start t at).requires in
-    (pre.1.0, (pre.1.1.1.1.1, node-place (node t at) c.before.wide.ensures.0))
+    (pre.1.0, (pre.1.1.1.1.1, node-place (node t at) c.before.wide-place.ensures.0))
 
-read-moved-requires : (t : ℕ) → read-lts.Need-moved-requires (read-claims t) (read_at t) read.Post read-Inv-loop read-μ-loop
+read-moved-requires : (t : ℕ) → read-lts.Need-moved-below-requires (read-claims t) (read_at t) read.Post read-Inv-loop read-μ-loop
 read-moved-requires t c κs =
     let at = c.before.before in
     let from = entered t at in
     ((start t from).pre.1.0, (at.before.ask.ensures, node-place (node t from) (place t at)))
 
 read-with-credential-requires : (t : ℕ)
-    → read-lts.Need-with-credential-requires (read-claims t) (read_at t) read.Post read-Inv-loop read-μ-loop
+    → read-lts.Need-with_credential-requires (read-claims t) (read_at t) read.Post read-Inv-loop read-μ-loop
 read-with-credential-requires t c κs = node-credential (node t (entered t (asked t c.before.before)))
 
 read-after-node-requires : (t : ℕ)
-    → read-lts.Need-after-node-requires (read-claims t) (read_at t) read.Post read-Inv-loop read-μ-loop
+    → read-lts.Need-after_node-kept-requires (read-claims t) (read_at t) read.Post read-Inv-loop read-μ-loop
 read-after-node-requires t c κs =
     let at = asked t c.before.before.before.before.before.before in
     ((start t (entered t at)).pre.1.0, at.before.ask.ensures)
 
-read-sub-rest : (t : ℕ) → read-lts.Need-overflow-sub-rest (read-claims t) (read_at t) read.Post read-Inv-loop read-μ-loop
+read-sub-rest : (t : ℕ) → read-lts.Need-slice_bounds-rest-count (read-claims t) (read_at t) read.Post read-Inv-loop read-μ-loop
 read-sub-rest t c = omega (arith, node-long (node t (own t c)))
 
 read-part-rest-start : (t : ℕ) → read-lts.Need-slice-bounds-rest-start (read-claims t) (read_at t) read.Post read-Inv-loop read-μ-loop
@@ -200,91 +200,91 @@ read-part-rest-start t c = omega (arith, node-long (node t (own t c)))
 read-part-rest-end : (t : ℕ) → read-lts.Need-slice-bounds-rest-end (read-claims t) (read_at t) read.Post read-Inv-loop read-μ-loop
 read-part-rest-end t c = omega arith
 
-read-same-length : (t : ℕ) → read-lts.Need-same-length (read-claims t) (read_at t) read.Post read-Inv-loop read-μ-loop
-read-same-length t c = (asked t (moved t c.before.before)).arcs.given
+read-same-length : (t : ℕ) → read-lts.Need-shape_of-arcs-then-len-eq0 (read-claims t) (read_at t) read.Post read-Inv-loop read-μ-loop
+read-same-length t c = (asked t (moved t c.before.before)).arcs-1.given
 
-read-returns-2 : (t : ℕ) → read-lts.Need-returns-2 (read-claims t) (read_at t) read.Post read-Inv-loop read-μ-loop
+read-returns-2 : (t : ℕ) → read-lts.Need-returns-then-len-eq0 (read-claims t) (read_at t) read.Post read-Inv-loop read-μ-loop
 read-returns-2 t c =
     let at = c.before.before in
     let here = node t (own t at) in
     let starts = onward-starts here.held (start t (own t at)).pre.1.1.1.1.0 in
-    let read_all = children-read here (keeps t at _ refl) _ starts (omega (arith, c.if2.true)) in
+    let read_all = children-read here (keeps t at _ refl) _ starts (omega (arith, c.if-len-eq0.true)) in
     (read_all, (asked t (moved t at)).before.ask.ensures)
 
-read-with-requires : (t : ℕ) → read-lts.Need-with-requires (read-claims t) (read_at t) read.Post read-Inv-loop read-μ-loop
+read-with-requires : (t : ℕ) → read-lts.Need-with-deeper-requires (read-claims t) (read_at t) read.Post read-Inv-loop read-μ-loop
 read-with-requires t c κs =
     let from = own t c.before.before in
     let pre = (start t from).pre in
     (pre.1.1.0.0, omega (arith, pre.1.1.0.1, node-level (node t from)))
 
-read-loop-holds : (t : ℕ) → read-lts.Need-loop-init (read-claims t) (read_at t) read.Post read-Inv-loop read-μ-loop
+read-loop-holds : (t : ℕ) → read-lts.Need-loop-i-init (read-claims t) (read_at t) read.Post read-Inv-loop read-μ-loop
 read-loop-holds t c =
     let at = kept t c in
     let starts = onward-starts (node t (own t at)).held (start t (own t at)).pre.1.1.1.1.0 in
     (starts, (asked t (moved t at)).before.ask.ensures, refl)
 
-read-mul-read : (t : ℕ) → read-lts.Need-overflow-mul-read (read-claims t) (read_at t) read.Post read-Inv-loop read-μ-loop
-read-mul-read t c = omega (arith, c.before.loop.invariant.0.held.fits)
+read-mul-read : (t : ℕ) → read-lts.Need-offset_bounds-goals-i (read-claims t) (read_at t) read.Post read-Inv-loop read-μ-loop
+read-mul-read t c = omega (arith, c.before.loop-i.invariant.0.held.fits)
 
 read-array-copy-out-read : (t : ℕ)
-    → read-lts.Need-array-copy-out-read (read-claims t) (read_at t) read.Post read-Inv-loop read-μ-loop
-read-array-copy-out-read t c = omega (arith, c.before.loop.invariant.0.held.fits)
+    → read-lts.Need-bounds-goals-i (read-claims t) (read_at t) read.Post read-Inv-loop read-μ-loop
+read-array-copy-out-read t c = omega (arith, c.before.loop-i.invariant.0.held.fits)
 
-read-sub-read : (t : ℕ) → read-lts.Need-overflow-sub-read (read-claims t) (read_at t) read.Post read-Inv-loop read-μ-loop
+read-sub-read : (t : ℕ) → read-lts.Need-overflow_sub-levels (read-claims t) (read_at t) read.Post read-Inv-loop read-μ-loop
 read-sub-read t c = omega (arith, node-level (node t (own t (kept t c.before.before.before))))
 
-read-read-requires : (t : ℕ) → read-lts.Need-read-requires (read-claims t) (read_at t) read.Post read-Inv-loop read-μ-loop
+read-read-requires : (t : ℕ) → read-lts.Need-read-next-requires (read-claims t) (read_at t) read.Post read-Inv-loop read-μ-loop
 read-read-requires t c κs =
     let at = c.before.before.before.before.before.before.before.before in
     let children = at.before in
     let here = node t (own t (kept t children)) in
     let pre = (start t (own t (kept t children))).pre in
-    let inv = at.loop.invariant in
+    let inv = at.loop-i.invariant in
     let room = room-below here (down t children) _ inv.0 pre.1.1.1.0 in
     (omega (arith, pre.0, node-level here), (pre.1.0, (deeper-fits t children, (room, (inv.0.no-refusal, inv.1)))))
 
-read-same-length-2 : (t : ℕ) → read-lts.Need-same-length-2 (read-claims t) (read_at t) read.Post read-Inv-loop read-μ-loop
+read-same-length-2 : (t : ℕ) → read-lts.Need-shape_of-arcs-then-refusal-ne0 (read-claims t) (read_at t) read.Post read-Inv-loop read-μ-loop
 read-same-length-2 t c =
     let at = c.before.before.before in
     let loop = (inside t at).before in
-    at.arcs2.given ∙ loop.loop.inv.2 ∙ (asked t (moved t (kept t loop.before))).arcs.given
+    at.arcs-in-loop-i-1.given ∙ loop.loop.inv.2 ∙ (asked t (moved t (kept t loop.before))).arcs-1.given
 
-read-returns-3 : (t : ℕ) → read-lts.Need-returns-3 (read-claims t) (read_at t) read.Post read-Inv-loop read-μ-loop
+read-returns-3 : (t : ℕ) → read-lts.Need-returns-then-refusal-ne0 (read-claims t) (read_at t) read.Post read-Inv-loop read-μ-loop
 read-returns-3 t c =
     let at = c.before.before.before in
-    let child = at.before.read.ensures in
-    let less = (inside t at).loop-test.true in
+    let child = at.before.read-next.ensures in
+    let less = (inside t at).loop-i-test.true in
     let loop = (inside t at).before in
     let here = node t (own t (kept t loop.before)) in
-    (child-stops here (down t loop.before) _ loop.loop.inv.0 less child.0 c.if3.true, child.1)
+    (child-stops here (down t loop.before) _ loop.loop.inv.0 less child.0 c.if-refusal-ne0.true, child.1)
 
-read-add-i : (t : ℕ) → read-lts.Need-overflow-add-i (read-claims t) (read_at t) read.Post read-Inv-loop read-μ-loop
+read-add-i : (t : ℕ) → read-lts.Need-overflow_add-i (read-claims t) (read_at t) read.Post read-Inv-loop read-μ-loop
 read-add-i t c =
     let here = inside t c.before.before.before in
-    omega (arith, here.before.loop.inv.0.held.fits, here.loop-test.taken)
+    omega (arith, here.before.loop-i.inv.0.held.fits, here.loop-test.taken)
 
-read-loop-less : (t : ℕ) → read-lts.Need-loop-smaller (read-claims t) (read_at t) read.Post read-Inv-loop read-μ-loop
-read-loop-less t c = omega (arith, (inside t c.before.before.before).loop-test.taken)
+read-loop-less : (t : ℕ) → read-lts.Need-loop-i-smaller (read-claims t) (read_at t) read.Post read-Inv-loop read-μ-loop
+read-loop-less t c = omega (arith, (inside t c.before.before.before).loop-i-test.taken)
 
-read-loop-again : (t : ℕ) → read-lts.Need-loop-preserved (read-claims t) (read_at t) read.Post read-Inv-loop read-μ-loop
+read-loop-again : (t : ℕ) → read-lts.Need-loop-i-preserved (read-claims t) (read_at t) read.Post read-Inv-loop read-μ-loop
 read-loop-again t c =
     let at = c.before.before.before in
-    let child = at.before.read.ensures in
-    let inv = (inside t at).before.loop.invariant in
-    (onward-goes inv.0 (inside t at).loop-test.true child.0 c.if3.false, child.1, at.arcs2.given ∙ inv.2)
+    let child = at.before.read-next.ensures in
+    let inv = (inside t at).before.loop-i.invariant in
+    (onward-goes inv.0 (inside t at).loop-i-test.true child.0 c.if-refusal-ne0.false, child.1, at.arcs-in-loop-i-1.given ∙ inv.2)
 
-read-same-length-3 : (t : ℕ) → read-lts.Need-same-length-3 (read-claims t) (read_at t) read.Post read-Inv-loop read-μ-loop
-read-same-length-3 t c = c.before.loop.invariant.2 ∙ (asked t (moved t (kept t c.before.before))).arcs.given
+read-same-length-3 : (t : ℕ) → read-lts.Need-shape_of-arcs (read-claims t) (read_at t) read.Post read-Inv-loop read-μ-loop
+read-same-length-3 t c = c.before.loop-i.invariant.2 ∙ (asked t (moved t (kept t c.before.before))).arcs-1.given
 
-read-returns-4 : (t : ℕ) → read-lts.Need-returns-4 (read-claims t) (read_at t) read.Post read-Inv-loop read-μ-loop
+read-returns-4 : (t : ℕ) → read-lts.Need-returns (read-claims t) (read_at t) read.Post read-Inv-loop read-μ-loop
 read-returns-4 t c =
     let children = c.before.before in
     let here = node t (own t (kept t children)) in
-    let inv = c.before.loop.invariant in
-    (children-read here (down t children) _ inv.0 c.loop-test.false, inv.1)
+    let inv = c.before.loop-i.invariant in
+    (children-read here (down t children) _ inv.0 c.loop-i-test.false, inv.1)
 
-pub +read-spec : {M : Type 1} → statement M
-+read-spec = close μ-read λ t. read-lts.spec (read-claims t) (read_at t)
+pub +read_spec : {M : Type 1} → statement M
++read_spec = close μ-read λ t. read-lts.spec (read-claims t) (read_at t)
     read.Post
     read-Inv-loop
     read-μ-loop

@@ -41,46 +41,46 @@ below-claims t = (
 abbrev below-needs : (below-lts.Claims → In 7 below-kinds.ps → Out 7 below-kinds.ps below-kinds.r → Type 0) → Type 0
 below-needs need = (t : ℕ) → need (below-claims t) (below_at t) below.Post
 
-below-decide-requires : below-needs below-lts.Need-decide-requires
+below-decide-requires : below-needs below-lts.Need-decide-among-requires
 below-decide-requires t c κs = search rules
 
-below-same-length : below-needs below-lts.Need-same-length
+below-same-length : below-needs below-lts.Need-shape_of-cuts-then-among-eq0
 below-same-length t c = search rules
 
-below-same-length-2 : below-needs below-lts.Need-same-length-2
+below-same-length-2 : below-needs below-lts.Need-shape_of-sets-then-among-eq0
 below-same-length-2 t c = search rules
 
-below-returns : below-needs below-lts.Need-returns
+below-returns : below-needs below-lts.Need-returns-then-among-eq0
 below-returns t c =
-    let decide = c.before.before.before.before.before.decide in
+    let decide = c.before.before.before.before.before.decide-among in
     let decide = decide in
-    decide.ensures.over c.if1.true
+    decide.ensures.over c.if-among-eq0.true
 
-below-highest-requires : below-needs below-lts.Need-highest-requires
+below-highest-requires : below-needs below-lts.Need-highest-next-requires
 below-highest-requires t c κs =
     let pre = c.before.before.before.before.before.before.before.before.before.before.before.before.before.before.before.requires in
-    let decide = c.before.before.before.before.before.decide in
+    let decide = c.before.before.before.before.before.decide-among in
     let pre = pre in
     let decide = decide in
-    (c.if1.false, left-few pre.1.1.1.0 decide.ensures pre.1.0.well_formed.sized.counted.few_credentials)
+    (c.if-among-eq0.false, left-few pre.1.1.1.0 decide.ensures pre.1.0.well_formed.sized.counted.few_credentials)
 
-below-cast-rest : below-needs below-lts.Need-overflow-cast-rest
+below-cast-rest : below-needs below-lts.Need-overflow_cast-rest
 below-cast-rest t c = search rules
 
-below-shl-rest : below-needs below-lts.Need-overflow-shl-rest
+below-shl-rest : below-needs below-lts.Need-overflow_shl-rest
 below-shl-rest t c = search rules
 
-below-with-requires : below-needs below-lts.Need-with-requires
+below-with-requires : below-needs below-lts.Need-with-more-requires
 below-with-requires t c κs = search rules
 
 below-below-requires : below-needs below-lts.Need-below-requires
 below-below-requires t c κs =
     let at-highest = c.before.before.before.before.before in
-    let highest = at-highest.highest in
+    let highest = at-highest.highest-next in
     let at-if1 = at-highest.before in
-    let if1 = at-if1.if1 in
+    let if1 = at-if1.if-among-eq0 in
     let at-decide = at-if1.before.before.before.before.before in
-    let decide = at-decide.decide in
+    let decide = at-decide.decide-among in
     let start = at-decide.before.before.before.before.before.before.before.before.before.before in
     let pre = start.requires in
     let splits = decided-splits pre.1.1.1.0 decide.ensures if1.false pre.1.1.1.1 _ highest.ensures.0 in
@@ -94,13 +94,13 @@ below-below-requires-2 t c κs =
     let at-below = c.before.before.before.before.before.before.before.before in
     let below = at-below.below in
     let at_with = at-below.before.before.before.before.before in
-    let with = at_with.with in
+    let with = at_with.with-more in
     let at-highest = at_with.before in
-    let highest = at-highest.highest in
+    let highest = at-highest.highest-next in
     let at-if1 = at-highest.before in
-    let if1 = at-if1.if1 in
+    let if1 = at-if1.if-among-eq0 in
     let at-decide = at-if1.before.before.before.before.before in
-    let decide = at-decide.decide in
+    let decide = at-decide.decide-among in
     let start = at-decide.before.before.before.before.before.before.before.before.before.before in
     let pre = start.requires in
     let splits = decided-splits pre.1.1.1.0 decide.ensures if1.false pre.1.1.1.1 _ highest.ensures.0 in
@@ -118,26 +118,26 @@ below-below-requires-2 t c κs =
       ),
     )
 
-below-same-length-3 : below-needs below-lts.Need-same-length-3
+below-same-length-3 : below-needs below-lts.Need-shape_of-cuts
 below-same-length-3 t c = search rules
 
-below-same-length-4 : below-needs below-lts.Need-same-length-4
+below-same-length-4 : below-needs below-lts.Need-shape_of-sets
 below-same-length-4 t c = search rules
 
-below-returns-2 : below-needs below-lts.Need-returns-2
+below-returns-2 : below-needs below-lts.Need-returns
 below-returns-2 t c =
     let at-below2 = c.before.before.before.before in
-    let below2 = at-below2.below2 in
+    let below2 = at-below2.below-2 in
     let at-below = at-below2.before.before.before.before.before.before.before.before.before in
     let below = at-below.below in
     let at_with = at-below.before.before.before.before.before in
-    let with = at_with.with in
+    let with = at_with.with-more in
     let at-highest = at_with.before in
-    let highest = at-highest.highest in
+    let highest = at-highest.highest-next in
     let at-if1 = at-highest.before in
-    let if1 = at-if1.if1 in
+    let if1 = at-if1.if-among-eq0 in
     let at-decide = at-if1.before.before.before.before.before in
-    let decide = at-decide.decide in
+    let decide = at-decide.decide-among in
     let start = at-decide.before.before.before.before.before.before.before.before.before.before in
     let pre = start.requires in
     let splits = decided-splits pre.1.1.1.0 decide.ensures if1.false pre.1.1.1.1 _ highest.ensures.0 in
@@ -145,8 +145,8 @@ below-returns-2 t c =
     ended-from decide.ensures if1.false
     (splits-ended (omega arith) splits below.ensures with.ensures below2.ensures)
 
-pub +below-spec : {M : Type 1} → statement M
-+below-spec = close μ-below λ t. below-lts.spec (below-claims t) (below_at t)
+pub +below_spec : {M : Type 1} → statement M
++below_spec = close μ-below λ t. below-lts.spec (below-claims t) (below_at t)
     below.Post
     (below-decide-requires t)
     (below-same-length t)

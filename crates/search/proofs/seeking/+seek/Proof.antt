@@ -37,28 +37,28 @@ use Rattle.search.proofs.Answering.{roles-stand, same-judged, second-decides, sh
 use Rattle.search.proofs.Answering.{word-judged, zero-failed, zero-passes, zero-proved}
 use Rattle.search.proofs.seeking.asked_search.Reads as asked-search
 use Rattle.search.proofs.seeking.asked_search.Kinds as asked-search-kinds
-use Rattle.search.proofs.seeking.+asked_search_credential_search_definers_search_goal_search_link_search_linked_search_parts_search_shared_search.Lts-asked_search as asked-search-lts
+use Rattle.search.proofs.seeking.+seek.Lts-asked_search as asked-search-lts
 use Rattle.search.proofs.seeking.definers_search.Reads as definers-search
 use Rattle.search.proofs.seeking.definers_search.Kinds as definers-search-kinds
-use Rattle.search.proofs.seeking.+asked_search_credential_search_definers_search_goal_search_link_search_linked_search_parts_search_shared_search.Lts-definers_search as definers-search-lts
+use Rattle.search.proofs.seeking.+seek.Lts-definers_search as definers-search-lts
 use Rattle.search.proofs.seeking.goal_search.Reads as goal-search
 use Rattle.search.proofs.seeking.goal_search.Kinds as goal-search-kinds
-use Rattle.search.proofs.seeking.+asked_search_credential_search_definers_search_goal_search_link_search_linked_search_parts_search_shared_search.Lts-goal_search as goal-search-lts
+use Rattle.search.proofs.seeking.+seek.Lts-goal_search as goal-search-lts
 use Rattle.search.proofs.seeking.link_search.Reads as link-search
 use Rattle.search.proofs.seeking.link_search.Kinds as link-search-kinds
-use Rattle.search.proofs.seeking.+asked_search_credential_search_definers_search_goal_search_link_search_linked_search_parts_search_shared_search.Lts-link_search as link-search-lts
+use Rattle.search.proofs.seeking.+seek.Lts-link_search as link-search-lts
 use Rattle.search.proofs.seeking.linked_search.Reads as linked-search
 use Rattle.search.proofs.seeking.linked_search.Kinds as linked-search-kinds
-use Rattle.search.proofs.seeking.+asked_search_credential_search_definers_search_goal_search_link_search_linked_search_parts_search_shared_search.Lts-linked_search as linked-search-lts
+use Rattle.search.proofs.seeking.+seek.Lts-linked_search as linked-search-lts
 use Rattle.search.proofs.seeking.parts_search.Reads as parts-search
 use Rattle.search.proofs.seeking.parts_search.Kinds as parts-search-kinds
-use Rattle.search.proofs.seeking.+asked_search_credential_search_definers_search_goal_search_link_search_linked_search_parts_search_shared_search.Lts-parts_search as parts-search-lts
+use Rattle.search.proofs.seeking.+seek.Lts-parts_search as parts-search-lts
 use Rattle.search.proofs.seeking.shared_search.Reads as shared-search
 use Rattle.search.proofs.seeking.shared_search.Kinds as shared-search-kinds
-use Rattle.search.proofs.seeking.+asked_search_credential_search_definers_search_goal_search_link_search_linked_search_parts_search_shared_search.Lts-shared_search as shared-search-lts
+use Rattle.search.proofs.seeking.+seek.Lts-shared_search as shared-search-lts
 use Rattle.search.proofs.seeking.credential_search.Reads as credential-search
 use Rattle.search.proofs.seeking.credential_search.Kinds as credential-search-kinds
-use Rattle.search.proofs.seeking.+asked_search_credential_search_definers_search_goal_search_link_search_linked_search_parts_search_shared_search.Lts-credential_search as credential-search-lts
+use Rattle.search.proofs.seeking.+seek.Lts-credential_search as credential-search-lts
 use Rattle.failures.proofs.joined.Reads as joined-reads
 use Rattle.failures.proofs.keep.Reads as keep-reads
 use Rattle.failures.proofs.slot.Reads as slot-reads
@@ -97,10 +97,10 @@ use Rattle.search.proofs.seeking.proved.Reads as proved-reads
 use Rattle.search.proofs.seeking.recalled.Reads as recalled-reads
 use Rattle.table.proofs.layout.credential.Reads as credential-reads
 use Rattle.table.proofs.layout.credentials.Reads as credentials-reads
-use Rattle.search.proofs.seeking.+asked_search_credential_search_definers_search_goal_search_link_search_linked_search_parts_search_shared_search.{
+use Rattle.search.proofs.seeking.+seek.{
   statement,
 }
-use Rattle.search.proofs.seeking.+asked_search_credential_search_definers_search_goal_search_link_search_linked_search_parts_search_shared_search.Tie.{
+use Rattle.search.proofs.seeking.+seek.Tie.{
   close,
 }
 
@@ -230,54 +230,54 @@ asked-search-place place t = place (asked-search-claims t) (asked-search-at t) a
 abbrev asked-search-needs : asked-search-Place → Type 0
 asked-search-needs need = (t : ℕ) → asked-search-place need t
 
-asked-search-same-later-requires : asked-search-needs asked-search-lts.Need-same-later-requires
+asked-search-same-later-requires : asked-search-needs asked-search-lts.Need-same_later-same-requires
 asked-search-same-later-requires t c κs = search rules
 
-asked-search-mul-answered : asked-search-needs asked-search-lts.Need-overflow-mul-answered
+asked-search-mul-answered : asked-search-needs asked-search-lts.Need-offset_bounds-each-same
 asked-search-mul-answered t c = search rules
 
-asked-search-array-copy-out-answered : asked-search-needs asked-search-lts.Need-array-copy-out-answered
+asked-search-array-copy-out-answered : asked-search-needs asked-search-lts.Need-bounds-each-same
 asked-search-array-copy-out-answered t c = search rules
 
 asked-search-answered-requires : asked-search-needs asked-search-lts.Need-answered-requires
 asked-search-answered-requires t c κs = search rules
 
-asked-search-returns : asked-search-needs asked-search-lts.Need-returns
+asked-search-returns : asked-search-needs asked-search-lts.Need-returns-then-same-k
 asked-search-returns t c =
     let start = c.before.before.before.before.before.before.before.before.before.requires.1 in
     let (searched, (fits_all, ((there, room), (later, remembered)))) = start in
     let (found-is, blocking-is) = c.answered.ensures in
-    (rw (found-is, blocking-is) (same-judged _ _ _ _ _ _ _ _ _ c.before.before.before.same-later.ensures c.before.before.if1.true c.before.before.before.before.before.before.before.before.before.args.t8 later), remembered)
+    (rw (found-is, blocking-is) (same-judged _ _ _ _ _ _ _ _ _ c.before.before.before.same_later-same.ensures c.before.before.if-same-k.true c.before.before.before.before.before.before.before.before.before.args.t8 later), remembered)
 
-asked-search-mul-goal-search : asked-search-needs asked-search-lts.Need-overflow-mul-goal-search
+asked-search-mul-goal-search : asked-search-needs asked-search-lts.Need-offset_bounds-persons-k
 asked-search-mul-goal-search t c = search rules
 
-asked-search-array-read-goal-search : asked-search-needs asked-search-lts.Need-array-read-goal-search
+asked-search-array-read-goal-search : asked-search-needs asked-search-lts.Need-bounds-persons-k
 asked-search-array-read-goal-search t c = search rules
 
-asked-search-mul-goal-search-2 : asked-search-needs asked-search-lts.Need-overflow-mul-goal-search-2
+asked-search-mul-goal-search-2 : asked-search-needs asked-search-lts.Need-offset_bounds-places-k
 asked-search-mul-goal-search-2 t c = search rules
 
-asked-search-array-read-goal-search-2 : asked-search-needs asked-search-lts.Need-array-read-goal-search-2
+asked-search-array-read-goal-search-2 : asked-search-needs asked-search-lts.Need-bounds-places-k
 asked-search-array-read-goal-search-2 t c = search rules
 
-asked-search-goal-search-requires : asked-search-needs asked-search-lts.Need-goal-search-requires
+asked-search-goal-search-requires : asked-search-needs asked-search-lts.Need-goal_search-requires
 asked-search-goal-search-requires t c κs =
     let (searched, ((fits, stand), ((there, room), (later, remembered)))) = c.before.before.before.before.before.before.before.before.before.before.requires.1 in
     (omega (arith, c.before.before.before.before.before.before.before.before.before.before.requires.0), (searched, (asked-stands _ stand _ there, remembered)))
 
-asked-search-same-length : asked-search-needs asked-search-lts.Need-same-length
+asked-search-same-length : asked-search-needs asked-search-lts.Need-shape_of-memory
 asked-search-same-length t c = search rules
 
-asked-search-returns-2 : asked-search-needs asked-search-lts.Need-returns-2
+asked-search-returns-2 : asked-search-needs asked-search-lts.Need-returns
 asked-search-returns-2 t c = search rules
 
-abbrev definers-search-Inv-loop : definers-search-lts.invariant-loop
+abbrev definers-search-Inv-loop : definers-search-lts.invariant-loop-i
 definers-search-Inv-loop table index arcs rows terms wanted person place levels above memory₀ below most n found₀ blocking₀ i₀ memory found blocking i =
     (i ≤ n) × (Judged terms.owed (tried_test table terms.allowed terms.constraints terms.owed levels below.states person place i) above found blocking
     × ((length memory ≡ length memory₀) × Remembered table terms.allowed terms.constraints terms.owed memory))
 
-abbrev definers-search-μ-loop : definers-search-lts.decreases-loop
+abbrev definers-search-μ-loop : definers-search-lts.decreases-loop-i
 definers-search-μ-loop table index arcs rows terms wanted person place levels above memory₀ below most n found₀ blocking₀ i₀ memory found blocking i =
     n - i
 
@@ -285,7 +285,7 @@ definers-search-μ-loop table index arcs rows terms wanted person place levels a
 abbrev definers-search-Place : Type 1
 definers-search-Place =
     definers-search-lts.Claims → In 5 definers-search-kinds.ps → Out 5 definers-search-kinds.ps definers-search-kinds.r
-    → definers-search-lts.invariant-loop → definers-search-lts.decreases-loop → Type 0
+    → definers-search-lts.invariant-loop-i → definers-search-lts.decreases-loop-i → Type 0
 
 abbrev definers-search-place : definers-search-Place → ℕ → Type 0
 definers-search-place place t = place (definers-search-claims t) (definers-search-at t) definers-search.Post definers-search-Inv-loop definers-search-μ-loop
@@ -293,10 +293,10 @@ definers-search-place place t = place (definers-search-claims t) (definers-searc
 abbrev definers-search-needs : definers-search-Place → Type 0
 definers-search-needs need = (t : ℕ) → definers-search-place need t
 
-definers-search-stepped-requires : definers-search-needs definers-search-lts.Need-stepped-requires
+definers-search-stepped-requires : definers-search-needs definers-search-lts.Need-stepped-below-requires
 definers-search-stepped-requires t c κs = search rules
 
-definers-search-any-dead-requires : definers-search-needs definers-search-lts.Need-any-dead-requires
+definers-search-any-dead-requires : definers-search-needs definers-search-lts.Need-any_dead-requires
 definers-search-any-dead-requires t c κs = search rules
 
 definers-search-nothing-requires : definers-search-needs definers-search-lts.Need-nothing-requires
@@ -305,42 +305,42 @@ definers-search-nothing-requires t c κs = search rules
 definers-search-failed-requires : definers-search-needs definers-search-lts.Need-failed-requires
 definers-search-failed-requires t c κs = search rules
 
-definers-search-returns : definers-search-needs definers-search-lts.Need-returns
+definers-search-returns : definers-search-needs definers-search-lts.Need-returns-then-any_dead
 definers-search-returns t c =
     let (searched, ((stands, there), remembered)) = c.before.before.before.before.before.before.before.before.before.before.before.requires.1 in
-    let (k, imposed, dead) = meets-common _ _ (sym c.before.before.before.any-dead.ensures ∙ c.before.before.if1.true) in (
-      sought-moved _ _ _ _ _ _ _ _ c.before.before.before.before.stepped.ensures
+    let (k, imposed, dead) = meets-common _ _ (sym c.before.before.before.any_dead.ensures ∙ c.before.before.if-any_dead.true) in (
+      sought-moved _ _ _ _ _ _ _ _ c.before.before.before.before.stepped-below.ensures
           (sought-judged (judged-never c.failed.ensures.0 (c.failed.ensures.1 ∙ c.before.nothing.ensures) (λ X owed b.
-          dead-tried _ _ _ _ _ _ c.before.before.before.before.stepped.ensures X (part-le X _ owed) k (imposed-demanded _ X k imposed) dead _ b _))),
+          dead-tried _ _ _ _ _ _ c.before.before.before.before.stepped-below.ensures X (part-le X _ owed) k (imposed-demanded _ X k imposed) dead _ b _))),
       remembered,
     )
 
-definers-search-left-owed-requires : definers-search-needs definers-search-lts.Need-left-owed-requires
+definers-search-left-owed-requires : definers-search-needs definers-search-lts.Need-left_owed-most-requires
 definers-search-left-owed-requires t c κs = search rules
 
-definers-search-credentials-requires : definers-search-needs definers-search-lts.Need-credentials-requires
+definers-search-credentials-requires : definers-search-needs definers-search-lts.Need-credentials-n-requires
 definers-search-credentials-requires t c κs = search rules
 
-definers-search-none-requires : definers-search-needs definers-search-lts.Need-none-requires
+definers-search-none-requires : definers-search-needs definers-search-lts.Need-none-found-requires
 definers-search-none-requires t c κs = search rules
 
-definers-search-nothing-requires-2 : definers-search-needs definers-search-lts.Need-nothing-requires-2
+definers-search-nothing-requires-2 : definers-search-needs definers-search-lts.Need-nothing-blocking-requires
 definers-search-nothing-requires-2 t c κs = search rules
 
-definers-search-loop-holds : definers-search-needs definers-search-lts.Need-loop-init
+definers-search-loop-holds : definers-search-needs definers-search-lts.Need-loop-i-init
 definers-search-loop-holds t c =
     let (searched, ((stands, there), remembered)) = c.before.before.before.before.before.before.before.before.before.before.before.before.before.requires.1 in (
       omega arith,
-      (tried-none searched.indexed stands there _ _ _ _ _ c.before.none.ensures c.nothing2.ensures, (refl, remembered)),
+      (tried-none searched.indexed stands there _ _ _ _ _ c.before.none-found.ensures c.nothing-blocking.ensures, (refl, remembered)),
     )
 
-definers-search-may-use-requires : definers-search-needs definers-search-lts.Need-may-use-requires
+definers-search-may-use-requires : definers-search-needs definers-search-lts.Need-may_use-requires
 definers-search-may-use-requires t c κs =
     let (searched, ((stands, there), remembered)) = c.before.before.before.before.before.before.before.before.before.before.before.before.before.before.before.requires.1 in
     let few = searched.well_formed.sized.counted.few_credentials in
-    (searched.indexed.placed, omega (arith, c.loop-test.true, c.before.before.before.before.credentials.ensures.same, few))
+    (searched.indexed.placed, omega (arith, c.loop-i-test.true, c.before.before.before.before.credentials-n.ensures.same, few))
 
-definers-search-credential-search-requires : definers-search-needs definers-search-lts.Need-credential-search-requires
+definers-search-credential-search-requires : definers-search-needs definers-search-lts.Need-credential_search-answer-requires
 definers-search-credential-search-requires t c κs =
     let (searched, ((stands, there), remembered)) = c.before.before.before.before.before.before.before.before.before.before.before.before.before.before.before.before.before.before.requires.1 in (
       omega (arith, c.before.before.before.before.before.before.before.before.before.before.before.before.before.before.before.before.before.before.requires.0),
@@ -348,64 +348,64 @@ definers-search-credential-search-requires t c κs =
         searched,
         (
           record {
-            there = omega (arith, c.before.before.before.loop-test.true, c.before.before.before.before.before.before.before.credentials.ensures.same);
+            there = omega (arith, c.before.before.before.loop-i-test.true, c.before.before.before.before.before.before.before.credentials-n.ensures.same);
             who = stands.there;
             named = stands.named;
           },
-          c.before.before.before.before.loop.invariant.1.1.1,
+          c.before.before.before.before.loop-i.invariant.1.1.1,
         ),
       ),
     )
 
-definers-search-or-requires : definers-search-needs definers-search-lts.Need-or-requires
+definers-search-or-requires : definers-search-needs definers-search-lts.Need-or-found-requires
 definers-search-or-requires t c κs = search rules
 
-definers-search-is-enough-requires : definers-search-needs definers-search-lts.Need-is-enough-requires
+definers-search-is-enough-requires : definers-search-needs definers-search-lts.Need-is_enough-requires
 definers-search-is-enough-requires t c κs = search rules
 
-definers-search-nothing-requires-3 : definers-search-needs definers-search-lts.Need-nothing-requires-3
+definers-search-nothing-requires-3 : definers-search-needs definers-search-lts.Need-nothing-requires-then-is_enough
 definers-search-nothing-requires-3 t c κs = search rules
 
 definers-search-answered-requires : definers-search-needs definers-search-lts.Need-answered-requires
 definers-search-answered-requires t c κs = search rules
 
-definers-search-same-length : definers-search-needs definers-search-lts.Need-same-length
+definers-search-same-length : definers-search-needs definers-search-lts.Need-shape_of-memory-then-is_enough
 definers-search-same-length t c =
-    c.before.before.before.before.before.before.memory.given ∙ c.before.before.before.before.before.before.before.before.before.before.before.before.loop.invariant.1.1.0
+    c.before.before.before.before.before.before.memory-1.given ∙ c.before.before.before.before.before.before.before.before.before.before.before.before.loop-i.invariant.1.1.0
 
-definers-search-returns-2 : definers-search-needs definers-search-lts.Need-returns-2
+definers-search-returns-2 : definers-search-needs definers-search-lts.Need-returns-then-is_enough
 definers-search-returns-2 t c =
     let (searched, ((stands, there), remembered)) = c.before.before.before.before.before.before.before.before.before.before.before.before.before.before.before.before.before.before.before.before.before.before.before.before.before.before.requires.1 in
     let (found-is, blocking-is) = c.answered.ensures in
-    let (so_far, before) = c.before.before.before.before.before.before.before.before.before.before.before.before.loop.invariant.1 in
-    let (own, now-remembered) = c.before.before.before.before.before.before.before.credential-search.ensures in
-    let finds = tried-finds searched.indexed stands there _ _ _ _ _ _ (omega (arith, c.before.before.before.before.before.before.before.before.before.before.before.loop-test.true, c.before.before.before.before.before.before.before.before.before.before.before.before.before.before.before.credentials.ensures.same)) c.before.before.before.before.before.before.before.before.before.before.may-use.ensures c.before.before.before.before.before.before.before.before.before.if2.true c.before.before.before.before.or.ensures
+    let (so_far, before) = c.before.before.before.before.before.before.before.before.before.before.before.before.loop-i.invariant.1 in
+    let (own, now-remembered) = c.before.before.before.before.before.before.before.credential_search-answer.ensures in
+    let finds = tried-finds searched.indexed stands there _ _ _ _ _ _ (omega (arith, c.before.before.before.before.before.before.before.before.before.before.before.loop-i-test.true, c.before.before.before.before.before.before.before.before.before.before.before.before.before.before.before.credentials-n.ensures.same)) c.before.before.before.before.before.before.before.before.before.before.may_use.ensures c.before.before.before.before.before.before.before.before.before.if-may_use.true c.before.before.before.before.or-found.ensures
     so_far.finds own.finds in (
-      rw (found-is, blocking-is) (sought-moved _ _ _ _ _ _ _ _ c.before.before.before.before.before.before.before.before.before.before.before.before.before.before.before.before.before.before.before.stepped.ensures
-          (sought-enough _ _ _ _ remembered.few _ _ _ _ c.before.before.before.before.before.before.before.before.before.before.before.before.before.before.before.before.before.before.before.stepped.ensures c.before.before.before.before.before.before.before.before.before.before.before.before.before.before.before.before.left-owed.ensures c.before.before.before.is-enough.ensures
-          c.before.before.if3.true finds c.before.nothing3.ensures)),
+      rw (found-is, blocking-is) (sought-moved _ _ _ _ _ _ _ _ c.before.before.before.before.before.before.before.before.before.before.before.before.before.before.before.before.before.before.before.stepped-below.ensures
+          (sought-enough _ _ _ _ remembered.few _ _ _ _ c.before.before.before.before.before.before.before.before.before.before.before.before.before.before.before.before.before.before.before.stepped-below.ensures c.before.before.before.before.before.before.before.before.before.before.before.before.before.before.before.before.left_owed-most.ensures c.before.before.before.is_enough.ensures
+          c.before.before.if-is_enough.true finds c.before.nothing-then-is_enough.ensures)),
       now-remembered,
     )
 
-definers-search-joined-requires : definers-search-needs definers-search-lts.Need-joined-requires
+definers-search-joined-requires : definers-search-needs definers-search-lts.Need-joined-blocking-requires
 definers-search-joined-requires t c κs = search rules
 
-definers-search-add-i : definers-search-needs definers-search-lts.Need-overflow-add-i
+definers-search-add-i : definers-search-needs definers-search-lts.Need-overflow_add-i
 definers-search-add-i t c = search rules
 
-definers-search-loop-less : definers-search-needs definers-search-lts.Need-loop-smaller
+definers-search-loop-less : definers-search-needs definers-search-lts.Need-loop-i-smaller
 definers-search-loop-less t c = search rules
 
-definers-search-loop-again : definers-search-needs definers-search-lts.Need-loop-preserved
+definers-search-loop-again : definers-search-needs definers-search-lts.Need-loop-i-preserved
 definers-search-loop-again t c =
     let at-loop = c.before.before.before in
     let at-credentials = at-loop.before.before.before in
     let start = c.before.before.before.before.before.before.before.before.before.before.before.before.before.before.before.before.before in
     let (searched, ((stands, there), remembered)) = start.requires.1 in
-    let (so_far, before) = at-loop.loop.invariant.1 in
-    let next = c.before.before.loop-test.true in
-    let may-use = c.before.may-use.ensures in
-    let all = at-credentials.credentials.ensures.same in (
+    let (so_far, before) = at-loop.loop-i.invariant.1 in
+    let next = c.before.before.loop-i-test.true in
+    let may-use = c.before.may_use.ensures in
+    let all = at-credentials.credentials-n.ensures.same in (
       omega (arith, next),
       ⊎_elim
           (λ way. (
@@ -420,23 +420,23 @@ definers-search-loop-again t c =
                 way.0.left so_far),
             rw way.1 before,
           ))
-          c.if2.branch,
+          c.if-may_use.branch,
     )
 
 definers-search-answered-requires-2 : definers-search-needs definers-search-lts.Need-answered-requires-2
 definers-search-answered-requires-2 t c κs = search rules
 
-definers-search-same-length-2 : definers-search-needs definers-search-lts.Need-same-length-2
+definers-search-same-length-2 : definers-search-needs definers-search-lts.Need-shape_of-memory
 definers-search-same-length-2 t c =
-    c.before.before.loop.invariant.1.1.0
+    c.before.before.loop-i.invariant.1.1.0
 
-definers-search-returns-3 : definers-search-needs definers-search-lts.Need-returns-3
+definers-search-returns-3 : definers-search-needs definers-search-lts.Need-returns
 definers-search-returns-3 t c =
     let (searched, ((stands, there), remembered)) = c.before.before.before.before.before.before.before.before.before.before.before.before.before.before.before.before.requires.1 in
-    let (found-is, blocking-is) = c.answered2.ensures in
-    let (so_far, (same, now-remembered)) = c.before.before.loop.invariant.1 in (
-      rw (found-is, blocking-is) (sought-moved _ _ _ _ _ _ _ _ c.before.before.before.before.before.before.before.before.before.stepped.ensures
-          (sought-judged (tried-all searched.indexed stands there _ _ _ _ _ _ (omega (arith, c.before.loop-test.false, c.before.before.loop.invariant.0, c.before.before.before.before.before.credentials.ensures.same)) so_far))),
+    let (found-is, blocking-is) = c.answered-2.ensures in
+    let (so_far, (same, now-remembered)) = c.before.before.loop-i.invariant.1 in (
+      rw (found-is, blocking-is) (sought-moved _ _ _ _ _ _ _ _ c.before.before.before.before.before.before.before.before.before.stepped-below.ensures
+          (sought-judged (tried-all searched.indexed stands there _ _ _ _ _ _ (omega (arith, c.before.loop-i-test.false, c.before.before.loop-i.invariant.0, c.before.before.before.before.before.credentials-n.ensures.same)) so_far))),
       now-remembered,
     )
 
@@ -460,27 +460,27 @@ module _ (t : ℕ) (at : goal-search-place goal-search-lts.Start t) where
   goal-search-eight = search rules
 
 -- the goal is not on the branch, and has a slot
-module _ (t : ℕ) (at : goal-search-place goal-search-lts.After-slot t) where
+module _ (t : ℕ) (at : goal-search-place goal-search-lts.After-slot-slot t) where
   abbrev goal-search-start : goal-search-place goal-search-lts.Start t
   goal-search-start = at.before.before.before.before.before.before.before.before.before.before.before.before
 
-  goal-search-inside : SlotIn goal-search-start.args.memory.now at.slot.result
-  goal-search-inside = at.before.slot-count.ensures.inside _ at.slot.ensures
+  goal-search-inside : SlotIn goal-search-start.args.memory.now at.slot-slot.result
+  goal-search-inside = at.before.slot_count.ensures.inside _ at.slot-slot.ensures
 
   goal-search-may : let from = goal-search-start.args in Open from.table.now from.levels from.person from.place
   goal-search-may =
       let (searched, (stands, remembered)) = goal-search-start.pre.1 in
-      opened searched stands at.before.before.before.before.before.before.may-be-proved.ensures
-      at.before.before.before.before.before.if1.left
+      opened searched stands at.before.before.before.before.before.before.may_be_proved.ensures
+      at.before.before.before.before.before.if-not-may_be_proved.left
 
   goal-search-new : let from = goal-search-start.args in pair_above from.above from.person from.place ≡ false
-  goal-search-new = sym at.before.before.before.before.has.ensures ∙ at.before.before.before.if2.left
+  goal-search-new = sym at.before.before.before.before.has.ensures ∙ at.before.before.before.if-has.left
 
 -- the credentials that define its role have been tried
-abbrev goal-search-slot : (t : ℕ) → goal-search-place goal-search-lts.After-definers-search t → goal-search-place goal-search-lts.After-slot t
+abbrev goal-search-slot : (t : ℕ) → goal-search-place goal-search-lts.After-definers_search-answer t → goal-search-place goal-search-lts.After-slot-slot t
 goal-search-slot t at = at.before.before.before.before.before.before
 
-goal-search-may-be-proved-requires : goal-search-needs goal-search-lts.Need-may-be-proved-requires
+goal-search-may-be-proved-requires : goal-search-needs goal-search-lts.Need-may_be_proved-requires
 goal-search-may-be-proved-requires t c κs = search rules
 
 goal-search-nothing-requires : goal-search-needs goal-search-lts.Need-nothing-requires
@@ -489,73 +489,73 @@ goal-search-nothing-requires t c κs = search rules
 goal-search-failed-requires : goal-search-needs goal-search-lts.Need-failed-requires
 goal-search-failed-requires t c κs = search rules
 
-goal-search-returns : goal-search-needs goal-search-lts.Need-returns
+goal-search-returns : goal-search-needs goal-search-lts.Need-returns-then-not-may_be_proved
 goal-search-returns t c =
     let (searched, (stands, remembered)) = c.before.before.before.before.before.before.before.before.before.requires.1 in (
       judged-never c.failed.ensures.0 (c.failed.ensures.1 ∙ c.before.nothing.ensures) (λ X owed b.
-          goal-unlisted _ _ _ _ _ _ _ _ stands searched (failed c.before.before.before.may-be-proved.ensures c.before.before.if1.true) X b),
+          goal-unlisted _ _ _ _ _ _ _ _ stands searched (failed c.before.before.before.may_be_proved.ensures c.before.before.if-not-may_be_proved.true) X b),
       remembered,
     )
 
 goal-search-has-requires : goal-search-needs goal-search-lts.Need-has-requires
 goal-search-has-requires t c κs =
     let (searched, (stands, remembered)) = c.before.before.before.before.before.before.before.requires.1 in
-    let may = opened searched stands c.before.may-be-proved.ensures c.if1.false in
+    let may = opened searched stands c.before.may_be_proved.ensures c.if-not-may_be_proved.false in
     (may.few-persons, may.few-places)
 
-goal-search-nothing-requires-2 : goal-search-needs goal-search-lts.Need-nothing-requires-2
+goal-search-nothing-requires-2 : goal-search-needs goal-search-lts.Need-nothing-itself-requires
 goal-search-nothing-requires-2 t c κs = search rules
 
 goal-search-with-requires : goal-search-needs goal-search-lts.Need-with-requires
 goal-search-with-requires t c κs =
     let (searched, (stands, remembered)) = c.before.before.before.before.before.before.before.before.before.before.requires.1 in
-    let may = opened searched stands c.before.before.before.before.may-be-proved.ensures c.before.before.before.if1.false in
+    let may = opened searched stands c.before.before.before.before.may_be_proved.ensures c.before.before.before.if-not-may_be_proved.false in
     (may.few-persons, may.few-places)
 
-goal-search-failed-requires-2 : goal-search-needs goal-search-lts.Need-failed-requires-2
+goal-search-failed-requires-2 : goal-search-needs goal-search-lts.Need-failed-requires-then-has
 goal-search-failed-requires-2 t c κs = search rules
 
-goal-search-returns-2 : goal-search-needs goal-search-lts.Need-returns-2
+goal-search-returns-2 : goal-search-needs goal-search-lts.Need-returns-then-has
 goal-search-returns-2 t c =
     let (searched, (stands, remembered)) = c.before.before.before.before.before.before.before.before.before.before.before.before.requires.1 in
-    let may = opened searched stands c.before.before.before.before.before.before.may-be-proved.ensures c.before.before.before.before.before.if1.false in
-    let again = goal-again _ _ _ _ _ _ _ _ stands may _ (sym c.before.before.before.before.has.ensures ∙ c.before.before.before.if2.true) in
-    let blocking-is = c.failed2.ensures.1 ∙ rw c.before.before.nothing2.ensures at c.before.with.ensures in (
-      rw blocking-is (judged-failed c.failed2.ensures.0 (again 0).0 (λ X owed. (again X).1)),
+    let may = opened searched stands c.before.before.before.before.before.before.may_be_proved.ensures c.before.before.before.before.before.if-not-may_be_proved.false in
+    let again = goal-again _ _ _ _ _ _ _ _ stands may _ (sym c.before.before.before.before.has.ensures ∙ c.before.before.before.if-has.true) in
+    let blocking-is = c.failed-then-has.ensures.1 ∙ rw c.before.before.nothing-itself.ensures at c.before.with.ensures in (
+      rw blocking-is (judged-failed c.failed-then-has.ensures.0 (again 0).0 (λ X owed. (again X).1)),
       remembered,
     )
 
-goal-search-slot-count-requires : goal-search-needs goal-search-lts.Need-slot-count-requires
+goal-search-slot-count-requires : goal-search-needs goal-search-lts.Need-slot_count-requires
 goal-search-slot-count-requires t c κs = search rules
 
-goal-search-slot-requires : goal-search-needs goal-search-lts.Need-slot-requires
+goal-search-slot-requires : goal-search-needs goal-search-lts.Need-slot-slot-requires
 goal-search-slot-requires t c κs =
     let (searched, (stands, remembered)) = c.before.before.before.before.before.before.before.before.before.before.before.requires.1 in
-    let may = opened searched stands c.before.before.before.before.before.may-be-proved.ensures c.before.before.before.before.if1.false in
-    ((may.few-persons, may.few-places), c.slot-count.ensures.all 0 remembered.room)
+    let may = opened searched stands c.before.before.before.before.before.may_be_proved.ensures c.before.before.before.before.if-not-may_be_proved.false in
+    ((may.few-persons, may.few-places), c.slot_count.ensures.all 0 remembered.room)
 
-goal-search-recalled-requires : goal-search-needs goal-search-lts.Need-recalled-requires
+goal-search-recalled-requires : goal-search-needs goal-search-lts.Need-recalled-known-requires
 goal-search-recalled-requires t c κs =
     let slot = c.before in
     (goal-search-inside t slot, (goal-search-start t slot).requires.1.1.1.few)
 
-goal-search-failed-requires-3 : goal-search-needs goal-search-lts.Need-failed-requires-3
+goal-search-failed-requires-3 : goal-search-needs goal-search-lts.Need-failed-requires-then-known
 goal-search-failed-requires-3 t c κs = search rules
 
-goal-search-same-length : goal-search-needs goal-search-lts.Need-same-length
+goal-search-same-length : goal-search-needs goal-search-lts.Need-shape_of-memory-then-known
 goal-search-same-length t c = search rules
 
-goal-search-returns-3 : goal-search-needs goal-search-lts.Need-returns-3
+goal-search-returns-3 : goal-search-needs goal-search-lts.Need-returns-then-known
 goal-search-returns-3 t c =
     let recalled = c.before.before in
     let remembered = (goal-search-start t recalled.before.before).pre.1.1.1 in
-    let (covered, bounds) = recalled.recalled.ensures.0 _ _ _ remembered in
-    let none = recalled.recalled.ensures.1 c.before.if3.true in (
-      rw c.failed3.ensures.1 (judged-failed c.failed3.ensures.0 covered (λ X owed. bounds X owed (none-covered _ none X))),
+    let (covered, bounds) = recalled.recalled-known.ensures.0 _ _ _ remembered in
+    let none = recalled.recalled-known.ensures.1 c.before.if-known.true in (
+      rw c.failed-then-known.ensures.1 (judged-failed c.failed-then-known.ensures.0 covered (λ X owed. bounds X owed (none-covered _ none X))),
       remembered,
     )
 
-goal-search-sub-definers-search : goal-search-needs goal-search-lts.Need-overflow-sub-definers-search
+goal-search-sub-definers-search : goal-search-needs goal-search-lts.Need-overflow_sub-levels
 goal-search-sub-definers-search t c = omega (arith, (goal-search-may t c.before.before.before).left)
 
 goal-search-with-requires-2 : goal-search-needs goal-search-lts.Need-with-requires-2
@@ -563,7 +563,7 @@ goal-search-with-requires-2 t c κs =
     let may = goal-search-may t c.before.before.before in
     (may.few-persons, may.few-places)
 
-goal-search-definers-search-requires : goal-search-needs goal-search-lts.Need-definers-search-requires
+goal-search-definers-search-requires : goal-search-needs goal-search-lts.Need-definers_search-answer-requires
 goal-search-definers-search-requires t c κs =
     let slot = c.before.before.before.before.before in
     let (measured, (searched, (stands, remembered))) = (goal-search-start t slot).requires in
@@ -572,30 +572,30 @@ goal-search-definers-search-requires t c κs =
       (searched-fewer _ (omega arith) searched, ((stands, may.there), remembered)),
     )
 
-goal-search-is-part-requires : goal-search-needs goal-search-lts.Need-is-part-requires
+goal-search-is-part-requires : goal-search-needs goal-search-lts.Need-is_part-requires
 goal-search-is-part-requires t c κs = search rules
 
 goal-search-answered-requires : goal-search-needs goal-search-lts.Need-answered-requires
 goal-search-answered-requires t c κs = search rules
 
-goal-search-same-length-2 : goal-search-needs goal-search-lts.Need-same-length-2
+goal-search-same-length-2 : goal-search-needs goal-search-lts.Need-shape_of-memory-then-is_part
 goal-search-same-length-2 t c = search rules
 
-goal-search-returns-4 : goal-search-needs goal-search-lts.Need-returns-4
+goal-search-returns-4 : goal-search-needs goal-search-lts.Need-returns-then-is_part
 goal-search-returns-4 t c =
     let tried = c.before.before.before.before.before.before in
     let slot = goal-search-slot t tried in
     let (searched, (stands, remembered)) = (goal-search-start t slot).pre.1 in
-    let (covered, bounds) = tried.before.before.before.before.recalled.ensures.0 _ _ _ remembered in
-    let (sought, now-remembered) = tried.definers-search.ensures in
+    let (covered, bounds) = tried.before.before.before.before.recalled-known.ensures.0 _ _ _ remembered in
+    let (sought, now-remembered) = tried.definers_search-answer.ensures in
     let (found-is, blocking-is) = c.answered.ensures in (
       rw (found-is, blocking-is)
-          (goal-known _ _ _ _ _ _ _ _ stands (goal-search-may t slot) (goal-search-new t slot) (rw tried.before.before.with2.ensures at sought)
-          covered bounds c.before.before.is-part.ensures c.before.if4.true),
+          (goal-known _ _ _ _ _ _ _ _ stands (goal-search-may t slot) (goal-search-new t slot) (rw tried.before.before.with-2.ensures at sought)
+          covered bounds c.before.before.is_part.ensures c.before.if-is_part.true),
       now-remembered,
     )
 
-goal-search-without-requires : goal-search-needs goal-search-lts.Need-without-requires
+goal-search-without-requires : goal-search-needs goal-search-lts.Need-without-less-requires
 goal-search-without-requires t c κs =
     let may = goal-search-may t (goal-search-slot t c.before.before.before.before.before) in
     (may.few-persons, may.few-places)
@@ -605,26 +605,26 @@ goal-search-keep-requires t c κs =
     let tried = c.before.before.before.before.before.before.before in
     let slot = goal-search-slot t tried in
     let may = goal-search-may t slot in (
-      rw c.before.before.before.before.before.before.memory.given (goal-search-inside t slot),
+      rw c.before.before.before.before.before.before.memory-1.given (goal-search-inside t slot),
       (may.few-persons, (may.few-places, (goal-search-start t slot).pre.1.0.shallow)),
     )
 
 goal-search-answered-requires-2 : goal-search-needs goal-search-lts.Need-answered-requires-2
 goal-search-answered-requires-2 t c κs = search rules
 
-goal-search-same-length-3 : goal-search-needs goal-search-lts.Need-same-length-3
+goal-search-same-length-3 : goal-search-needs goal-search-lts.Need-shape_of-memory
 goal-search-same-length-3 t c = search rules
 
-goal-search-returns-5 : goal-search-needs goal-search-lts.Need-returns-5
+goal-search-returns-5 : goal-search-needs goal-search-lts.Need-returns
 goal-search-returns-5 t c =
     let tried = c.before.before.before.before.before.before.before.before.before.before.before in
     let slot = goal-search-slot t tried in
     let start = goal-search-start t slot in
     let stands = start.pre.1.1.0 in
-    let (sought, now-remembered) = tried.definers-search.ensures in
-    let (found-is, blocking-is) = c.answered2.ensures in
-    let less = goal-less _ _ _ _ _ _ _ _ stands (goal-search-may t slot) (goal-search-new t slot) (rw tried.before.before.with2.ensures at sought)
-    (goal-search-wide t start) _ c.before.before.before.before.before.without.ensures c.before.before.before.before.before.before.before.is-part.ensures c.before.before.before.before.before.before.if4.false in (
+    let (sought, now-remembered) = tried.definers_search-answer.ensures in
+    let (found-is, blocking-is) = c.answered-2.ensures in
+    let less = goal-less _ _ _ _ _ _ _ _ stands (goal-search-may t slot) (goal-search-new t slot) (rw tried.before.before.with-2.ensures at sought)
+    (goal-search-wide t start) _ c.before.before.before.before.before.without-less.ensures c.before.before.before.before.before.before.before.is_part.ensures c.before.before.before.before.before.before.if-is_part.false in (
       rw (found-is, blocking-is) less,
       remembered-more _ _ _ _ now-remembered c.before.before.before.keep.ensures (goal-search-eight t start) less.bounds,
     )
@@ -641,64 +641,64 @@ link-search-place place t = place (link-search-claims t) (link-search-at t) link
 abbrev link-search-needs : link-search-Place → Type 0
 link-search-needs need = (t : ℕ) → link-search-place need t
 
-link-search-link-asked-requires : link-search-needs link-search-lts.Need-link-asked-requires
+link-search-link-asked-requires : link-search-needs link-search-lts.Need-link_asked-asked-requires
 link-search-link-asked-requires t c κs = search rules
 
-link-search-shared-search-requires : link-search-needs link-search-lts.Need-shared-search-requires
+link-search-shared-search-requires : link-search-needs link-search-lts.Need-shared_search-requires
 link-search-shared-search-requires t c κs =
     let (searched, ((first, second), remembered)) = c.before.before.before.before.before.before.before.before.before.requires.1 in
-    let (fits, pairs) = c.before.link-asked.ensures in
+    let (fits, pairs) = c.before.link_asked-asked.ensures in
     (omega (arith, c.before.before.before.before.before.before.before.before.before.requires.0), (searched, ((fits, rw pairs (both-stand _ _ first second)), remembered)))
 
-link-search-same-length : link-search-needs link-search-lts.Need-same-length
+link-search-same-length : link-search-needs link-search-lts.Need-shape_of-memory-then-terms-ne0
 link-search-same-length t c = search rules
 
-link-search-returns : link-search-needs link-search-lts.Need-returns
+link-search-returns : link-search-needs link-search-lts.Need-returns-then-terms-ne0
 link-search-returns t c =
-    rw c.before.before.before.before.link-asked.ensures.1 at c.before.before.shared-search.ensures
+    rw c.before.before.before.before.link_asked-asked.ensures.1 at c.before.before.shared_search.ensures
 
-link-search-goal-search-requires : link-search-needs link-search-lts.Need-goal-search-requires
+link-search-goal-search-requires : link-search-needs link-search-lts.Need-goal_search-answer-requires
 link-search-goal-search-requires t c κs = search rules
 
-link-search-is-none-requires : link-search-needs link-search-lts.Need-is-none-requires
+link-search-is-none-requires : link-search-needs link-search-lts.Need-is_none-requires
 link-search-is-none-requires t c κs = search rules
 
 link-search-failed-requires : link-search-needs link-search-lts.Need-failed-requires
 link-search-failed-requires t c κs = search rules
 
-link-search-same-length-2 : link-search-needs link-search-lts.Need-same-length-2
+link-search-same-length-2 : link-search-needs link-search-lts.Need-shape_of-memory-then-is_none
 link-search-same-length-2 t c = search rules
 
-link-search-returns-2 : link-search-needs link-search-lts.Need-returns-2
+link-search-returns-2 : link-search-needs link-search-lts.Need-returns-then-is_none
 link-search-returns-2 t c =
-    let (judged, now-remembered) = c.before.before.before.before.before.goal-search.ensures in
-    let fails = none-fails judged c.before.before.is_none.ensures c.before.if2.true in (
+    let (judged, now-remembered) = c.before.before.before.before.before.goal_search-answer.ensures in
+    let fails = none-fails judged c.before.before.is_none.ensures c.before.if-is_none.true in (
       rw c.failed.ensures.1
           (shared-failed _ _ _ _ _ _ _ 0 (omega arith) c.failed.ensures.0 judged.covered fails),
       now-remembered,
     )
 
-link-search-goal-search-requires-2 : link-search-needs link-search-lts.Need-goal-search-requires-2
+link-search-goal-search-requires-2 : link-search-needs link-search-lts.Need-goal_search-requires
 link-search-goal-search-requires-2 t c κs =
     let (searched, ((first, second), remembered)) = c.before.before.before.before.before.before.before.before.before.before.before.before.before.before.requires.1 in
-    (omega (arith, c.before.before.before.before.before.before.before.before.before.before.before.before.before.before.requires.0), (searched, (second, c.before.before.before.before.before.goal-search.ensures.1)))
+    (omega (arith, c.before.before.before.before.before.before.before.before.before.before.before.before.before.before.requires.0), (searched, (second, c.before.before.before.before.before.goal_search-answer.ensures.1)))
 
-link-search-same-length-3 : link-search-needs link-search-lts.Need-same-length-3
+link-search-same-length-3 : link-search-needs link-search-lts.Need-shape_of-memory
 link-search-same-length-3 t c = search rules
 
-link-search-returns-3 : link-search-needs link-search-lts.Need-returns-3
+link-search-returns-3 : link-search-needs link-search-lts.Need-returns
 link-search-returns-3 t c =
-    let unowed = c.before.before.before.before.before.before.before.before.before.before.if1.false in
-    let (judged, now-remembered) = c.before.before.goal-search2.ensures in
-    let is = zero-passes unowed c.before.before.before.before.before.before.before.before.goal-search.ensures.0 c.before.before.before.before.before.is_none.ensures c.before.before.before.before.if2.false in
+    let unowed = c.before.before.before.before.before.before.before.before.before.before.if-terms-ne0.false in
+    let (judged, now-remembered) = c.before.before.goal_search.ensures in
+    let is = zero-passes unowed c.before.before.before.before.before.before.before.before.goal_search-answer.ensures.0 c.before.before.before.before.before.is_none.ensures c.before.before.before.before.if-is_none.false in
     (second-decides _ _ _ _ _ _ unowed _ _ is judged, now-remembered)
 
-abbrev linked-search-Inv-loop : linked-search-lts.invariant-loop
+abbrev linked-search-Inv-loop : linked-search-lts.invariant-loop-j
 linked-search-Inv-loop table index arcs rows terms person i levels states above memory₀ n row first found₀ blocking₀ j₀ memory found blocking j =
     (j ≤ n) × (Judged terms.owed (linked_test table index terms.allowed terms.constraints terms.owed levels states person i j) above found blocking
     × ((length memory ≡ length memory₀) × Remembered table terms.allowed terms.constraints terms.owed memory))
 
-abbrev linked-search-μ-loop : linked-search-lts.decreases-loop
+abbrev linked-search-μ-loop : linked-search-lts.decreases-loop-j
 linked-search-μ-loop table index arcs rows terms person i levels states above memory₀ n row first found₀ blocking₀ j₀ memory found blocking j =
     n - j
 
@@ -706,7 +706,7 @@ linked-search-μ-loop table index arcs rows terms person i levels states above m
 abbrev linked-search-Place : Type 1
 linked-search-Place =
     linked-search-lts.Claims → In 5 linked-search-kinds.ps → Out 5 linked-search-kinds.ps linked-search-kinds.r
-    → linked-search-lts.invariant-loop → linked-search-lts.decreases-loop → Type 0
+    → linked-search-lts.invariant-loop-j → linked-search-lts.decreases-loop-j → Type 0
 
 abbrev linked-search-place : linked-search-Place → ℕ → Type 0
 linked-search-place place t = place (linked-search-claims t) (linked-search-at t) linked-search.Post linked-search-Inv-loop linked-search-μ-loop
@@ -715,8 +715,8 @@ abbrev linked-search-needs : linked-search-Place → Type 0
 linked-search-needs need = (t : ℕ) → linked-search-place need t
 
 -- a middle is looked at
-module _ (t : ℕ) (at : linked-search-place linked-search-lts.After-is-middle t) where
-  abbrev linked-search-asked : linked-search-place linked-search-lts.After-asked-cell t
+module _ (t : ℕ) (at : linked-search-place linked-search-lts.After-is_middle t) where
+  abbrev linked-search-asked : linked-search-place linked-search-lts.After-asked_cell-first t
   linked-search-asked = at.before.before.before.before.before.before
 
   abbrev linked-search-start : linked-search-place linked-search-lts.Start t
@@ -724,44 +724,44 @@ module _ (t : ℕ) (at : linked-search-place linked-search-lts.After-is-middle t
 
   linked-search-middle : let from = linked-search-start.args in
       Middle from.table.now from.index.now from.arcs.now from.rows.now from.terms.allowed from.levels
-      from.terms.last from.person from.i linked-search-asked.before.row_of.result at.before.before.before.loop.j
-      linked-search-asked.asked-cell.result at.before.link-cell.result at.is-middle.result
+      from.terms.last from.person from.i linked-search-asked.before.row_of-row.result at.before.before.before.loop-j.j
+      linked-search-asked.asked-cell.result at.before.link_cell-second.result at.is_middle.result
   linked-search-middle =
       let (searched, (tried, (kind, remembered))) = linked-search-start.pre.1 in
       record {
         searched = searched;
         tried = tried;
         kind = kind;
-        there = omega (arith, at.before.before.loop-test.taken, linked-search-asked.before.before.credentials.ensures.same);
-        row_is = linked-search-asked.before.row_of.ensures;
+        there = omega (arith, at.before.before.loop-j-test.taken, linked-search-asked.before.before.credentials-n.ensures.same);
+        row_is = linked-search-asked.before.row_of-row.ensures;
         first-is = linked-search-asked.asked-cell.ensures.0;
-        second_is = at.before.link-cell.ensures.0;
-        told_is = at.is-middle.ensures;
+        second_is = at.before.link_cell-second.ensures.0;
+        told_is = at.is_middle.ensures;
       }
 
-linked-search-credentials-requires : linked-search-needs linked-search-lts.Need-credentials-requires
+linked-search-credentials-requires : linked-search-needs linked-search-lts.Need-credentials-n-requires
 linked-search-credentials-requires t c κs = search rules
 
-linked-search-row-of-requires : linked-search-needs linked-search-lts.Need-row-of-requires
+linked-search-row-of-requires : linked-search-needs linked-search-lts.Need-row_of-row-requires
 linked-search-row-of-requires t c κs = search rules
 
-linked-search-asked-cell-requires : linked-search-needs linked-search-lts.Need-asked-cell-requires
+linked-search-asked-cell-requires : linked-search-needs linked-search-lts.Need-asked_cell-first-requires
 linked-search-asked-cell-requires t c κs = search rules
 
-linked-search-none-requires : linked-search-needs linked-search-lts.Need-none-requires
+linked-search-none-requires : linked-search-needs linked-search-lts.Need-none-found-requires
 linked-search-none-requires t c κs = search rules
 
-linked-search-nothing-requires : linked-search-needs linked-search-lts.Need-nothing-requires
+linked-search-nothing-requires : linked-search-needs linked-search-lts.Need-nothing-blocking-requires
 linked-search-nothing-requires t c κs = search rules
 
-linked-search-loop-holds : linked-search-needs linked-search-lts.Need-loop-init
+linked-search-loop-holds : linked-search-needs linked-search-lts.Need-loop-j-init
 linked-search-loop-holds t c =
-    (omega arith, (links-none _ c.before.before.before.before.before.before.before.before.before.before.args.index.now _ _ _ _ c.before.before.before.before.before.before.before.before.before.before.args.person c.before.before.before.before.before.before.before.before.before.before.args.i _ c.before.none.ensures c.nothing.ensures, (refl, c.before.before.before.before.before.before.before.before.before.before.requires.1.1.1.1)))
+    (omega arith, (links-none _ c.before.before.before.before.before.before.before.before.before.before.args.index.now _ _ _ _ c.before.before.before.before.before.before.before.before.before.before.args.person c.before.before.before.before.before.before.before.before.before.before.args.i _ c.before.none-found.ensures c.nothing-blocking.ensures, (refl, c.before.before.before.before.before.before.before.before.before.before.requires.1.1.1.1)))
 
-linked-search-link-cell-requires : linked-search-needs linked-search-lts.Need-link-cell-requires
+linked-search-link-cell-requires : linked-search-needs linked-search-lts.Need-link_cell-second-requires
 linked-search-link-cell-requires t c κs = search rules
 
-linked-search-is-middle-requires : linked-search-needs linked-search-lts.Need-is-middle-requires
+linked-search-is-middle-requires : linked-search-needs linked-search-lts.Need-is_middle-requires
 linked-search-is-middle-requires t c κs =
     let at-asked-cell = c.before.before.before.before.before in
     let at-row-of = at-asked-cell.before in
@@ -772,72 +772,72 @@ linked-search-is-middle-requires t c κs =
       (
         searched.indexed,
         (
-          (searched.members.room, row_fits searched.members at-row-of.row_of.ensures),
+          (searched.members.room, row_fits searched.members at-row-of.row_of-row.ensures),
           (
-            (tried.who, omega (arith, c.before.loop-test.true, at-credentials.credentials.ensures.same)),
-            (at-asked-cell.asked-cell.ensures.1, c.link-cell.ensures.1),
+            (tried.who, omega (arith, c.before.loop-j-test.true, at-credentials.credentials-n.ensures.same)),
+            (at-asked-cell.asked_cell-first.ensures.1, c.link_cell-second.ensures.1),
           ),
         ),
       ),
     )
 
-linked-search-link-search-requires : linked-search-needs linked-search-lts.Need-link-search-requires
+linked-search-link-search-requires : linked-search-needs linked-search-lts.Need-link_search-link-requires
 linked-search-link-search-requires t c κs =
     let at = c.before.before in
     let (measured, (searched, rest)) = (linked-search-start t at).requires in
     let middle = linked-search-middle t at in
-    let on = c.before.if1.true in (
+    let on = c.before.if-is_middle.true in (
       omega (arith, measured),
-      (searched, ((stands-first middle on, stands-second middle on), at.before.before.before.loop.invariant.1.1.1)),
+      (searched, ((stands-first middle on, stands-second middle on), at.before.before.before.loop-j.invariant.1.1.1)),
     )
 
-linked-search-or-requires : linked-search-needs linked-search-lts.Need-or-requires
+linked-search-or-requires : linked-search-needs linked-search-lts.Need-or-found-requires
 linked-search-or-requires t c κs = search rules
 
 linked-search-has-requires : linked-search-needs linked-search-lts.Need-has-requires
 linked-search-has-requires t c κs = search rules
 
-linked-search-nothing-requires-2 : linked-search-needs linked-search-lts.Need-nothing-requires-2
+linked-search-nothing-requires-2 : linked-search-needs linked-search-lts.Need-nothing-requires
 linked-search-nothing-requires-2 t c κs = search rules
 
 linked-search-answered-requires : linked-search-needs linked-search-lts.Need-answered-requires
 linked-search-answered-requires t c κs = search rules
 
-linked-search-same-length : linked-search-needs linked-search-lts.Need-same-length
+linked-search-same-length : linked-search-needs linked-search-lts.Need-shape_of-memory-then-has
 linked-search-same-length t c =
-    c.before.before.before.before.before.before.memory.given ∙ c.before.before.before.before.before.before.before.before.before.before.before.before.before.loop.invariant.1.1.0
+    c.before.before.before.before.before.before.memory-1.given ∙ c.before.before.before.before.before.before.before.before.before.before.before.before.before.loop-j.invariant.1.1.0
 
-linked-search-returns : linked-search-needs linked-search-lts.Need-returns
+linked-search-returns : linked-search-needs linked-search-lts.Need-returns-then-has
 linked-search-returns t c =
     let at-link-search = c.before.before.before.before.before.before.before in
     let at-if1 = at-link-search.before.before in
     let at = at-if1.before in
     let (searched, (tried, (kind, remembered))) = (linked-search-start t at).requires.1 in
-    let (so_far, before) = at.before.before.before.loop.invariant.1 in
-    let (one, now-remembered) = at-link-search.link-search.ensures in
+    let (so_far, before) = at.before.before.before.loop-j.invariant.1 in
+    let (one, now-remembered) = at-link-search.link_search-link.ensures in
     let (found-is, blocking-is) = c.answered.ensures in
-    let finds = link-finds (linked-search-middle t at) _ _ _ at-if1.if1.true c.before.before.before.before.or.ensures
+    let finds = link-finds (linked-search-middle t at) _ _ _ at-if1.if-is_middle.true c.before.before.before.before.or-found.ensures
     so_far.finds one.finds in (
       rw (found-is, blocking-is) (linked-enough searched tried kind _ _ _ remembered.few finds c.before.before.before.has.ensures
-          c.before.before.if2.true c.before.nothing2.ensures),
+          c.before.before.if-has.true c.before.nothing.ensures),
       now-remembered,
     )
 
-linked-search-joined-requires : linked-search-needs linked-search-lts.Need-joined-requires
+linked-search-joined-requires : linked-search-needs linked-search-lts.Need-joined-blocking-requires
 linked-search-joined-requires t c κs = search rules
 
-linked-search-add-j : linked-search-needs linked-search-lts.Need-overflow-add-j
+linked-search-add-j : linked-search-needs linked-search-lts.Need-overflow_add-j
 linked-search-add-j t c = search rules
 
-linked-search-loop-less : linked-search-needs linked-search-lts.Need-loop-smaller
+linked-search-loop-less : linked-search-needs linked-search-lts.Need-loop-j-smaller
 linked-search-loop-less t c = search rules
 
-linked-search-loop-again : linked-search-needs linked-search-lts.Need-loop-preserved
+linked-search-loop-again : linked-search-needs linked-search-lts.Need-loop-j-preserved
 linked-search-loop-again t c =
     let at = c.before in
     let middle = linked-search-middle t at in
-    let (so_far, before) = at.before.before.before.loop.invariant.1 in (
-      omega (arith, at.before.before.loop-test.true),
+    let (so_far, before) = at.before.before.before.loop-j.invariant.1 in (
+      omega (arith, at.before.before.loop-j-test.true),
       ⊎_elim
           (λ way. (
             rw (way.10, way.11)
@@ -845,42 +845,42 @@ linked-search-loop-again t c =
             rw way.9 (way.3.given ∙ before.0, way.2.ensures.1),
           ))
           (λ way. (rw (way.2, way.3) (link-skipped middle _ _ _ way.0.left so_far), rw way.1 before))
-          c.if1.branch,
+          c.if-is_middle.branch,
     )
 
 linked-search-answered-requires-2 : linked-search-needs linked-search-lts.Need-answered-requires-2
 linked-search-answered-requires-2 t c κs = search rules
 
-linked-search-same-length-2 : linked-search-needs linked-search-lts.Need-same-length-2
+linked-search-same-length-2 : linked-search-needs linked-search-lts.Need-shape_of-memory
 linked-search-same-length-2 t c =
-    c.before.before.loop.invariant.1.1.0
+    c.before.before.loop-j.invariant.1.1.0
 
-linked-search-returns-2 : linked-search-needs linked-search-lts.Need-returns-2
+linked-search-returns-2 : linked-search-needs linked-search-lts.Need-returns
 linked-search-returns-2 t c =
     let at-loop = c.before.before in
     let at-credentials = at-loop.before.before.before.before.before in
     let start = at-credentials.before.before.before.before.before.before in
     let (searched, (tried, (kind, remembered))) = start.requires.1 in
-    let (so_far, (same, now-remembered)) = at-loop.loop.invariant.1 in
-    let (found-is, blocking-is) = c.answered2.ensures in (
+    let (so_far, (same, now-remembered)) = at-loop.loop-j.invariant.1 in
+    let (found-is, blocking-is) = c.answered-2.ensures in (
       rw (found-is, blocking-is) (linked-all searched tried kind _ _ _ _ (omega
-          (arith, c.before.loop-test.false, at-loop.loop.invariant.0, at-credentials.credentials.ensures.same)) so_far),
+          (arith, c.before.loop-j-test.false, at-loop.loop-j.invariant.0, at-credentials.credentials-n.ensures.same)) so_far),
       now-remembered,
     )
 
-abbrev parts-search-Inv-loop : parts-search-lts.invariant-loop
+abbrev parts-search-Inv-loop : parts-search-lts.invariant-loop-k
 parts-search-Inv-loop table index arcs rows terms person i levels states above memory₀ k₀ memory k =
     (k ≤ 4) × ((any_below (part_missed index (λ p r. proves_at table terms.allowed terms.constraints terms.owed levels above states p r 0) person i) k ≡ false)
     × ((length memory ≡ length memory₀) × Remembered table terms.allowed terms.constraints terms.owed memory))
 
-abbrev parts-search-μ-loop : parts-search-lts.decreases-loop
+abbrev parts-search-μ-loop : parts-search-lts.decreases-loop-k
 parts-search-μ-loop table index arcs rows terms person i levels states above memory₀ k₀ memory k = 4 - k
 
 -- a place of `parts_search`, or a need, where its measure is t; and what it needs, whatever its measure is
 abbrev parts-search-Place : Type 1
 parts-search-Place =
     parts-search-lts.Claims → In 5 parts-search-kinds.ps → Out 5 parts-search-kinds.ps parts-search-kinds.r
-    → parts-search-lts.invariant-loop → parts-search-lts.decreases-loop → Type 0
+    → parts-search-lts.invariant-loop-k → parts-search-lts.decreases-loop-k → Type 0
 
 abbrev parts-search-place : parts-search-Place → ℕ → Type 0
 parts-search-place place t = place (parts-search-claims t) (parts-search-at t) parts-search.Post parts-search-Inv-loop parts-search-μ-loop
@@ -888,7 +888,7 @@ parts-search-place place t = place (parts-search-claims t) (parts-search-at t) p
 abbrev parts-search-needs : parts-search-Place → Type 0
 parts-search-needs need = (t : ℕ) → parts-search-place need t
 
-parts-search-are-listed-requires : parts-search-needs parts-search-lts.Need-are-listed-requires
+parts-search-are-listed-requires : parts-search-needs parts-search-lts.Need-are_listed-requires
 parts-search-are-listed-requires t c κs = search rules
 
 parts-search-nothing-requires : parts-search-needs parts-search-lts.Need-nothing-requires
@@ -897,88 +897,88 @@ parts-search-nothing-requires t c κs = search rules
 parts-search-failed-requires : parts-search-needs parts-search-lts.Need-failed-requires
 parts-search-failed-requires t c κs = search rules
 
-parts-search-returns : parts-search-needs parts-search-lts.Need-returns
+parts-search-returns : parts-search-needs parts-search-lts.Need-returns-then-not-are_listed
 parts-search-returns t c =
     let (searched, (tried, (kind, remembered))) = c.before.before.before.before.before.before.before.before.before.requires.1 in (
       judged-never c.failed.ensures.0 (c.failed.ensures.1 ∙ c.before.nothing.ensures) (λ X owed b.
-          parts-unlisted searched tried kind _ _ b _ X c.before.before.before.are-listed.ensures c.before.before.if1.true),
+          parts-unlisted searched tried kind _ _ b _ X c.before.before.before.are_listed.ensures c.before.before.if-not-are_listed.true),
       remembered,
     )
 
-parts-search-roles-asked-requires : parts-search-needs parts-search-lts.Need-roles-asked-requires
+parts-search-roles-asked-requires : parts-search-needs parts-search-lts.Need-roles_asked-asked-requires
 parts-search-roles-asked-requires t c κs =
     let (searched, (tried, (kind, remembered))) = c.before.before.before.before.before.before.before.before.before.requires.1 in
     (searched.well_formed, (searched.indexed, (tried.there, two-or-four kind)))
 
-parts-search-shared-search-requires : parts-search-needs parts-search-lts.Need-shared-search-requires
+parts-search-shared-search-requires : parts-search-needs parts-search-lts.Need-shared_search-requires
 parts-search-shared-search-requires t c κs =
     let (searched, (tried, (kind, remembered))) = c.before.before.before.before.before.before.before.before.before.before.before.requires.1 in
-    let (fits, pairs) = c.before.roles-asked.ensures in
+    let (fits, pairs) = c.before.roles_asked-asked.ensures in
     let few = (roles-few _ searched.well_formed _ (numbered searched tried) kind).1 in
     (omega (arith, c.before.before.before.before.before.before.before.before.before.before.before.requires.0), (searched, ((fits, rw pairs (roles-stand searched tried kind _ few)), remembered)))
 
-parts-search-same-length : parts-search-needs parts-search-lts.Need-same-length
+parts-search-same-length : parts-search-needs parts-search-lts.Need-shape_of-memory-then-terms-gt0
 parts-search-same-length t c = search rules
 
-parts-search-returns-2 : parts-search-needs parts-search-lts.Need-returns-2
+parts-search-returns-2 : parts-search-needs parts-search-lts.Need-returns-then-terms-gt0
 parts-search-returns-2 t c =
     let (searched, (tried, (kind, remembered))) = c.before.before.before.before.before.before.before.before.before.before.before.before.before.before.requires.1 in
-    let (judged, now-remembered) = c.before.before.shared-search.ensures in (
-      judged-same (λ X b. sym (cell-roles searched tried _ _ b _ X kind)) (rw c.before.before.before.before.roles-asked.ensures.1 at judged),
+    let (judged, now-remembered) = c.before.before.shared_search.ensures in (
+      judged-same (λ X b. sym (cell-roles searched tried _ _ b _ X kind)) (rw c.before.before.before.before.roles_asked-asked.ensures.1 at judged),
       now-remembered,
     )
 
-parts-search-loop-holds : parts-search-needs parts-search-lts.Need-loop-init
+parts-search-loop-holds : parts-search-needs parts-search-lts.Need-loop-k-init
 parts-search-loop-holds t c =
     (omega arith, (none_below _, (refl, c.before.before.before.before.before.before.before.before.before.requires.1.1.1.1)))
 
-parts-search-is-asked-before-requires : parts-search-needs parts-search-lts.Need-is-asked-before-requires
+parts-search-is-asked-before-requires : parts-search-needs parts-search-lts.Need-is_asked_before-requires
 parts-search-is-asked-before-requires t c κs = search rules
 
-parts-search-asked-cell-requires : parts-search-needs parts-search-lts.Need-asked-cell-requires
+parts-search-asked-cell-requires : parts-search-needs parts-search-lts.Need-asked_cell-requires
 parts-search-asked-cell-requires t c κs = search rules
 
-parts-search-goal-search-requires : parts-search-needs parts-search-lts.Need-goal-search-requires
+parts-search-goal-search-requires : parts-search-needs parts-search-lts.Need-goal_search-answer-requires
 parts-search-goal-search-requires t c κs =
     let (searched, (tried, (kind, remembered))) = c.before.before.before.before.before.before.before.before.before.before.before.before.before.before.before.requires.1 in
-    let stands = stands-part searched tried kind _ c.before.before.before.before.loop-test.true _ c.before.asked-cell.ensures.0 in
-    (omega (arith, c.before.before.before.before.before.before.before.before.before.before.before.before.before.before.before.requires.0), (searched, (stands, c.before.before.before.before.before.loop.invariant.1.1.1)))
+    let stands = stands-part searched tried kind _ c.before.before.before.before.loop-k-test.true _ c.before.asked_cell.ensures.0 in
+    (omega (arith, c.before.before.before.before.before.before.before.before.before.before.before.before.before.before.before.requires.0), (searched, (stands, c.before.before.before.before.before.loop-k.invariant.1.1.1)))
 
-parts-search-is-none-requires : parts-search-needs parts-search-lts.Need-is-none-requires
+parts-search-is-none-requires : parts-search-needs parts-search-lts.Need-is_none-requires
 parts-search-is-none-requires t c κs = search rules
 
-parts-search-failed-requires-2 : parts-search-needs parts-search-lts.Need-failed-requires-2
+parts-search-failed-requires-2 : parts-search-needs parts-search-lts.Need-failed-requires-then-is_none
 parts-search-failed-requires-2 t c κs = search rules
 
-parts-search-same-length-2 : parts-search-needs parts-search-lts.Need-same-length-2
+parts-search-same-length-2 : parts-search-needs parts-search-lts.Need-shape_of-memory-then-is_none
 parts-search-same-length-2 t c =
-    c.before.before.before.before.memory2.given ∙ c.before.before.before.before.before.before.before.before.before.before.before.loop.invariant.1.1.0
+    c.before.before.before.before.memory-then-not-is_asked_before-1.given ∙ c.before.before.before.before.before.before.before.before.before.before.before.loop-k.invariant.1.1.0
 
-parts-search-returns-3 : parts-search-needs parts-search-lts.Need-returns-3
+parts-search-returns-3 : parts-search-needs parts-search-lts.Need-returns-then-is_none
 parts-search-returns-3 t c =
     let (searched, (tried, (kind, remembered))) = c.before.before.before.before.before.before.before.before.before.before.before.before.before.before.before.before.before.before.before.before.before.requires.1 in
-    let unowed = none-owed c.before.before.before.before.before.before.before.before.before.before.before.before.if2.false in
-    let (judged, now-remembered) = c.before.before.before.before.before.goal-search.ensures in
-    let fails = none-fails judged c.before.before.is_none.ensures c.before.if4.true in (
-      rw c.failed2.ensures.1 (zero-failed unowed c.failed2.ensures.0 judged.covered (λ b wide covers.
-          part-failed searched tried kind _ _ unowed b _ _ _ c.before.before.before.before.before.before.before.before.before.before.loop-test.true c.before.before.before.before.before.before.before.asked-cell.ensures.0 (fails b wide covers))),
+    let unowed = none-owed c.before.before.before.before.before.before.before.before.before.before.before.before.if-terms-gt0.false in
+    let (judged, now-remembered) = c.before.before.before.before.before.goal_search-answer.ensures in
+    let fails = none-fails judged c.before.before.is_none.ensures c.before.if-is_none.true in (
+      rw c.failed-then-is_none.ensures.1 (zero-failed unowed c.failed-then-is_none.ensures.0 judged.covered (λ b wide covers.
+          part-failed searched tried kind _ _ unowed b _ _ _ c.before.before.before.before.before.before.before.before.before.before.loop-k-test.true c.before.before.before.before.before.before.before.asked_cell.ensures.0 (fails b wide covers))),
       now-remembered,
     )
 
-parts-search-add-k : parts-search-needs parts-search-lts.Need-overflow-add-k
+parts-search-add-k : parts-search-needs parts-search-lts.Need-overflow_add-k
 parts-search-add-k t c = search rules
 
-parts-search-loop-less : parts-search-needs parts-search-lts.Need-loop-smaller
+parts-search-loop-less : parts-search-needs parts-search-lts.Need-loop-k-smaller
 parts-search-loop-less t c = search rules
 
-parts-search-loop-again : parts-search-needs parts-search-lts.Need-loop-preserved
+parts-search-loop-again : parts-search-needs parts-search-lts.Need-loop-k-preserved
 parts-search-loop-again t c =
     let at-loop = c.before.before.before in
     let start = c.before.before.before.before.before.before.before.before.before.before.before.before.before in
     let (searched, (tried, (kind, remembered))) = start.requires.1 in
-    let unowed = none-owed at-loop.before.if2.false in
-    let (so_far, before) = at-loop.loop.invariant.1 in (
-      omega (arith, c.before.before.loop-test.true),
+    let unowed = none-owed at-loop.before.if-terms-gt0.false in
+    let (so_far, before) = at-loop.loop-k.invariant.1 in (
+      omega (arith, c.before.before.loop-k-test.true),
       ⊎_elim
           (λ way. (
             part-proved searched tried kind _ _ unowed _ _ _ _ way.1.ensures.0
@@ -986,29 +986,29 @@ parts-search-loop-again t c =
             rw way.8 (way.4.given ∙ before.0, way.3.ensures.1),
           ))
           (λ way. (
-            part-repeated searched tried kind _ _ unowed _ _ _ so_far (passed c.before.is-asked-before.ensures way.0.left),
+            part-repeated searched tried kind _ _ unowed _ _ _ so_far (passed c.before.is_asked_before.ensures way.0.left),
             rw way.1 before,
           ))
-          c.if3.branch,
+          c.if-not-is_asked_before.branch,
     )
 
 parts-search-proved-requires : parts-search-needs parts-search-lts.Need-proved-requires
 parts-search-proved-requires t c κs = search rules
 
-parts-search-same-length-3 : parts-search-needs parts-search-lts.Need-same-length-3
+parts-search-same-length-3 : parts-search-needs parts-search-lts.Need-shape_of-memory
 parts-search-same-length-3 t c = search rules
 
-parts-search-returns-4 : parts-search-needs parts-search-lts.Need-returns-4
+parts-search-returns-4 : parts-search-needs parts-search-lts.Need-returns
 parts-search-returns-4 t c =
     let (searched, (tried, (kind, remembered))) = c.before.before.before.before.before.before.before.before.before.before.before.before.requires.1 in
-    let unowed = none-owed c.before.before.before.if2.false in
-    let (none-missed, (same, now-remembered)) = c.before.before.loop.invariant.1 in (
+    let unowed = none-owed c.before.before.before.if-terms-gt0.false in
+    let (none-missed, (same, now-remembered)) = c.before.before.loop-k.invariant.1 in (
       zero-proved unowed c.proved.ensures.0 c.proved.ensures.1
-          (all-proved searched tried kind _ _ unowed _ _ _ (omega (arith, c.before.loop-test.false, c.before.before.loop.invariant.0)) none-missed),
+          (all-proved searched tried kind _ _ unowed _ _ _ (omega (arith, c.before.loop-k-test.false, c.before.before.loop-k.invariant.0)) none-missed),
       now-remembered,
     )
 
-abbrev shared-search-Inv-loop : shared-search-lts.invariant-loop
+abbrev shared-search-Inv-loop : shared-search-lts.invariant-loop-k
 shared-search-Inv-loop table index arcs rows terms asked levels states above memory₀ each₀ found₀ blocking₀ k₀ memory each found blocking k =
     ((k ≤ asked.len) × (length each ≡ most_parts))
     × ((Judged terms.owed (shared_test table terms.allowed terms.constraints terms.owed levels states
@@ -1016,7 +1016,7 @@ shared-search-Inv-loop table index arcs rows terms asked levels states above mem
     × LaterJudged table terms.allowed terms.constraints terms.owed levels states asked k above each blocking)
     × ((length memory ≡ length memory₀) × Remembered table terms.allowed terms.constraints terms.owed memory))
 
-abbrev shared-search-μ-loop : shared-search-lts.decreases-loop
+abbrev shared-search-μ-loop : shared-search-lts.decreases-loop-k
 shared-search-μ-loop table index arcs rows terms asked levels states above memory₀ each₀ found₀ blocking₀ k₀ memory each found blocking k =
     k
 
@@ -1024,7 +1024,7 @@ shared-search-μ-loop table index arcs rows terms asked levels states above memo
 abbrev shared-search-Place : Type 1
 shared-search-Place =
     shared-search-lts.Claims → In 5 shared-search-kinds.ps → Out 5 shared-search-kinds.ps shared-search-kinds.r
-    → shared-search-lts.invariant-loop → shared-search-lts.decreases-loop → Type 0
+    → shared-search-lts.invariant-loop-k → shared-search-lts.decreases-loop-k → Type 0
 
 abbrev shared-search-place : shared-search-Place → ℕ → Type 0
 shared-search-place place t = place (shared-search-claims t) (shared-search-at t) shared-search.Post shared-search-Inv-loop shared-search-μ-loop
@@ -1032,116 +1032,116 @@ shared-search-place place t = place (shared-search-claims t) (shared-search-at t
 abbrev shared-search-needs : shared-search-Place → Type 0
 shared-search-needs need = (t : ℕ) → shared-search-place need t
 
-shared-search-none-requires : shared-search-needs shared-search-lts.Need-none-requires
+shared-search-none-requires : shared-search-needs shared-search-lts.Need-none-each-requires
 shared-search-none-requires t c κs = search rules
 
-shared-search-only-requires : shared-search-needs shared-search-lts.Need-only-requires
+shared-search-only-requires : shared-search-needs shared-search-lts.Need-only-found-requires
 shared-search-only-requires t c κs = search rules
 
-shared-search-nothing-requires : shared-search-needs shared-search-lts.Need-nothing-requires
+shared-search-nothing-requires : shared-search-needs shared-search-lts.Need-nothing-blocking-requires
 shared-search-nothing-requires t c κs = search rules
 
-shared-search-loop-holds : shared-search-needs shared-search-lts.Need-loop-init
+shared-search-loop-holds : shared-search-needs shared-search-lts.Need-loop-k-init
 shared-search-loop-holds t c =
     let (searched, ((fits, stand), remembered)) = c.before.before.before.before.before.before.before.before.requires.1 in (
       (omega arith, refl),
       (
         (
-          shared-end _ _ _ _ _ _ _ _ _ c.before.only.ensures c.nothing.ensures,
+          shared-end _ _ _ _ _ _ _ _ _ c.before.only-found.ensures c.nothing-blocking.ensures,
           λ j from there. absurd (omega arith),
         ),
         (refl, remembered),
       ),
     )
 
-shared-search-sub-k : shared-search-needs shared-search-lts.Need-overflow-sub-k
+shared-search-sub-k : shared-search-needs shared-search-lts.Need-overflow_sub-k
 shared-search-sub-k t c = search rules
 
-shared-search-asked-search-requires : shared-search-needs shared-search-lts.Need-asked-search-requires
+shared-search-asked-search-requires : shared-search-needs shared-search-lts.Need-asked_search-answer-requires
 shared-search-asked-search-requires t c κs =
     let (searched, ((fits, stand), remembered)) = c.before.before.before.before.before.before.before.before.before.before.before.requires.1 in
-    let ((few, room), ((so_far, later), (same, now-remembered))) = c.before.before.loop.invariant in
-    let next : suc (c.before.before.loop.k - 1) ≡ c.before.before.loop.k = omega (arith, c.before.loop-test.true) in
-    (omega (arith, c.before.before.before.before.before.before.before.before.before.before.before.requires.0), (searched, ((fits, stand), ((omega (arith, c.before.loop-test.true), room), (rw next later, now-remembered)))))
+    let ((few, room), ((so_far, later), (same, now-remembered))) = c.before.before.loop-k.invariant in
+    let next : suc (c.before.before.loop-k.k - 1) ≡ c.before.before.loop-k.k = omega (arith, c.before.loop-k-test.true) in
+    (omega (arith, c.before.before.before.before.before.before.before.before.before.before.before.requires.0), (searched, ((fits, stand), ((omega (arith, c.before.loop-k-test.true), room), (rw next later, now-remembered)))))
 
-shared-search-is-none-requires : shared-search-needs shared-search-lts.Need-is-none-requires
+shared-search-is-none-requires : shared-search-needs shared-search-lts.Need-is_none-requires
 shared-search-is-none-requires t c κs = search rules
 
 shared-search-failed-requires : shared-search-needs shared-search-lts.Need-failed-requires
 shared-search-failed-requires t c κs = search rules
 
-shared-search-same-length : shared-search-needs shared-search-lts.Need-same-length
+shared-search-same-length : shared-search-needs shared-search-lts.Need-shape_of-memory-then-is_none
 shared-search-same-length t c =
-    c.before.before.before.before.before.memory.given ∙ c.before.before.before.before.before.before.before.before.before.loop.invariant.1.1.0
+    c.before.before.before.before.before.memory-1.given ∙ c.before.before.before.before.before.before.before.before.before.loop-k.invariant.1.1.0
 
-shared-search-returns : shared-search-needs shared-search-lts.Need-returns
+shared-search-returns : shared-search-needs shared-search-lts.Need-returns-then-is_none
 shared-search-returns t c =
     let at-asked-search = c.before.before.before.before.before.before in
     let at-loop = c.before.before.before.before.before.before.before.before.before in
     let (searched, ((fits, stand), remembered)) = c.before.before.before.before.before.before.before.before.before.before.before.before.before.before.before.before.before.before.requires.1 in
-    let (judged, now-remembered) = at-asked-search.asked-search.ensures in
-    let fails = none-fails judged c.before.before.is_none.ensures c.before.if1.true in (
+    let (judged, now-remembered) = at-asked-search.asked_search-answer.ensures in
+    let fails = none-fails judged c.before.before.is_none.ensures c.before.if-is_none.true in (
       rw c.failed.ensures.1 (asked-failed _ _ _ _ _ _ _ _ (omega
-          (arith, c.before.before.before.before.before.before.before.before.loop-test.true, at-loop.loop.invariant.0.0)) c.failed.ensures.0 judged.covered fails),
+          (arith, c.before.before.before.before.before.before.before.before.loop-k-test.true, at-loop.loop-k.invariant.0.0)) c.failed.ensures.0 judged.covered fails),
       now-remembered,
     )
 
-shared-search-mul-each : shared-search-needs shared-search-lts.Need-overflow-mul-each
+shared-search-mul-each : shared-search-needs shared-search-lts.Need-offset_bounds-each-k
 shared-search-mul-each t c =
     let at-loop = c.before.before.before.before.before.before.before.before in
     let few = c.before.before.before.before.before.before.before.before.before.before.before.before.before.before.before.before.before.requires.1.1.0.0.few in
-    omega (arith, c.before.before.before.before.before.before.before.loop-test.true, at-loop.loop.invariant.0.0, few)
+    omega (arith, c.before.before.before.before.before.before.before.loop-k-test.true, at-loop.loop-k.invariant.0.0, few)
 
-shared-search-array-set-from-each : shared-search-needs shared-search-lts.Need-array-set-from-each
+shared-search-array-set-from-each : shared-search-needs shared-search-lts.Need-bounds-each-k
 shared-search-array-set-from-each t c =
     let at-loop = c.before.before.before.before.before.before.before.before in
     let few = c.before.before.before.before.before.before.before.before.before.before.before.before.before.before.before.before.before.requires.1.1.0.0.few in
-    omega (arith, c.before.before.before.before.before.before.before.loop-test.true, at-loop.loop.invariant.0.0, few)
+    omega (arith, c.before.before.before.before.before.before.before.loop-k-test.true, at-loop.loop-k.invariant.0.0, few)
 
-shared-search-joined-requires : shared-search-needs shared-search-lts.Need-joined-requires
+shared-search-joined-requires : shared-search-needs shared-search-lts.Need-joined-blocking-requires
 shared-search-joined-requires t c κs = search rules
 
-shared-search-joined-requires-2 : shared-search-needs shared-search-lts.Need-joined-requires-2
+shared-search-joined-requires-2 : shared-search-needs shared-search-lts.Need-joined-requires
 shared-search-joined-requires-2 t c κs = search rules
 
-shared-search-trimmed-requires : shared-search-needs shared-search-lts.Need-trimmed-requires
+shared-search-trimmed-requires : shared-search-needs shared-search-lts.Need-trimmed-found-requires
 shared-search-trimmed-requires t c κs = search rules
 
-shared-search-loop-less : shared-search-needs shared-search-lts.Need-loop-smaller
+shared-search-loop-less : shared-search-needs shared-search-lts.Need-loop-k-smaller
 shared-search-loop-less t c = search rules
 
-shared-search-loop-again : shared-search-needs shared-search-lts.Need-loop-preserved
+shared-search-loop-again : shared-search-needs shared-search-lts.Need-loop-k-preserved
 shared-search-loop-again t c =
     let at-loop = c.before.before.before.before.before.before.before.before.before.before.before in
-    let more = c.before.before.before.before.before.before.before.before.before.before.loop-test.true in
+    let more = c.before.before.before.before.before.before.before.before.before.before.loop-k-test.true in
     let (searched, ((fits, stand), remembered)) = c.before.before.before.before.before.before.before.before.before.before.before.before.before.before.before.before.before.before.before.before.requires.1 in
-    let ((few, room), ((so_far, later), before)) = at-loop.loop.invariant in
-    let (one, now-remembered) = c.before.before.before.before.before.before.before.before.asked-search.ensures in
-    let next : suc (at-loop.loop.k - 1) ≡ at-loop.loop.k = omega (arith, more) in (
-      (omega arith, length-set at-loop.loop.each _ _ ∙ room),
+    let ((few, room), ((so_far, later), before)) = at-loop.loop-k.invariant in
+    let (one, now-remembered) = c.before.before.before.before.before.before.before.before.asked_search-answer.ensures in
+    let next : suc (at-loop.loop-k.k - 1) ≡ at-loop.loop-k.k = omega (arith, more) in (
+      (omega arith, length-set at-loop.loop-k.each _ _ ∙ room),
       (
         (
-          shared-next _ _ _ _ _ _ _ _ _ _ (omega (arith, more)) {blocking' = at-loop.loop.blocking} c.before.joined2.ensures c.trimmed.ensures
-              c.before.before.joined.ensures one (rw next so_far),
-          later-next _ _ _ _ _ _ c.before.before.before.before.before.before.before.before.before.before.before.before.before.before.before.before.before.before.before.before.args.asked (at-loop.loop.k - 1) at-loop.loop.each (omega (arith, more, room, fits.few)) c.before.before.joined.ensures
+          shared-next _ _ _ _ _ _ _ _ _ _ (omega (arith, more)) {blocking' = at-loop.loop-k.blocking} c.before.joined.ensures c.trimmed-found.ensures
+              c.before.before.joined-blocking.ensures one (rw next so_far),
+          later-next _ _ _ _ _ _ c.before.before.before.before.before.before.before.before.before.before.before.before.before.before.before.before.before.before.before.before.args.asked (at-loop.loop-k.k - 1) at-loop.loop-k.each (omega (arith, more, room, fits.few)) c.before.before.joined-blocking.ensures
               one.covered so_far.covered one (rw next later),
         ),
-        (c.before.before.before.before.before.before.before.memory.given ∙ before.0, now-remembered),
+        (c.before.before.before.before.before.before.before.memory-1.given ∙ before.0, now-remembered),
       ),
     )
 
 shared-search-answered-requires : shared-search-needs shared-search-lts.Need-answered-requires
 shared-search-answered-requires t c κs = search rules
 
-shared-search-same-length-2 : shared-search-needs shared-search-lts.Need-same-length-2
+shared-search-same-length-2 : shared-search-needs shared-search-lts.Need-shape_of-memory
 shared-search-same-length-2 t c = search rules
 
-shared-search-returns-2 : shared-search-needs shared-search-lts.Need-returns-2
+shared-search-returns-2 : shared-search-needs shared-search-lts.Need-returns
 shared-search-returns-2 t c =
     let at-loop = c.before.before in
-    let ((few, room), ((so_far, later), (same, now-remembered))) = at-loop.loop.invariant in
+    let ((few, room), ((so_far, later), (same, now-remembered))) = at-loop.loop-k.invariant in
     let (found-is, blocking-is) = c.answered.ensures in
-    let none : at-loop.loop.k ≡ 0 = omega (arith, c.before.loop-test.false) in
+    let none : at-loop.loop-k.k ≡ 0 = omega (arith, c.before.loop-k-test.false) in
     (rw (found-is, blocking-is) (asked-all _ _ _ _ _ _ _ _ none so_far), now-remembered)
 
 -- a place of `credential_search`, or a need, where its measure is t; and what it needs, whatever its measure is
@@ -1156,13 +1156,13 @@ credential-search-place place t = place (credential-search-claims t) (credential
 abbrev credential-search-needs : credential-search-Place → Type 0
 credential-search-needs need = (t : ℕ) → credential-search-place need t
 
-credential-search-add-credential : credential-search-needs credential-search-lts.Need-overflow-add-credential
+credential-search-add-credential : credential-search-needs credential-search-lts.Need-overflow_add-i
 credential-search-add-credential t c = search rules
 
-credential-search-credential-requires : credential-search-needs credential-search-lts.Need-credential-requires
+credential-search-credential-requires : credential-search-needs credential-search-lts.Need-credential-credential-requires
 credential-search-credential-requires t c κs = search rules
 
-credential-search-ends-word-requires : credential-search-needs credential-search-lts.Need-ends-word-requires
+credential-search-ends-word-requires : credential-search-needs credential-search-lts.Need-ends_word-requires
 credential-search-ends-word-requires t c κs =
     let (searched, (tried, remembered)) = c.before.before.before.before.before.before.before.requires.1 in (
       searched.well_formed,
@@ -1175,69 +1175,69 @@ credential-search-nothing-requires t c κs = search rules
 credential-search-answered-requires : credential-search-needs credential-search-lts.Need-answered-requires
 credential-search-answered-requires t c κs = search rules
 
-credential-search-parts-search-requires : credential-search-needs credential-search-lts.Need-parts-search-requires
+credential-search-parts-search-requires : credential-search-needs credential-search-lts.Need-parts_search-requires
 credential-search-parts-search-requires t c κs =
     let (searched, (tried, remembered)) = c.before.before.before.before.before.before.before.before.requires.1 in
-    let kind = kind-read _ _ _ c.before.before.credential.ensures 2 c.before.match.keys2 in
+    let kind = kind-read _ _ _ c.before.before.credential-credential.ensures 2 c.before.in-2.is in
     (omega (arith, c.before.before.before.before.before.before.before.before.requires.0), (searched, (tried, (inl kind, remembered))))
 
-credential-search-linked-search-requires : credential-search-needs credential-search-lts.Need-linked-search-requires
+credential-search-linked-search-requires : credential-search-needs credential-search-lts.Need-linked_search-requires
 credential-search-linked-search-requires t c κs =
     let (searched, (tried, remembered)) = c.before.before.before.before.before.before.before.before.requires.1 in
-    let kind = kind-read _ _ _ c.before.before.credential.ensures 3 c.before.match.keys3 in
+    let kind = kind-read _ _ _ c.before.before.credential-credential.ensures 3 c.before.in-3.is in
     (omega (arith, c.before.before.before.before.before.before.before.before.requires.0), (searched, (tried, (kind, remembered))))
 
-credential-search-parts-search-requires-2 : credential-search-needs credential-search-lts.Need-parts-search-requires-2
+credential-search-parts-search-requires-2 : credential-search-needs credential-search-lts.Need-parts_search-requires-in-4
 credential-search-parts-search-requires-2 t c κs =
     let (searched, (tried, remembered)) = c.before.before.before.before.before.before.before.before.requires.1 in
-    let kind = kind-read _ _ _ c.before.before.credential.ensures 4 c.before.match.keys4 in
+    let kind = kind-read _ _ _ c.before.before.credential-credential.ensures 4 c.before.in-4.is in
     (omega (arith, c.before.before.before.before.before.before.before.before.requires.0), (searched, (tried, (inr kind, remembered))))
 
-credential-search-nothing-requires-2 : credential-search-needs credential-search-lts.Need-nothing-requires-2
+credential-search-nothing-requires-2 : credential-search-needs credential-search-lts.Need-nothing-requires-in_default
 credential-search-nothing-requires-2 t c κs = search rules
 
 credential-search-failed-requires : credential-search-needs credential-search-lts.Need-failed-requires
 credential-search-failed-requires t c κs = search rules
 
-credential-search-returns : credential-search-needs credential-search-lts.Need-returns
+credential-search-returns : credential-search-needs credential-search-lts.Need-returns-in-1
 credential-search-returns t c =
     let (searched, (tried, remembered)) = c.before.before.before.before.before.before.before.before.before.before.requires.1 in
-    let kind = kind-read _ _ _ c.before.before.before.before.credential.ensures 1 c.before.before.before.match.keys1 in
+    let kind = kind-read _ _ _ c.before.before.before.before.credential-credential.ensures 1 c.before.before.before.in-1.is in
     let (found-is, blocking-is) = c.answered.ensures in (
-      rw (found-is, blocking-is) (word-judged searched tried kind _ _ remembered.few _ c.before.before.ends-word.ensures c.before.nothing.ensures),
+      rw (found-is, blocking-is) (word-judged searched tried kind _ _ remembered.few _ c.before.before.ends_word.ensures c.before.nothing.ensures),
       remembered,
     )
 
-credential-search-same-length : credential-search-needs credential-search-lts.Need-same-length
+credential-search-same-length : credential-search-needs credential-search-lts.Need-shape_of-memory-in-2
 credential-search-same-length t c = search rules
 
-credential-search-returns-2 : credential-search-needs credential-search-lts.Need-returns-2
+credential-search-returns-2 : credential-search-needs credential-search-lts.Need-returns-in-2
 credential-search-returns-2 t c = search rules
 
-credential-search-same-length-2 : credential-search-needs credential-search-lts.Need-same-length-2
+credential-search-same-length-2 : credential-search-needs credential-search-lts.Need-shape_of-memory-in-3
 credential-search-same-length-2 t c = search rules
 
-credential-search-returns-3 : credential-search-needs credential-search-lts.Need-returns-3
+credential-search-returns-3 : credential-search-needs credential-search-lts.Need-returns-in-3
 credential-search-returns-3 t c = search rules
 
-credential-search-same-length-3 : credential-search-needs credential-search-lts.Need-same-length-3
+credential-search-same-length-3 : credential-search-needs credential-search-lts.Need-shape_of-memory-in-4
 credential-search-same-length-3 t c = search rules
 
-credential-search-returns-4 : credential-search-needs credential-search-lts.Need-returns-4
+credential-search-returns-4 : credential-search-needs credential-search-lts.Need-returns-in-4
 credential-search-returns-4 t c = search rules
 
-credential-search-returns-5 : credential-search-needs credential-search-lts.Need-returns-5
+credential-search-returns-5 : credential-search-needs credential-search-lts.Need-returns-in_default
 credential-search-returns-5 t c =
     let (searched, (tried, remembered)) = c.before.before.before.before.before.before.before.before.before.requires.1 in
-    let no = c.before.before.match.rest in (
-      judged-never c.failed.ensures.0 (c.failed.ensures.1 ∙ c.before.nothing2.ensures) (λ X owed b.
-          sym (kind-other _ _ _ c.before.before.before.credential.ensures _ _ _ no.0.0.0.1 no.0.0.1 no.0.1 no.1)),
+    let no = c.before.before.in_default.rest in (
+      judged-never c.failed.ensures.0 (c.failed.ensures.1 ∙ c.before.nothing-in_default.ensures) (λ X owed b.
+          sym (kind-other _ _ _ c.before.before.before.credential-credential.ensures _ _ _ no.0.0.0.1 no.0.0.1 no.0.1 no.1)),
       remembered,
     )
 
-pub +asked-search-credential-search-definers-search-goal-search-link-search-linked-search-parts-search-shared-search-spec :
+pub +seek_spec :
     {M : Type 1} → statement M
-+asked-search-credential-search-definers-search-goal-search-link-search-linked-search-parts-search-shared-search-spec =
++seek_spec =
     close
     μ-asked-search
     μ-credential-search

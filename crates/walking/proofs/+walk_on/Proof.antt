@@ -20,18 +20,18 @@ use borrow.Fn.Kinds.{In, Out}
 use borrow.Fn.PlainCycle.{Measures, is, falls, and}
 use Rattle.walking.proofs.walk.Reads as walk
 use Rattle.walking.proofs.walk.Kinds as walk-kinds
-use Rattle.walking.proofs.+walk_walk_asked.Lts-walk as walk-lts
+use Rattle.walking.proofs.+walk_on.Lts-walk as walk-lts
 use Rattle.walking.proofs.walk_asked.Reads as walk-asked
 use Rattle.walking.proofs.walk_asked.Kinds as walk-asked-kinds
-use Rattle.walking.proofs.+walk_walk_asked.Lts-walk_asked as walk-asked-lts
+use Rattle.walking.proofs.+walk_on.Lts-walk_asked as walk-asked-lts
 use Rattle.moves.proofs.accepting.Reads as accepting-reads
 use Rattle.choice.proofs.choose.Reads as choose-reads
 use Rattle.members.proofs.above.Above.with.Reads as with-reads
 use Rattle.goals.proofs.stepped.Reads as stepped-reads
 use Rattle.walking.proofs.put.Reads as put_reads
 use Rattle.walking.proofs.wanted_here.Reads as wanted-here-reads
-use Rattle.walking.proofs.+walk_walk_asked.{statement}
-use Rattle.walking.proofs.+walk_walk_asked.Tie.{close}
+use Rattle.walking.proofs.+walk_on.{statement}
+use Rattle.walking.proofs.+walk_on.Tie.{close}
 
 abbrev μ-walk : Measures 6 walk-kinds.ps ℕ
 μ-walk κs a = 2 * a.1.1.1.1.1.1.1.1.0
@@ -70,7 +70,7 @@ walk-claims t = (
 abbrev walk-asked-claims : ℕ → walk-asked-lts.Claims
 walk-asked-claims t = (wanted-here-reads.Asked, wanted-here-reads.Learnt, walk-below t, walk.Post)
 
-abbrev walk-asked-Inv-loop : walk-asked-lts.invariant-loop
+abbrev walk-asked-Inv-loop : walk-asked-lts.invariant-loop-k
 walk-asked-Inv-loop table index arcs rows terms wanted asked levels states above memory₀ most from rec₀ persons places next₀ met₀
     k₀ memory rec next met k =
     (k ≤ asked .len) × (next ≤ most)
@@ -79,7 +79,7 @@ walk-asked-Inv-loop table index arcs rows terms wanted asked levels states above
     (goals_from table asked k) from most rec₀ rec next met
     × (length memory ≡ length memory₀) × Remembered table terms.allowed terms.constraints terms.owed memory
 
-abbrev walk-asked-μ-loop : walk-asked-lts.decreases-loop
+abbrev walk-asked-μ-loop : walk-asked-lts.decreases-loop-k
 walk-asked-μ-loop table index arcs rows terms wanted asked levels states above memory₀ most from rec₀ persons places next₀ met₀
     k₀ memory rec next met k =
     asked .len - k
@@ -93,8 +93,8 @@ walk-needs need = (t : ℕ) → walk-place need t
 
 abbrev walk-asked-Place : Type 1
 walk-asked-Place =
-    walk-asked-lts.Claims → In 6 walk-asked-kinds.ps → Out 6 walk-asked-kinds.ps walk-asked-kinds.r → walk-asked-lts.invariant-loop
-    → walk-asked-lts.decreases-loop → Type 0
+    walk-asked-lts.Claims → In 6 walk-asked-kinds.ps → Out 6 walk-asked-kinds.ps walk-asked-kinds.r → walk-asked-lts.invariant-loop-k
+    → walk-asked-lts.decreases-loop-k → Type 0
 
 abbrev walk-asked-place : walk-asked-Place → ℕ → Type 0
 walk-asked-place place t = place (walk-asked-claims t) (walk-asked-at t) walk-asked.Post walk-asked-Inv-loop walk-asked-μ-loop
@@ -104,13 +104,13 @@ walk-asked-needs need = (t : ℕ) → walk-asked-place need t
 
 module _ (t : ℕ) where
   -- branch and state sets are one role on
-  abbrev walk_from : walk-place walk-lts.After-with t → walk-place walk-lts.Start t
+  abbrev walk_from : walk-place walk-lts.After-with-deeper t → walk-place walk-lts.Start t
   walk_from at = at.before.before.before.before.before.before.before.before.before
 
-  walk-entered : (at : walk-place walk-lts.After-with t) → let from = (walk_from at).args in
+  walk-entered : (at : walk-place walk-lts.After-with-deeper t) → let from = (walk_from at).args in
       Entered from.table.now from.terms.allowed from.terms.constraints from.terms.owed from.levels
       from.above
-      at.with.result from.states at.before.stepped.result.states (in_family from.wanted) from.person
+      at.with-deeper.result from.states at.before.stepped-below.result.states (in_family from.wanted) from.person
       from.place
   walk-entered at =
       let pre = (walk_from at).pre.1 in
@@ -120,36 +120,36 @@ module _ (t : ℕ) where
         there = pre.1.0.1;
         wanted = family-wants pre.1.1.0;
         suited = pre.1.1.1.1.0;
-        moved = steps _ _ _ _ at.before.stepped.ensures;
-        deeper-is = at.with.ensures;
+        moved = steps _ _ _ _ at.before.stepped-below.ensures;
+        deeper-is = at.with-deeper.ensures;
       }
 
   -- where the node's numbers have been put: the place where it was chosen, and the one before
-  abbrev walk-chose : walk-place walk-lts.After-put t → walk-place walk-lts.After-choose t
+  abbrev walk-chose : walk-place walk-lts.After-put t → walk-place walk-lts.After-choose-node t
   walk-chose at = at.before.before.before.before
 
-  abbrev walk-with : walk-place walk-lts.After-put t → walk-place walk-lts.After-with t
+  abbrev walk-with : walk-place walk-lts.After-put t → walk-place walk-lts.After-with-deeper t
   walk-with at = (walk-chose at).before.before
 
   -- where what the node asks has been walked: the place where its numbers had been put
-  abbrev walk_put : walk-place walk-lts.After-walk-asked t → walk-place walk-lts.After-put t
+  abbrev walk_put : walk-place walk-lts.After-walk_asked t → walk-place walk-lts.After-put t
   walk_put at = at.before.before.before.before.before.before.before.before
 
-walk-stepped-requires : walk-needs walk-lts.Need-stepped-requires
+walk-stepped-requires : walk-needs walk-lts.Need-stepped-below-requires
 walk-stepped-requires t c κs =
     let pre = c.before.before.before.before.before.before.before.requires.1 in
     (pre.0.well_formed, (pre.0.moving, pre.1.0.1))
 
-walk-with-requires : walk-needs walk-lts.Need-with-requires
+walk-with-requires : walk-needs walk-lts.Need-with-deeper-requires
 walk-with-requires t c κs =
     let pre = c.before.before.before.before.before.before.before.before.requires.1 in
     let wf = pre.0.well_formed in
     (below-most wf _ pre.1.0.0.there, below-most wf _ pre.1.0.1)
 
-walk-sub-choose : walk-needs walk-lts.Need-overflow-sub-choose
+walk-sub-choose : walk-needs walk-lts.Need-overflow_sub-levels
 walk-sub-choose t c = omega (arith, entered-left (walk-entered t c))
 
-walk-choose-requires : walk-needs walk-lts.Need-choose-requires
+walk-choose-requires : walk-needs walk-lts.Need-choose-node-requires
 walk-choose-requires t c κs =
     let with = c.before in
     let pre = (walk_from t with).requires.1 in (
@@ -162,7 +162,7 @@ walk-put-requires t c κs =
     let room = (walk_from t c.before.before.before.before.before).pre.1.1.1.1.1.1 in
     omega (arith, room.0, room.1)
 
-walk-add-next : walk-needs walk-lts.Need-overflow-add-next
+walk-add-next : walk-needs walk-lts.Need-overflow_add-next
 walk-add-next t c =
     let room = (walk_from t (walk-with t c.before.before)).pre.1.1.1.1.1.1 in
     record { fits = omega (arith, room.0, room.1) }
@@ -172,43 +172,43 @@ walk-accepting-requires t c κs =
     let searched = (walk_from t (walk-with t c.before.before.before.before)).pre.1.0 in
     (searched.well_formed, searched.moving)
 
-walk-same-length : walk-needs walk-lts.Need-same-length
-walk-same-length t c = c.before.before.before.before.before.before.before.before.before.memory.given
+walk-same-length : walk-needs walk-lts.Need-shape_of-memory-then-node-eq0
+walk-same-length t c = c.before.before.before.before.before.before.before.before.before.memory-1.given
 
-walk-same-length-2 : walk-needs walk-lts.Need-same-length-2
+walk-same-length-2 : walk-needs walk-lts.Need-shape_of-rec-then-node-eq0
 walk-same-length-2 t c = c.before.before.before.before.before.before.put.ensures.size
 
-walk-returns : walk-needs walk-lts.Need-returns
+walk-returns : walk-needs walk-lts.Need-returns-then-node-eq0
 walk-returns t c =
     let put = c.before.before.before.before.before.before in
-    let (chosen, remembered) = (walk-chose t put).choose.ensures in
-    let told = node-ends (walk-entered t (walk-with t put)) chosen put.put.ensures _ c.before.before.if1.true
+    let (chosen, remembered) = (walk-chose t put).choose-node.ensures in
+    let told = node-ends (walk-entered t (walk-with t put)) chosen put.put.ensures _ c.before.before.if-node-eq0.true
     c.before.accepting.ensures in
     (record { walked = told.0; meets = told.1 }, remembered)
 
-walk-same-length-3 : walk-needs walk-lts.Need-same-length-3
-walk-same-length-3 t c = c.before.before.before.before.before.before.before.before.memory.given
+walk-same-length-3 : walk-needs walk-lts.Need-shape_of-memory-then-most-next
+walk-same-length-3 t c = c.before.before.before.before.before.before.before.before.memory-1.given
 
-walk-same-length-4 : walk-needs walk-lts.Need-same-length-4
+walk-same-length-4 : walk-needs walk-lts.Need-shape_of-rec-then-most-next
 walk-same-length-4 t c = c.before.before.before.before.before.put.ensures.size
 
-walk-returns-2 : walk-needs walk-lts.Need-returns-2
+walk-returns-2 : walk-needs walk-lts.Need-returns-then-most-next
 walk-returns-2 t c =
     let put = c.before.before.before.before.before in
-    let (chosen, remembered) = (walk-chose t put).choose.ensures in
-    let told = node_over (walk-entered t (walk-with t put)) chosen put.put.ensures _ c.if2.true 0 in
+    let (chosen, remembered) = (walk-chose t put).choose-node.ensures in
+    let told = node_over (walk-entered t (walk-with t put)) chosen put.put.ensures _ c.if-most-next.true 0 in
     (record { walked = told.0; meets = told.1 }, remembered)
 
-walk-sub-walk-asked : walk-needs walk-lts.Need-overflow-sub-walk-asked
+walk-sub-walk-asked : walk-needs walk-lts.Need-overflow_sub-levels-2
 walk-sub-walk-asked t c =
     omega (arith, entered-left (walk-entered t (walk-with t c.before.before.before.before.before)))
 
-walk-walk-asked-requires : walk-needs walk-lts.Need-walk-asked-requires
+walk-walk-asked-requires : walk-needs walk-lts.Need-walk_asked-requires
 walk-walk-asked-requires t c κs =
     let put = c.before.before.before.before.before.before.before in
     let entered = walk-entered t (walk-with t put) in
     let pre = (walk_from t (walk-with t put)).pre in
-    let (chosen, remembered) = (walk-chose t put).choose.ensures in (
+    let (chosen, remembered) = (walk-chose t put).choose-node.ensures in (
       omega (arith, entered-left entered, pre.0),
       (
         searched-fewer _ (omega arith) pre.1.0,
@@ -219,8 +219,8 @@ walk-walk-asked-requires t c κs =
             (
               remembered,
               (
-                chosen-suits entered chosen c.before.before.before.if1.false,
-                (omega (arith, c.before.before.if2.false), pre.1.1.1.1.1.1.1),
+                chosen-suits entered chosen c.before.before.before.if-node-eq0.false,
+                (omega (arith, c.before.before.if-most-next.false), pre.1.1.1.1.1.1.1),
               ),
             ),
           ),
@@ -228,82 +228,82 @@ walk-walk-asked-requires t c κs =
       ),
     )
 
-walk-same-length-5 : walk-needs walk-lts.Need-same-length-5
+walk-same-length-5 : walk-needs walk-lts.Need-shape_of-memory
 walk-same-length-5 t c =
     let chosen = (walk_put t c.before.before.before.before).before.before.before in
-    c.before.before.before.memory2.given ∙ chosen.memory.given
+    c.before.before.before.memory-2-1.given ∙ chosen.memory.given
 
-walk-same-length-6 : walk-needs walk-lts.Need-same-length-6
+walk-same-length-6 : walk-needs walk-lts.Need-shape_of-rec
 walk-same-length-6 t c =
     let asked = c.before.before.before.before in
     asked .walk-asked .ensures .0 .walked .size ∙ walk_put t asked .put .ensures .size
 
-walk-returns-3 : walk-needs walk-lts.Need-returns-3
+walk-returns-3 : walk-needs walk-lts.Need-returns
 walk-returns-3 t c =
     let asked = c.before.before.before.before in
     let (walks, remembered) = asked .walk-asked .ensures in
     let put = walk_put t asked in
-    let told = node-goes (walk-entered t (walk-with t put)) (walk-chose t put).choose.ensures.0 put.put.ensures _
+    let told = node-goes (walk-entered t (walk-with t put)) (walk-chose t put).choose-node.ensures.0 put.put.ensures _
     (asked .before .before .before .before .if1 .false) walks.walked walks.meets in
     (record { walked = told.0; meets = told.1 }, remembered)
 
 module _ (t : ℕ) where
   -- the loop's place, and the one where the call was asked
-  abbrev walk-asked-from : walk-asked-place walk-asked-lts.At-loop t → walk-asked-place walk-asked-lts.Start t
+  abbrev walk-asked-from : walk-asked-place walk-asked-lts.At-loop-k t → walk-asked-place walk-asked-lts.Start t
   walk-asked-from at = at.before.before.before.before.before.before.before.before.before
 
   -- where a child has been walked: the place where it was told what it may meet, and the loop's
-  abbrev walk-asked-told : walk-asked-place walk-asked-lts.After-walk t → walk-asked-place walk-asked-lts.After-wanted-here t
+  abbrev walk-asked-told : walk-asked-place walk-asked-lts.After-walk-walked t → walk-asked-place walk-asked-lts.After-wanted_here-here t
   walk-asked-told at = at.before.before.before.before.before
 
-  abbrev walk-asked-loop : walk-asked-place walk-asked-lts.After-wanted-here t → walk-asked-place walk-asked-lts.At-loop t
+  abbrev walk-asked-loop : walk-asked-place walk-asked-lts.After-wanted_here-here t → walk-asked-place walk-asked-lts.At-loop-k t
   walk-asked-loop at = at.before.before.before.before
 
   -- the child is one of at most four
-  walk-asked-near : (at : walk-asked-place walk-asked-lts.After-wanted-here t) → (walk-asked-loop at).loop.k < 4
+  walk-asked-near : (at : walk-asked-place walk-asked-lts.After-wanted_here-here t) → (walk-asked-loop at).loop-k.k < 4
   walk-asked-near at =
       let pre = (walk-asked-from (walk-asked-loop at)).pre.1 in
-      omega (arith, at.before.before.if1.taken, pre.1.0.fits.few)
+      omega (arith, at.before.before.loop-k-test.taken, pre.1.0.fits.few)
 
-walk-asked-loop-holds : walk-asked-needs walk-asked-lts.Need-loop-init
+walk-asked-loop-holds : walk-asked-needs walk-asked-lts.Need-loop-k-init
 walk-asked-loop-holds t c =
     let pre = c.before.before.before.before.before.before.before.before.requires.1 in
     (omega arith, pre.1.1.1.1.1.0, passed_none _ _ _ _ _ _ _ _ _ _ _ _ pre.1.1.1.1.0, refl, pre.1.1.1.0)
 
-walk-asked-add-wanted-here : walk-asked-needs walk-asked-lts.Need-overflow-add-wanted-here
+walk-asked-add-wanted-here : walk-asked-needs walk-asked-lts.Need-overflow_add-k
 walk-asked-add-wanted-here t c =
     let pre = (walk-asked-from t c.before.before).pre.1 in
-    record { fits = omega (arith, c.if1.true, pre.1.0.fits.few) }
+    record { fits = omega (arith, c.loop-k-test.true, pre.1.0.fits.few) }
 
-walk-asked-wanted-here-requires : walk-asked-needs walk-asked-lts.Need-wanted-here-requires
+walk-asked-wanted-here-requires : walk-asked-needs walk-asked-lts.Need-wanted_here-here-requires
 walk-asked-wanted-here-requires t c κs =
     let at = c.before.before.before in
     let pre = (walk-asked-from t at).requires.1 in
-    let (_, _, passed, _, remembered) = at.loop.invariant in
-    (pre.0, (pre.1.0, (pre.1.1.0, (remembered, (passed.few, omega (arith, c.before.if1.true))))))
+    let (_, _, passed, _, remembered) = at.loop-k.invariant in
+    (pre.0, (pre.1.0, (pre.1.1.0, (remembered, (passed.few, omega (arith, c.before.loop-k-test.true))))))
 
-walk-asked-mul-walk : walk-asked-needs walk-asked-lts.Need-overflow-mul-walk
+walk-asked-mul-walk : walk-asked-needs walk-asked-lts.Need-offset_bounds-persons-k
 walk-asked-mul-walk t c = record { fits = omega (arith, walk-asked-near t c.before.before) }
 
-walk-asked-array-read-walk : walk-asked-needs walk-asked-lts.Need-array-read-walk
+walk-asked-array-read-walk : walk-asked-needs walk-asked-lts.Need-bounds-persons-k
 walk-asked-array-read-walk t c = walk-asked-near t c.before.before
 
-walk-asked-mul-walk-2 : walk-asked-needs walk-asked-lts.Need-overflow-mul-walk-2
+walk-asked-mul-walk-2 : walk-asked-needs walk-asked-lts.Need-offset_bounds-places-k
 walk-asked-mul-walk-2 t c = record { fits = omega (arith, walk-asked-near t c.before.before) }
 
-walk-asked-array-read-walk-2 : walk-asked-needs walk-asked-lts.Need-array-read-walk-2
+walk-asked-array-read-walk-2 : walk-asked-needs walk-asked-lts.Need-bounds-places-k
 walk-asked-array-read-walk-2 t c = walk-asked-near t c.before.before
 
-walk-asked-walk-requires : walk-asked-needs walk-asked-lts.Need-walk-requires
+walk-asked-walk-requires : walk-asked-needs walk-asked-lts.Need-walk-walked-requires
 walk-asked-walk-requires t c κs =
     let told = c.before.before.before.before in
     let at = walk-asked-loop t told in
     let pre = (walk-asked-from t at).pre in
     let wf = pre.1.0.well_formed in
     let wanted = family-wants pre.1.1.1.0 in
-    let next = told.before.before.if1.true in
-    let (_, room, passed, _, _) = at.loop.inv in
-    let (alike, remembered) = told.wanted-here.ensures in (
+    let next = told.before.before.loop-k-test.true in
+    let (_, room, passed, _, _) = at.loop-k.inv in
+    let (alike, remembered) = told.wanted_here-here.ensures in (
       omega (arith, pre.0),
       (
         pre.1.0,
@@ -317,74 +317,74 @@ walk-asked-walk-requires t c κs =
       ),
     )
 
-walk-asked-add-k : walk-asked-needs walk-asked-lts.Need-overflow-add-k
+walk-asked-add-k : walk-asked-needs walk-asked-lts.Need-overflow_add-k-in-loop-k
 walk-asked-add-k t c =
     let told = walk-asked-told t c.before.before.before.before.before.before in
     record { fits = omega (arith, walk-asked-near t told) }
 
-walk-asked-loop-less : walk-asked-needs walk-asked-lts.Need-loop-smaller
+walk-asked-loop-less : walk-asked-needs walk-asked-lts.Need-loop-k-smaller
 walk-asked-loop-less t c = search rules
 
-walk-asked-loop-again : walk-asked-needs walk-asked-lts.Need-loop-preserved
+walk-asked-loop-again : walk-asked-needs walk-asked-lts.Need-loop-k-preserved
 walk-asked-loop-again t c =
     let walk = c.before.before.before.before.before.before in
     let told = walk-asked-told t walk in
     let at = walk-asked-loop t told in
     let pre = (walk-asked-from t at).pre.1 in
-    let next = told.before.before.if1.taken in
-    let (walks, remembered) = walk.walk.ensures in
-    let room = c.before.if2.false in (
+    let next = told.before.before.loop-k-test.taken in
+    let (walks, remembered) = walk.walk-walked.ensures in
+    let room = c.before.if-most-next.false in (
       omega (arith, next),
       omega (arith, room),
-      asked-next pre.0.well_formed _ _ _ _ _ _ _ (family-wants pre.1.1.0) _ _ next at.loop.inv.2 _
-          told.wanted-here.ensures.0 at.loop.inv.1 walks.walked _ (walks.meets (omega (arith, room))),
-      c.before.before.before.before.before.memory2.given ∙ walk.before.before.before.before.memory.given
-          ∙ at.loop.inv.3,
+      asked-next pre.0.well_formed _ _ _ _ _ _ _ (family-wants pre.1.1.0) _ _ next at.loop-k.inv.2 _
+          told.wanted-here.ensures.0 at.loop-k.inv.1 walks.walked _ (walks.meets (omega (arith, room))),
+      c.before.before.before.before.before.memory-in-loop-k-1.given ∙ walk.before.before.before.before.memory-1.given
+          ∙ at.loop-k.inv.3,
       remembered,
     )
 
-walk-asked-same-length : walk-asked-needs walk-asked-lts.Need-same-length
-walk-asked-same-length t c = c.before.before.loop.invariant.3
+walk-asked-same-length : walk-asked-needs walk-asked-lts.Need-shape_of-memory-after-loop-k
+walk-asked-same-length t c = c.before.before.loop-k.invariant.3
 
-walk-asked-same-length-2 : walk-asked-needs walk-asked-lts.Need-same-length-2
-walk-asked-same-length-2 t c = c.before.before.loop.invariant.2.walked.size
+walk-asked-same-length-2 : walk-asked-needs walk-asked-lts.Need-shape_of-rec-after-loop-k
+walk-asked-same-length-2 t c = c.before.before.loop-k.invariant.2.walked.size
 
-walk-asked-returns : walk-asked-needs walk-asked-lts.Need-returns
+walk-asked-returns : walk-asked-needs walk-asked-lts.Need-returns-after-loop-k
 walk-asked-returns t c =
-    let (_, _, passed, _, remembered) = c.before.before.loop.invariant in
-    let told = asked-last _ _ _ _ _ _ _ _ _ _ _ (omega (arith, c.if1.false)) passed in
+    let (_, _, passed, _, remembered) = c.before.before.loop-k.invariant in
+    let told = asked-last _ _ _ _ _ _ _ _ _ _ _ (omega (arith, c.loop-k-test.false)) passed in
     (record { walked = told.0; meets = λ room. told.1 }, remembered)
 
-walk-asked-same-length-3 : walk-asked-needs walk-asked-lts.Need-same-length-3
+walk-asked-same-length-3 : walk-asked-needs walk-asked-lts.Need-shape_of-memory-then-most-next
 walk-asked-same-length-3 t c =
     let walk = c.before.before.before.before.before in
-    c.before.before.before.before.memory2.given ∙ walk.before.before.before.before.memory.given
-    ∙ (walk-asked-loop t (walk-asked-told t walk)).loop.inv.3
+    c.before.before.before.before.memory-in-loop-k-1.given ∙ walk.before.before.before.before.memory-1.given
+    ∙ (walk-asked-loop t (walk-asked-told t walk)).loop-k.inv.3
 
-walk-asked-same-length-4 : walk-asked-needs walk-asked-lts.Need-same-length-4
+walk-asked-same-length-4 : walk-asked-needs walk-asked-lts.Need-shape_of-rec-then-most-next
 walk-asked-same-length-4 t c =
     let walk = c.before.before.before.before.before in
-    walk.walk.ensures.0.walked.size ∙ (walk-asked-loop t (walk-asked-told t walk)).loop.inv.2.walked.size
+    walk.walk-walked.ensures.0.walked.size ∙ (walk-asked-loop t (walk-asked-told t walk)).loop-k.inv.2.walked.size
 
-walk-asked-returns-2 : walk-asked-needs walk-asked-lts.Need-returns-2
+walk-asked-returns-2 : walk-asked-needs walk-asked-lts.Need-returns-then-most-next
 walk-asked-returns-2 t c =
     let walk = c.before.before.before.before.before in
     let told = walk-asked-told t walk in
     let at = walk-asked-loop t told in
     let pre = (walk-asked-from t at).pre.1 in
-    let next = told.before.before.if1.taken in
-    let (walks, remembered) = walk.walk.ensures in (
+    let next = told.before.before.loop-k-test.taken in
+    let (walks, remembered) = walk.walk-walked.ensures in (
       record {
         walked =
-            asked-beyond pre.0.well_formed _ _ _ _ _ _ _ (family-wants pre.1.1.0) _ _ next at.loop.inv.2 _
-            told.wanted-here.ensures.0 at.loop.inv.1 walks.walked c.if2.true;
-        meets = λ room. absurd (omega (arith, c.if2.true));
+            asked-beyond pre.0.well_formed _ _ _ _ _ _ _ (family-wants pre.1.1.0) _ _ next at.loop-k.inv.2 _
+            told.wanted-here.ensures.0 at.loop-k.inv.1 walks.walked c.if-most-next.true;
+        meets = λ room. absurd (omega (arith, c.if-most-next.true));
       },
       remembered,
     )
 
-pub +walk-walk-asked-spec : {M : Type 1} → statement M
-+walk-walk-asked-spec = close μ-walk μ-walk-asked (λ t. walk-lts.spec (walk-claims t) (walk_at t)
+pub +walk_on_spec : {M : Type 1} → statement M
++walk_on_spec = close μ-walk μ-walk-asked (λ t. walk-lts.spec (walk-claims t) (walk_at t)
     walk.Post
     (walk-stepped-requires t)
     (walk-with-requires t)

@@ -29,25 +29,25 @@ use borrow.Fn.Kinds.{In, Out}
 use borrow.Fn.PlainCycle.{Measures, is, falls, and}
 use Rattle.admission.proofs.admits_by.Reads as admits-by
 use Rattle.admission.proofs.admits_by.Kinds as admits-by-kinds
-use Rattle.admission.proofs.+admits_by_admits_found_admits_free_admits_over_admits_under_imposes_one_owes_one.Lts-admits_by as admits-by-lts
+use Rattle.admission.proofs.+admit.Lts-admits_by as admits-by-lts
 use Rattle.admission.proofs.admits_found.Reads as admits-found
 use Rattle.admission.proofs.admits_found.Kinds as admits-found-kinds
-use Rattle.admission.proofs.+admits_by_admits_found_admits_free_admits_over_admits_under_imposes_one_owes_one.Lts-admits_found as admits-found-lts
+use Rattle.admission.proofs.+admit.Lts-admits_found as admits-found-lts
 use Rattle.admission.proofs.admits_free.Reads as admits-free
 use Rattle.admission.proofs.admits_free.Kinds as admits-free-kinds
-use Rattle.admission.proofs.+admits_by_admits_found_admits_free_admits_over_admits_under_imposes_one_owes_one.Lts-admits_free as admits-free-lts
+use Rattle.admission.proofs.+admit.Lts-admits_free as admits-free-lts
 use Rattle.admission.proofs.admits_over.Reads as admits-over
 use Rattle.admission.proofs.admits_over.Kinds as admits-over-kinds
-use Rattle.admission.proofs.+admits_by_admits_found_admits_free_admits_over_admits_under_imposes_one_owes_one.Lts-admits_over as admits-over-lts
+use Rattle.admission.proofs.+admit.Lts-admits_over as admits-over-lts
 use Rattle.admission.proofs.admits_under.Reads as admits-under
 use Rattle.admission.proofs.admits_under.Kinds as admits-under-kinds
-use Rattle.admission.proofs.+admits_by_admits_found_admits_free_admits_over_admits_under_imposes_one_owes_one.Lts-admits_under as admits-under-lts
+use Rattle.admission.proofs.+admit.Lts-admits_under as admits-under-lts
 use Rattle.admission.proofs.imposes_one.Reads as imposes-one
 use Rattle.admission.proofs.imposes_one.Kinds as imposes-one-kinds
-use Rattle.admission.proofs.+admits_by_admits_found_admits_free_admits_over_admits_under_imposes_one_owes_one.Lts-imposes_one as imposes-one-lts
+use Rattle.admission.proofs.+admit.Lts-imposes_one as imposes-one-lts
 use Rattle.admission.proofs.owes_one.Reads as owes-one
 use Rattle.admission.proofs.owes_one.Kinds as owes-one-kinds
-use Rattle.admission.proofs.+admits_by_admits_found_admits_free_admits_over_admits_under_imposes_one_owes_one.Lts-owes_one as owes-one-lts
+use Rattle.admission.proofs.+admit.Lts-owes_one as owes-one-lts
 use Rattle.settling.proofs.imposing.Reads as imposing-reads
 use Rattle.settling.proofs.lacking.Reads as lacking-reads
 use Rattle.settling.proofs.owing.Reads as owing-reads
@@ -62,10 +62,10 @@ use Rattle.search.proofs.is_member.Reads as is-member-reads
 use Rattle.search.proofs.query_search.Reads as query-search-reads
 use Rattle.sets.proofs.has_16.Reads as has-16-reads
 use Rattle.table.proofs.layout.wide.Reads as wide-reads
-use Rattle.admission.proofs.+admits_by_admits_found_admits_free_admits_over_admits_under_imposes_one_owes_one.{
+use Rattle.admission.proofs.+admit.{
   statement,
 }
-use Rattle.admission.proofs.+admits_by_admits_found_admits_free_admits_over_admits_under_imposes_one_owes_one.Tie.{
+use Rattle.admission.proofs.+admit.Tie.{
   close,
 }
 
@@ -245,100 +245,100 @@ abbrev admits-by-needs :
     (admits-by-lts.Claims → In 4 admits-by-kinds.ps → Out 4 admits-by-kinds.ps admits-by-kinds.r → Type 0) → Type 0
 admits-by-needs need = (t : ℕ) → need (admits-by-claims t) (admits-by-at t) admits-by.Post
 
-admits-by-returns : admits-by-needs admits-by-lts.Need-returns
-admits-by-returns t c = decided-last _ _ _ _ _ _ c.if1.true
+admits-by-returns : admits-by-needs admits-by-lts.Need-returns-then-k-eq0
+admits-by-returns t c = decided-last _ _ _ _ _ _ c.if-k-eq0.true
 
-admits-by-sub-has-16 : admits-by-needs admits-by-lts.Need-overflow-sub-has-16
+admits-by-sub-has-16 : admits-by-needs admits-by-lts.Need-overflow_sub-k
 admits-by-sub-has-16 t c = search rules
 
-admits-by-has-16-requires : admits-by-needs admits-by-lts.Need-has-16-requires
+admits-by-has-16-requires : admits-by-needs admits-by-lts.Need-has_16-requires
 admits-by-has-16-requires t c κs = omega (arith, few-left c.before.before.before.before.before.requires.1.0)
 
-admits-by-sub-admits-by : admits-by-needs admits-by-lts.Need-overflow-sub-admits-by
+admits-by-sub-admits-by : admits-by-needs admits-by-lts.Need-overflow_sub-k-then-not-has_16
 admits-by-sub-admits-by t c = search rules
 
-admits-by-admits-by-requires : admits-by-needs admits-by-lts.Need-admits-by-requires
+admits-by-admits-by-requires : admits-by-needs admits-by-lts.Need-admits_by-requires
 admits-by-admits-by-requires t c κs =
     let pre = c.before.before.before.before.before.before.before.requires in
-    (omega (arith, pre.0, c.before.before.if1.false), (undecided-next pre.1.0, pre.1.1))
+    (omega (arith, pre.0, c.before.before.if-k-eq0.false), (undecided-next pre.1.0, pre.1.1))
 
-admits-by-returns-2 : admits-by-needs admits-by-lts.Need-returns-2
+admits-by-returns-2 : admits-by-needs admits-by-lts.Need-returns-then-not-has_16
 admits-by-returns-2 t c =
     let known = c.before.before.before.before.before.before.before.before.requires.1.1 in
-    let none = rw known.bears at (failed c.before.before.has-16.ensures c.before.if2.true) in
-    c.admits-by.ensures ∙ decided-unborne _ _ _ _ _ _ c.before.before.before.if1.false none
+    let none = rw known.bears at (failed c.before.before.has_16.ensures c.before.if-not-has_16.true) in
+    c.admits_by.ensures ∙ decided-unborne _ _ _ _ _ _ c.before.before.before.if-k-eq0.false none
 
-admits-by-sub-has-16-2 : admits-by-needs admits-by-lts.Need-overflow-sub-has-16-2
+admits-by-sub-has-16-2 : admits-by-needs admits-by-lts.Need-overflow_sub-k-2
 admits-by-sub-has-16-2 t c = search rules
 
-admits-by-has-16-requires-2 : admits-by-needs admits-by-lts.Need-has-16-requires-2
+admits-by-has-16-requires-2 : admits-by-needs admits-by-lts.Need-has_16-requires-2
 admits-by-has-16-requires-2 t c κs = omega (arith, few-left c.before.before.before.before.before.before.before.requires.1.0)
 
 -- some credential of the set bears automaton k
-admits-by-borne : (t : ℕ) (c : admits-by-lts.Else2 (admits-by-claims t) (admits-by-at t) admits-by.Post) →
+admits-by-borne : (t : ℕ) (c : admits-by-lts.Else-not-has_16 (admits-by-claims t) (admits-by-at t) admits-by.Post) →
     let args = c.before.before.before.before.before.before.before.args in
     Borne args.table.now args.terms.allowed args.k
 admits-by-borne t c =
     let known = c.before.before.before.before.before.before.before.requires.1.1 in
     record {
-      some = c.before.before.if1.false;
-      borne = rw known.bears at (passed c.before.has-16.ensures c.if2.false);
+      some = c.before.before.if-k-eq0.false;
+      borne = rw known.bears at (passed c.before.has_16.ensures c.if-not-has_16.false);
     }
 
-admits-by-owes-one-requires : admits-by-needs admits-by-lts.Need-owes-one-requires
+admits-by-owes-one-requires : admits-by-needs admits-by-lts.Need-owes_one-requires
 admits-by-owes-one-requires t c κs =
     let pre = c.before.before.before.before.before.before.before.before.before.requires in
     let is = admits-by-borne t c.before.before in
-    let marked = by-mark pre.1.0 is.some (sym c.before.has-162.ensures ∙ c.if3.true) in
+    let marked = by-mark pre.1.0 is.some (sym c.before.has_16-2.ensures ∙ c.if-has_16.true) in
     (omega (arith, pre.0), (pre.1.0, (pre.1.1, (is, marked))))
 
-admits-by-returns-3 : admits-by-needs admits-by-lts.Need-returns-3
-admits-by-returns-3 t c = c.owes-one.ensures
+admits-by-returns-3 : admits-by-needs admits-by-lts.Need-returns-then-has_16
+admits-by-returns-3 t c = c.owes_one.ensures
 
-admits-by-imposes-one-requires : admits-by-needs admits-by-lts.Need-imposes-one-requires
+admits-by-imposes-one-requires : admits-by-needs admits-by-lts.Need-imposes_one-requires
 admits-by-imposes-one-requires t c κs =
     let pre = c.before.before.before.before.before.before.before.before.before.requires in
     let is = admits-by-borne t c.before.before in
-    let unmarked = by-no-mark pre.1.0 is.some (sym c.before.has-162.ensures ∙ c.if3.false) in
+    let unmarked = by-no-mark pre.1.0 is.some (sym c.before.has_16-2.ensures ∙ c.if-has_16.false) in
     (omega (arith, pre.0), (pre.1.0, (is, unmarked)))
 
-admits-by-returns-4 : admits-by-needs admits-by-lts.Need-returns-4
-admits-by-returns-4 t c = c.imposes-one.ensures
+admits-by-returns-4 : admits-by-needs admits-by-lts.Need-returns
+admits-by-returns-4 t c = c.imposes_one.ensures
 
 -- what `admits_free` needs, whatever its measure is
 abbrev admits-free-needs :
     (admits-free-lts.Claims → In 4 admits-free-kinds.ps → Out 4 admits-free-kinds.ps admits-free-kinds.r → Type 0) → Type 0
 admits-free-needs need = (t : ℕ) → need (admits-free-claims t) (admits-free-at t) admits-free.Post
 
-admits-free-is-member-requires : admits-free-needs admits-free-lts.Need-is-member-requires
+admits-free-is-member-requires : admits-free-needs admits-free-lts.Need-is_member-requires
 admits-free-is-member-requires t c κs =
     let u = c.before.before.before.before.requires.1.0 in
     let p = u.prepared in
     ((p.well_formed, p.valid), ((p.indexed, p.aimed), u.members))
 
-admits-free-returns : admits-free-needs admits-free-lts.Need-returns
-admits-free-returns t c = free-unproved _ _ _ _ _ c.before.before.before.before.before.before.requires.1.1 _ (failed c.before.is_member.ensures c.if1.true)
+admits-free-returns : admits-free-needs admits-free-lts.Need-returns-then-not-is_member
+admits-free-returns t c = free-unproved _ _ _ _ _ c.before.before.before.before.before.before.requires.1.1 _ (failed c.before.is_member.ensures c.if-not-is_member.true)
 
-admits-free-returns-2 : admits-free-needs admits-free-lts.Need-returns-2
+admits-free-returns-2 : admits-free-needs admits-free-lts.Need-returns-then-k-eq0
 admits-free-returns-2 t c =
-    free-proved _ _ _ _ _ c.before.before.before.before.before.before.before.requires.1.1 _ (passed c.before.before.is_member.ensures c.before.if1.false) (decided-last _ _ _ _ _ _ c.if2.true)
+    free-proved _ _ _ _ _ c.before.before.before.before.before.before.before.requires.1.1 _ (passed c.before.before.is_member.ensures c.before.if-not-is_member.false) (decided-last _ _ _ _ _ _ c.if-k-eq0.true)
 
-admits-free-automata-of-requires : admits-free-needs admits-free-lts.Need-automata-of-requires
+admits-free-automata-of-requires : admits-free-needs admits-free-lts.Need-automata_of-borne-requires
 admits-free-automata-of-requires t c κs = search rules
 
-admits-free-only-requires : admits-free-needs admits-free-lts.Need-only-requires
+admits-free-only-requires : admits-free-needs admits-free-lts.Need-only-found-requires
 admits-free-only-requires t c κs = search rules
 
-admits-free-admits-by-requires : admits-free-needs admits-free-lts.Need-admits-by-requires
+admits-free-admits-by-requires : admits-free-needs admits-free-lts.Need-admits_by-requires
 admits-free-admits-by-requires t c κs =
     let pre = c.before.before.before.before.before.before.before.before.before.requires in
     let owed = c.before.before.before.before.before.before.before.before.before.args.terms.owed in
-    let tells = free-tells _ _ _ _ owed pre.1.1 (passed c.before.before.before.before.is_member.ensures c.before.before.before.if1.false) _ c.only.ensures in
-    (omega (arith, pre.0), (pre.1.0, record { bears = c.before.automata-of.ensures; tells = tells }))
+    let tells = free-tells _ _ _ _ owed pre.1.1 (passed c.before.before.before.before.is_member.ensures c.before.before.before.if-not-is_member.false) _ c.only-found.ensures in
+    (omega (arith, pre.0), (pre.1.0, record { bears = c.before.automata_of-borne.ensures; tells = tells }))
 
-admits-free-returns-3 : admits-free-needs admits-free-lts.Need-returns-3
+admits-free-returns-3 : admits-free-needs admits-free-lts.Need-returns
 admits-free-returns-3 t c =
-    free-proved _ _ _ _ _ c.before.before.before.before.before.before.before.before.before.before.requires.1.1 _ (passed c.before.before.before.before.before.is_member.ensures c.before.before.before.before.if1.false) c.admits-by.ensures
+    free-proved _ _ _ _ _ c.before.before.before.before.before.before.before.before.before.before.requires.1.1 _ (passed c.before.before.before.before.before.is_member.ensures c.before.before.before.before.if-not-is_member.false) c.admits_by.ensures
 
 -- what `admits_found` needs, whatever its measure is
 abbrev admits-found-needs :
@@ -348,7 +348,7 @@ admits-found-needs need = (t : ℕ) → need (admits-found-claims t) (admits-fou
 module _ (t : ℕ) where
   -- the place where it is known what cannot be met, and the one where the function was asked
   abbrev admits-found-lost : Type 0
-  admits-found-lost = admits-found-lts.After-lacking (admits-found-claims t) (admits-found-at t) admits-found.Post
+  admits-found-lost = admits-found-lts.After-lacking-lost (admits-found-claims t) (admits-found-at t) admits-found.Post
 
   abbrev admits-found-start : Type 0
   admits-found-start = admits-found-lts.Start (admits-found-claims t) (admits-found-at t) admits-found.Post
@@ -365,22 +365,22 @@ module _ (t : ℕ) where
   -- leaving out the credentials of what cannot be met leaves fewer, and admits the same
   admits-found-proved : (c : admits-found-lost) → let args = (admits-found-asked c).args in
       covers args.found args.terms.owed ≡ true
-  admits-found-proved c = passed c.before.before.before.covers.ensures c.before.before.if1.false
+  admits-found-proved c = passed c.before.before.before.covers.ensures c.before.before.if-not-covers.false
 
   admits-found-lacking : (c : admits-found-lost) → let args = (admits-found-asked c).args in
-      c.lacking.result
+      c.lacking-lost.result
       ≡ lacking_of args.found args.terms.owed
       (bit_or args.terms.owed (owed_of args.table.now args.terms.allowed)) args.k
-  admits-found-lacking c = rw (admits-found-asked c).requires.1.1.Asked-is at c.lacking.ensures
+  admits-found-lacking c = rw (admits-found-asked c).requires.1.1.Asked-is at c.lacking-lost.ensures
 
-  admits-found-less : (c : admits-found-lost) → (c.lacking.result ≡ 0 → ⊥) → let args = (admits-found-asked c).args in
-      without_all args.table.now args.terms.allowed c.lacking.result < args.terms.allowed
+  admits-found-less : (c : admits-found-lost) → (c.lacking-lost.result ≡ 0 → ⊥) → let args = (admits-found-asked c).args in
+      without_all args.table.now args.terms.allowed c.lacking-lost.result < args.terms.allowed
   admits-found-less c =
       let pre = (admits-found-asked c).requires.1 in
       lost-less _ pre.0.prepared.well_formed _ _ _ _ _ pre.1.tells (admits-found-proved c) _ (admits-found-lacking c)
 
   admits-found-same : (c : admits-found-lost) → let args = (admits-found-asked c).args in
-      admits_to args.table.now args.query (without_all args.table.now args.terms.allowed c.lacking.result)
+      admits_to args.table.now args.query (without_all args.table.now args.terms.allowed c.lacking-lost.result)
       args.terms.constraints args.terms.owed args.k
       ≡ admits_to args.table.now args.query args.terms.allowed args.terms.constraints args.terms.owed args.k
   admits-found-same c =
@@ -390,83 +390,83 @@ module _ (t : ℕ) where
 admits-found-covers-requires : admits-found-needs admits-found-lts.Need-covers-requires
 admits-found-covers-requires t c κs = c.before.before.before.before.requires.1.0.few
 
-admits-found-returns : admits-found-needs admits-found-lts.Need-returns
+admits-found-returns : admits-found-needs admits-found-lts.Need-returns-then-not-covers
 admits-found-returns t c =
     let told = admits-found-told t c.before.before.before.before.before.before in
-    to-unproved _ _ _ _ _ _ (sym told ∙ failed c.before.covers.ensures c.if1.true)
+    to-unproved _ _ _ _ _ _ (sym told ∙ failed c.before.covers.ensures c.if-not-covers.true)
 
-admits-found-returns-2 : admits-found-needs admits-found-lts.Need-returns-2
+admits-found-returns-2 : admits-found-needs admits-found-lts.Need-returns-then-k-eq0
 admits-found-returns-2 t c =
     let told = admits-found-told t c.before.before.before.before.before.before.before in
-    let proved = passed c.before.before.covers.ensures c.before.if1.false in
-    to-proved _ _ _ _ _ _ (sym told ∙ proved) (decided-last _ _ _ _ _ _ c.if2.true)
+    let proved = passed c.before.before.covers.ensures c.before.if-not-covers.false in
+    to-proved _ _ _ _ _ _ (sym told ∙ proved) (decided-last _ _ _ _ _ _ c.if-k-eq0.true)
 
-admits-found-lacking-requires : admits-found-needs admits-found-lts.Need-lacking-requires
+admits-found-lacking-requires : admits-found-needs admits-found-lts.Need-lacking-lost-requires
 admits-found-lacking-requires t c κs =
     let u = c.before.before.before.before.before.before.before.requires.1.0 in
     (u.few, few-left u)
 
-admits-found-without-requires : admits-found-needs admits-found-lts.Need-without-requires
+admits-found-without-requires : admits-found-needs admits-found-lts.Need-without-fewer-requires
 admits-found-without-requires t c κs = (admits-found-asked t c.before).pre.1.0.prepared.well_formed
 
-admits-found-admits-under-requires : admits-found-needs admits-found-lts.Need-admits-under-requires
+admits-found-admits-under-requires : admits-found-needs admits-found-lts.Need-admits_under-requires
 admits-found-admits-under-requires t c κs =
     let lost = c.before.before in
     let pre = (admits-found-asked t lost).requires in
     let u = pre.1.0 in
-    let fewer = rw (← c.without.ensures) at (admits-found-less t lost c.before.if3.true) in
+    let fewer = rw (← c.without-fewer.ensures) at (admits-found-less t lost c.before.if-lost-ne0.true) in
     (omega (arith, pre.0, fewer), (u.prepared, (u.marks-are, (u.there, u.few))))
 
-admits-found-returns-3 : admits-found-needs admits-found-lts.Need-returns-3
+admits-found-returns-3 : admits-found-needs admits-found-lts.Need-returns-then-lost-ne0
 admits-found-returns-3 t c =
-    let told = rw c.before.without.ensures at c.admits-under.ensures in
+    let told = rw c.before.without-fewer.ensures at c.admits_under.ensures in
     told ∙ admits-found-same t c.before.before.before
 
-admits-found-automata-of-requires : admits-found-needs admits-found-lts.Need-automata-of-requires
+admits-found-automata-of-requires : admits-found-needs admits-found-lts.Need-automata_of-borne-requires
 admits-found-automata-of-requires t c κs = search rules
 
-admits-found-admits-by-requires : admits-found-needs admits-found-lts.Need-admits-by-requires
+admits-found-admits-by-requires : admits-found-needs admits-found-lts.Need-admits_by-requires
 admits-found-admits-by-requires t c κs =
     let pre = (admits-found-asked t c.before.before).pre in
-    (omega (arith, pre.0), (pre.1.0, record { bears = c.automata-of.ensures; tells = pre.1.1.tells }))
+    (omega (arith, pre.0), (pre.1.0, record { bears = c.automata_of-borne.ensures; tells = pre.1.1.tells }))
 
-admits-found-returns-4 : admits-found-needs admits-found-lts.Need-returns-4
+admits-found-returns-4 : admits-found-needs admits-found-lts.Need-returns
 admits-found-returns-4 t c =
     let lost = c.before.before.before in
     let proved = sym (admits-found-told t (admits-found-asked t lost)) ∙ admits-found-proved t lost in
-    to-proved _ _ _ _ _ _ proved c.admits-by.ensures
+    to-proved _ _ _ _ _ _ proved c.admits_by.ensures
 
 -- what `admits_over` needs, whatever its measure is
 abbrev admits-over-needs :
     (admits-over-lts.Claims → In 4 admits-over-kinds.ps → Out 4 admits-over-kinds.ps admits-over-kinds.r → Type 0) → Type 0
 admits-over-needs need = (t : ℕ) → need (admits-over-claims t) (admits-over-at t) admits-over.Post
 
-admits-over-owing-all-requires : admits-over-needs admits-over-lts.Need-owing-all-requires
+admits-over-owing-all-requires : admits-over-needs admits-over-lts.Need-owing_all-all-requires
 admits-over-owing-all-requires t c κs =
     let u = c.before.before.before.before.requires.1 in
     (u.prepared.well_formed, u.marks-are)
 
-admits-over-admits-free-requires : admits-over-needs admits-over-lts.Need-admits-free-requires
+admits-over-admits-free-requires : admits-over-needs admits-over-lts.Need-admits_free-requires
 admits-over-admits-free-requires t c κs =
     let pre = c.before.before.before.before.before.before.before.requires in
-    let asks = c.before.before.owing-all.ensures in
-    (omega (arith, pre.0), (pre.1, rw (asks.every-is, asks.owed-is) at c.if1.true))
+    let asks = c.before.before.owing_all-all.ensures in
+    (omega (arith, pre.0), (pre.1, rw (asks.every-is, asks.owed-is) at c.if-all-eq0.true))
 
-admits-over-returns : admits-over-needs admits-over-lts.Need-returns
-admits-over-returns t c = c.admits-free.ensures
+admits-over-returns : admits-over-needs admits-over-lts.Need-returns-then-all-eq0
+admits-over-returns t c = c.admits_free.ensures
 
-admits-over-query-search-requires : admits-over-needs admits-over-lts.Need-query-search-requires
+admits-over-query-search-requires : admits-over-needs admits-over-lts.Need-query_search-found-requires
 admits-over-query-search-requires t c κs =
-    may-seek c.before.before.before.before.before.before.before.requires.1 c.before.before.owing-all.ensures
+    may-seek c.before.before.before.before.before.before.before.requires.1 c.before.before.owing_all-all.ensures
 
-admits-over-admits-found-requires : admits-over-needs admits-over-lts.Need-admits-found-requires
+admits-over-admits-found-requires : admits-over-needs admits-over-lts.Need-admits_found-requires
 admits-over-admits-found-requires t c κs =
     let pre = c.before.before.before.before.before.before.before.before.requires in
-    let asks = c.before.before.before.owing-all.ensures in
-    (omega (arith, pre.0), (pre.1, sought pre.1 asks c.query-search.ensures))
+    let asks = c.before.before.before.owing_all-all.ensures in
+    (omega (arith, pre.0), (pre.1, sought pre.1 asks c.query_search-found.ensures))
 
-admits-over-returns-2 : admits-over-needs admits-over-lts.Need-returns-2
-admits-over-returns-2 t c = c.admits-found.ensures
+admits-over-returns-2 : admits-over-needs admits-over-lts.Need-returns
+admits-over-returns-2 t c = c.admits_found.ensures
 
 -- what `admits_under` needs, whatever its measure is
 abbrev admits-under-needs :
@@ -476,10 +476,10 @@ admits-under-needs need = (t : ℕ) → need (admits-under-claims t) (admits-und
 admits-under-wide-requires : admits-under-needs admits-under-lts.Need-wide-requires
 admits-under-wide-requires t c κs = search rules
 
-admits-under-slice-aggregate-fill : admits-under-needs admits-under-lts.Need-slice-aggregate-fill
+admits-under-slice-aggregate-fill : admits-under-needs admits-under-lts.Need-slice_bounds-fill-end
 admits-under-slice-aggregate-fill t c = search rules
 
-admits-under-fill-requires : admits-under-needs admits-under-lts.Need-fill-requires
+admits-under-fill-requires : admits-under-needs admits-under-lts.Need-fill-last-requires
 admits-under-fill-requires t c κs =
     let valid = c.before.before.before.before.before.requires.1.0.valid in
     let wide = c.before.wide.ensures.0 in (
@@ -490,16 +490,16 @@ admits-under-fill-requires t c κs =
       ),
     )
 
-admits-under-slice-aggregate-admits-over : admits-under-needs admits-under-lts.Need-slice-aggregate-admits-over
+admits-under-slice-aggregate-admits-over : admits-under-needs admits-under-lts.Need-slice_bounds-admits_over-end
 admits-under-slice-aggregate-admits-over t c = search rules
 
-admits-under-admits-over-requires : admits-under-needs admits-under-lts.Need-admits-over-requires
+admits-under-admits-over-requires : admits-under-needs admits-under-lts.Need-admits_over-requires
 admits-under-admits-over-requires t c κs =
     let pre = c.before.before.before.before.before.before.before.before.requires.1 in (
       omega (arith, c.before.before.before.before.before.before.before.before.requires.0),
       record {
         prepared = pre.0;
-        members = rw c.before.before.before.before.wide.ensures.0 at c.before.before.fill.ensures;
+        members = rw c.before.before.before.before.wide.ensures.0 at c.before.before.fill-last.ensures;
         marks-are = pre.1.0;
         there = pre.1.1.0;
         few = pre.1.1.1;
@@ -507,90 +507,90 @@ admits-under-admits-over-requires t c κs =
     )
 
 admits-under-returns : admits-under-needs admits-under-lts.Need-returns
-admits-under-returns t c = c.admits-over.ensures
+admits-under-returns t c = c.admits_over.ensures
 
 -- what `imposes_one` needs, whatever its measure is
 abbrev imposes-one-needs :
     (imposes-one-lts.Claims → In 4 imposes-one-kinds.ps → Out 4 imposes-one-kinds.ps imposes-one-kinds.r → Type 0) → Type 0
 imposes-one-needs need = (t : ℕ) → need (imposes-one-claims t) (imposes-one-at t) imposes-one.Post
 
-imposes-one-without-one-requires : imposes-one-needs imposes-one-lts.Need-without-one-requires
+imposes-one-without-one-requires : imposes-one-needs imposes-one-lts.Need-without_one-fewer-requires
 imposes-one-without-one-requires t c κs =
     let pre = c.before.before.before.before.requires.1 in
     (pre.0.prepared.well_formed, (pre.1.0.some, few-left pre.0))
 
-imposes-one-sub-admits-under : imposes-one-needs imposes-one-lts.Need-overflow-sub-admits-under
+imposes-one-sub-admits-under : imposes-one-needs imposes-one-lts.Need-overflow_sub-k
 imposes-one-sub-admits-under t c = search rules
 
-imposes-one-admits-under-requires : imposes-one-needs imposes-one-lts.Need-admits-under-requires
+imposes-one-admits-under-requires : imposes-one-needs imposes-one-lts.Need-admits_under-requires
 imposes-one-admits-under-requires t c κs =
     let pre = c.before.before.before.before.before.requires in
     let next = undecided-next pre.1.0 in
-    let fewer = fewer-left _ _ _ c.without-one.ensures in
+    let fewer = fewer-left _ _ _ c.without_one-fewer.ensures in
     (omega (arith, pre.0, pre.1.1.0.some, fewer), (next.prepared, (next.marks-are, (next.there, next.few))))
 
-imposes-one-returns : imposes-one-needs imposes-one-lts.Need-returns
+imposes-one-returns : imposes-one-needs imposes-one-lts.Need-returns-then-admits_under
 imposes-one-returns t c =
     let pre = c.before.before.before.before.before.before.before.requires.1 in
-    let out = spared-told _ _ _ _ _ _ c.before.before.without-one.ensures c.before.admits-under.ensures in
-    imposes-spared _ _ _ _ _ _ pre.1.0 pre.1.1 refl (sym out ∙ c.if1.true)
+    let out = spared-told _ _ _ _ _ _ c.before.before.without_one-fewer.ensures c.before.admits_under.ensures in
+    imposes-spared _ _ _ _ _ _ pre.1.0 pre.1.1 refl (sym out ∙ c.if-admits_under.true)
 
-imposes-one-imposing-requires : imposes-one-needs imposes-one-lts.Need-imposing-requires
+imposes-one-imposing-requires : imposes-one-needs imposes-one-lts.Need-imposing-more-requires
 imposes-one-imposing-requires t c κs =
     let pre = c.before.before.before.before.before.before.before.requires.1 in
     (pre.1.0.some, few-left pre.0)
 
-imposes-one-owing-all-requires : imposes-one-needs imposes-one-lts.Need-owing-all-requires
+imposes-one-owing-all-requires : imposes-one-needs imposes-one-lts.Need-owing_all-all-requires
 imposes-one-owing-all-requires t c κs =
     let u = c.before.before.before.before.before.before.before.before.requires.1.0 in
     (u.prepared.well_formed, u.marks-are)
 
-imposes-one-query-search-requires : imposes-one-needs imposes-one-lts.Need-query-search-requires
+imposes-one-query-search-requires : imposes-one-needs imposes-one-lts.Need-query_search-found-requires
 imposes-one-query-search-requires t c κs =
     let u = c.before.before.before.before.before.before.before.before.before.requires.1.0 in
-    may-seek (undecided-with u c.before.imposing.ensures u.few) c.owing-all.ensures
+    may-seek (undecided-with u c.before.imposing-more.ensures u.few) c.owing_all-all.ensures
 
-imposes-one-sub-admits-found : imposes-one-needs imposes-one-lts.Need-overflow-sub-admits-found
+imposes-one-sub-admits-found : imposes-one-needs imposes-one-lts.Need-overflow_sub-k-2
 imposes-one-sub-admits-found t c =
     omega (arith, c.before.before.before.before.before.before.before.before.before.before.requires.1.1.0.some)
 
-imposes-one-admits-found-requires : imposes-one-needs imposes-one-lts.Need-admits-found-requires
+imposes-one-admits-found-requires : imposes-one-needs imposes-one-lts.Need-admits_found-requires
 imposes-one-admits-found-requires t c κs =
     let pre = c.before.before.before.before.before.before.before.before.before.before.requires in
-    let asks = c.before.before.imposing.ensures in
+    let asks = c.before.before.imposing-more.ensures in
     let next = undecided-with pre.1.0 asks pre.1.0.few in (
       omega (arith, pre.0, pre.1.1.0.some, asks.allowed-is),
-      (next, sought next c.before.owing-all.ensures c.query-search.ensures),
+      (next, sought next c.before.owing_all-all.ensures c.query_search-found.ensures),
     )
 
-imposes-one-returns-2 : imposes-one-needs imposes-one-lts.Need-returns-2
+imposes-one-returns-2 : imposes-one-needs imposes-one-lts.Need-returns
 imposes-one-returns-2 t c =
     let pre = c.before.before.before.before.before.before.before.before.before.before.before.requires.1 in
-    let asks = c.before.before.before.imposing.ensures in
+    let asks = c.before.before.before.imposing-more.ensures in
     let under = c.before.before.before.before.before in
-    let out = spared-told _ _ _ _ _ _ under.before.without-one.ensures under.admits-under.ensures in
-    let over = rw (asks.allowed-is, asks.owed-is) at c.admits-found.ensures in
-    over ∙ imposes-met _ _ _ _ _ _ pre.1.0 pre.1.1 asks.every-is (sym out ∙ c.before.before.before.before.if1.false)
+    let out = spared-told _ _ _ _ _ _ under.before.without_one-fewer.ensures under.admits_under.ensures in
+    let over = rw (asks.allowed-is, asks.owed-is) at c.admits_found.ensures in
+    over ∙ imposes-met _ _ _ _ _ _ pre.1.0 pre.1.1 asks.every-is (sym out ∙ c.before.before.before.before.if-admits_under.false)
 
 -- whether what is owed with automaton k can be met is told
 owes-one-told : (t : ℕ) (c : owes-one-lts.After-covers (owes-one-claims t) (owes-one-at t) owes-one.Post) →
     let args = c.before.before.before.before.before.before.args in
     c.covers.result
-    ≡ provable args.table.now args.query args.terms.allowed args.terms.constraints c.before.owing.result.owed
+    ≡ provable args.table.now args.query args.terms.allowed args.terms.constraints c.before.owing-more.result.owed
 owes-one-told t c =
     let pre = c.before.before.before.before.before.before.requires.1 in
     let wf = pre.0.prepared.well_formed in
     let is = pre.1.1.0 in
     let owed = c.before.before.before.before.before.before.args.terms.owed in
     let more = tells_more _ wf _ _ _ owed _ pre.1.0.tells _ (may_owe _ wf _ _ is pre.1.1.1) in
-    c.covers.ensures ∙ rw c.before.owing.ensures.owed-is more
+    c.covers.ensures ∙ rw c.before.owing-more.ensures.owed-is more
 
 -- what `owes_one` needs, whatever its measure is
 abbrev owes-one-needs :
     (owes-one-lts.Claims → In 4 owes-one-kinds.ps → Out 4 owes-one-kinds.ps owes-one-kinds.r → Type 0) → Type 0
 owes-one-needs need = (t : ℕ) → need (owes-one-claims t) (owes-one-at t) owes-one.Post
 
-owes-one-owing-requires : owes-one-needs owes-one-lts.Need-owing-requires
+owes-one-owing-requires : owes-one-needs owes-one-lts.Need-owing-more-requires
 owes-one-owing-requires t c κs =
     let pre = c.before.before.before.before.requires.1 in
     (pre.1.1.0.some, few-left pre.0)
@@ -598,58 +598,58 @@ owes-one-owing-requires t c κs =
 owes-one-covers-requires : owes-one-needs owes-one-lts.Need-covers-requires
 owes-one-covers-requires t c κs =
     let pre = c.before.before.before.before.before.requires.1 in
-    rw c.owing.ensures.owed-is (owing-few pre.0 pre.1.1.0.some)
+    rw c.owing-more.ensures.owed-is (owing-few pre.0 pre.1.1.0.some)
 
-owes-one-sub-admits-by : owes-one-needs owes-one-lts.Need-overflow-sub-admits-by
+owes-one-sub-admits-by : owes-one-needs owes-one-lts.Need-overflow_sub-k
 owes-one-sub-admits-by t c = search rules
 
-owes-one-admits-by-requires : owes-one-needs owes-one-lts.Need-admits-by-requires
+owes-one-admits-by-requires : owes-one-needs owes-one-lts.Need-admits_by-requires
 owes-one-admits-by-requires t c κs =
     let pre = c.before.before.before.before.before.before.before.requires in
     let u = pre.1.0 in
     let (known, (is, marked)) = pre.1.1 in
-    let asks = c.before.before.owing.ensures in (
+    let asks = c.before.before.owing-more.ensures in (
       omega (arith, pre.0, is.some, asks.allowed-is),
       (undecided-with u asks (owing-few u is.some), known-with u.prepared.well_formed known is marked asks),
     )
 
-owes-one-returns : owes-one-needs owes-one-lts.Need-returns
+owes-one-returns : owes-one-needs owes-one-lts.Need-returns-then-admits_by
 owes-one-returns t c =
     let (known, (is, marked)) = c.before.before.before.before.before.before.before.before.before.requires.1.1 in
     let told = c.before.before.before in
-    let asks = told.before.owing.ensures in
-    let met = rw (asks.allowed-is, asks.every-is) at (sym c.before.admits-by.ensures ∙ c.if2.true) in
-    owes-met _ _ _ _ _ _ is marked asks.owed-is (sym (owes-one-told t told) ∙ c.before.before.if1.true) met
+    let asks = told.before.owing-more.ensures in
+    let met = rw (asks.allowed-is, asks.every-is) at (sym c.before.admits_by.ensures ∙ c.if-admits_by.true) in
+    owes-met _ _ _ _ _ _ is marked asks.owed-is (sym (owes-one-told t told) ∙ c.before.before.if-covers.true) met
 
-owes-one-without-one-requires : owes-one-needs owes-one-lts.Need-without-one-requires
+owes-one-without-one-requires : owes-one-needs owes-one-lts.Need-without_one-fewer-requires
 owes-one-without-one-requires t c κs =
     let pre = c.before.before.before.before.before.before.before.requires.1 in
     (pre.0.prepared.well_formed, (pre.1.1.0.some, few-left pre.0))
 
-owes-one-sub-admits-under : owes-one-needs owes-one-lts.Need-overflow-sub-admits-under
+owes-one-sub-admits-under : owes-one-needs owes-one-lts.Need-overflow_sub-k-2
 owes-one-sub-admits-under t c = search rules
 
-owes-one-admits-under-requires : owes-one-needs owes-one-lts.Need-admits-under-requires
+owes-one-admits-under-requires : owes-one-needs owes-one-lts.Need-admits_under-requires
 owes-one-admits-under-requires t c κs =
     let pre = c.before.before.before.before.before.before.before.before.requires in
     let next = undecided-next pre.1.0 in
-    let fewer = fewer-left _ _ _ c.without-one.ensures in
+    let fewer = fewer-left _ _ _ c.without_one-fewer.ensures in
     (omega (arith, pre.0, pre.1.1.1.0.some, fewer), (next.prepared, (next.marks-are, (next.there, next.few))))
 
-owes-one-returns-2 : owes-one-needs owes-one-lts.Need-returns-2
+owes-one-returns-2 : owes-one-needs owes-one-lts.Need-returns
 owes-one-returns-2 t c =
     let (known, (is, marked)) = c.before.before.before.before.before.before.before.before.before.requires.1.1 in
     let told = c.before.before.before in
-    let asks = told.before.owing.ensures in
-    spared-told _ _ _ _ _ _ c.before.without-one.ensures c.admits-under.ensures
+    let asks = told.before.owing-more.ensures in
+    spared-told _ _ _ _ _ _ c.before.without_one-fewer.ensures c.admits_under.ensures
     ∙ ⊎_elim
     (λ way. owes-unmet _ _ _ _ _ _ is marked asks.owed-is
     (rw (asks.allowed-is, asks.every-is) at (sym way.1.ensures ∙ way.2.left)))
     (λ way. owes-unproved _ _ _ _ _ _ is marked asks.owed-is (sym (owes-one-told t told) ∙ way.left))
-    c.before.before.if1.branch
+    c.before.before.if-covers.branch
 
-pub +admits-by-admits-found-admits-free-admits-over-admits-under-imposes-one-owes-one-spec : {M : Type 1} → statement M
-+admits-by-admits-found-admits-free-admits-over-admits-under-imposes-one-owes-one-spec =
+pub +admit_spec : {M : Type 1} → statement M
++admit_spec =
     close
     μ-admits-by
     μ-admits-found
