@@ -26,14 +26,14 @@ use Rattle.goals.specs.Goals.{Left, Trimmed, asked_before, stepped, stepped_on, 
 
 -- three tests, one after the other
 module _ {one a : Bool} (first : one ≡ a) where
-  pub and-missed : (d : Bool) → not one ≡ true → false ≡ (a and d)
+  pub and-missed : (d : Bool) → one ≡ false → false ≡ (a and d)
   and-missed d off = sym (and-is-off d (failed first off))
 
-  module _ {two b : Bool} (on : not one ≡ false) (second : two ≡ b) where
-    pub and-missed-second : (d : Bool) → not two ≡ true → false ≡ (a and b and d)
+  module _ {two b : Bool} (on : one ≡ true) (second : two ≡ b) where
+    pub and-missed-second : (d : Bool) → two ≡ false → false ≡ (a and b and d)
     and-missed-second d off = sym (and_is (passed first on) (and-is-off d (failed second off)))
 
-    pub and-third : {three c : Bool} → not two ≡ false → three ≡ c → three ≡ (a and b and c)
+    pub and-third : {three c : Bool} → two ≡ true → three ≡ c → three ≡ (a and b and c)
     and-third on' third = third ∙ sym (and_is (passed first on) (and_is (passed second on') refl))
 
 -- credential i + 1 is not allowed, or is, and stands for a role

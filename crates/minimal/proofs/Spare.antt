@@ -26,10 +26,10 @@ abbrev pub spare : (ℕ → Bool) → ℕ → ℕ → Bool
 spare p set i = in_set set i and p (bit_xor set (2 ^ i))
 
 module _ (p : ℕ → Bool) (set i : ℕ) where
-  pub spare-out : {has : Bool} → has ≡ in_set set i → not has ≡ true → false ≡ spare p set i
+  pub spare-out : {has : Bool} → has ≡ in_set set i → has ≡ false → false ≡ spare p set i
   spare-out e h = sym (and-is-off _ (failed e h))
 
-  pub spare-in : {has r : Bool} → i < 32 → has ≡ in_set set i → not has ≡ false → r ≡ p (bit_xor set ((1 * 2 ^ i) % 2 ^ 32)) → r ≡ spare p set i
+  pub spare-in : {has r : Bool} → i < 32 → has ≡ in_set set i → has ≡ true → r ≡ p (bit_xor set ((1 * 2 ^ i) % 2 ^ 32)) → r ≡ spare p set i
   spare-in few e h told = told ∙ rw (one_bit 32 i few) (sym (and_is (passed e h) refl))
 
   pub spare_more : {flag : Bool} → flag ≡ spare p set i → flag ≡ true → is_least p set ≡ false

@@ -145,7 +145,7 @@ module _ (t rows : List ℕ) (last person place levels : ℕ) (may : may_be_prov
   may-there = ltb-true place (credentials t) (and_first _ _ (and_second _ _ may))
 
 pub opened : {t index arcs rows : List ℕ} {S levels last person place : ℕ} → Searchable t index arcs rows S levels last
-    → Stands t person place → {told : Bool} → told ≡ may_be_proved t rows last person place levels → not told ≡ false
+    → Stands t person place → {told : Bool} → told ≡ may_be_proved t rows last person place levels → told ≡ true
     → Open t levels person place
 opened {t} {rows = rows} {levels = levels} {last} {person} {place} searched stands e on =
     let may = passed e on in

@@ -152,7 +152,7 @@ module _ (t : List ℕ) (S A O levels : ℕ) (above : Above) (s : StateSets) (pe
 
   pub place-unlisted : {row last : ℕ} {rows : List ℕ} {told : Bool} → Members t S levels last rows → Stands t person place
       → place < credentials t → row ≡ lesser levels last → told ≡ in_set (get_or rows (row_cell row place) 0) person
-      → not told ≡ true → false ≡ proves_at t S A O levels above s person place X
+      → told ≡ false → false ≡ proves_at t S A O levels above s person place X
   place-unlisted members stands there the_row e off =
       sym (unlisted-at t S A O members above s person place (credential t (suc place)).role X stands.named
       (sym (stands.first there)) (rw the_row at (failed e off)))

@@ -140,7 +140,7 @@ module _ {t index arcs rows : List ℕ} {S levels last : ℕ} (searched : Search
 
   -- who is not in all masks is not proved, whatever is to be met
   pub parts-unlisted : (A O : ℕ) (above : Above) (s : StateSets) (X : ℕ) {held : Bool}
-      → held ≡ in_set (asked_members index rows (lesser levels last) i) person → not held ≡ true
+      → held ≡ in_set (asked_members index rows (lesser levels last) i) person → held ≡ false
       → proves_own t S A O levels above s person i X ≡ false
   parts-unlisted A O above s X e off =
       let (k, l, missing) = mask-missed index rows (lesser levels last) i person (failed e off) in

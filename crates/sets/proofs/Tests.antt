@@ -9,11 +9,11 @@ use borrow.Author.Tests.{ltb-false, ltb-true, not-true, not-false}
 use Rattle.sets.specs.Logic.{◌and◌, ◌or◌, any_below, pick}
 
 -- what `if !flag { .. }` tells of p, in its body and after it
-pub failed : {flag p : Bool} → flag ≡ p → not flag ≡ true → p ≡ false
-failed {flag} e h = sym e ∙ not-true flag h
+pub failed : {flag p : Bool} → flag ≡ p → flag ≡ false → p ≡ false
+failed e h = sym e ∙ h
 
-pub passed : {flag p : Bool} → flag ≡ p → not flag ≡ false → p ≡ true
-passed {flag} e h = sym e ∙ not-false flag h
+pub passed : {flag p : Bool} → flag ≡ p → flag ≡ true → p ≡ true
+passed e h = sym e ∙ h
 
 -- a conjunction and a disjunction once the first part is known; where that decides, the code returns the part itself
 pub and-on : {p b : Bool} → p ≡ true → b ≡ (p and b)

@@ -70,9 +70,9 @@ module _ (t : List ℕ) (S L i kept : ℕ) (so_far : kept ≡ without_to t S L i
   -- which is in the set, and which the code has read as x
   module _ (inside : in_set S i ≡ true) (x : Credential) (read : x ≡ credential t (i + 1)) {told : Bool}
       (e : told ≡ among L x.automaton) where
-    pub without-bearer : not told ≡ false → kept ≡ without_to t S L (i + 1)
+    pub without-bearer : told ≡ true → kept ≡ without_to t S L (i + 1)
     without-bearer own = without-off (and_is inside (rw (read, add-one i) at (ap not (passed e own))))
 
-    pub without_more : not told ≡ true → bit_or kept (2 ^ i) ≡ without_to t S L (i + 1)
+    pub without_more : told ≡ false → bit_or kept (2 ^ i) ≡ without_to t S L (i + 1)
     without_more other =
         set_more _ kept i so_far (and_both inside (rw (read, add-one i) at (ap not (failed e other))))

@@ -7,11 +7,11 @@ use Rattle.attached.proofs.with_automaton.Tie as tie
 
 returns : tie.Need-returns-then-not-member
 unfolding ◌and◌ pick
-returns c = rw (not-true c.before.args.member c.if-not-member.true)
+returns c = rw c.if-not-member.true
 
 returns-2 : tie.Need-returns-then-automaton-eq0
 unfolding ◌and◌ pick
-returns-2 c = rw (not-false c.before.before.args.member c.before.if-not-member.false, eq-eqb _ 0 c.if-automaton-eq0.true)
+returns-2 c = rw (c.before.if-not-member.false, eq-eqb _ 0 c.if-automaton-eq0.true)
 
 wide-requires : tie.Need-wide-requires
 wide-requires c κs = search rules
@@ -26,7 +26,7 @@ returns-3 : tie.Need-returns
 unfolding ◌and◌ pick
 returns-3 c =
     let args = c.before.before.before.before.args in
-    let member = not-false args.member c.before.before.before.if-not-member.false in
+    let member = c.before.before.before.if-not-member.false in
     let some = ne_eqb args.automaton 0 c.before.before.if-automaton-eq0.false in
     rw (member, some, ← c.before.wide.ensures.0) c.with_16.ensures
 

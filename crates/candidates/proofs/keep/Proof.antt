@@ -14,7 +14,7 @@ is-minimal-requires c κs = search rules
 returns : tie.Need-returns-then-not-is_minimal
 returns c =
     let is-minimal = c.before.is_minimal in
-    kept-not (sym is-minimal.ensures ∙ not-true _ c.if-not-is_minimal.true)
+    kept-not (sym is-minimal.ensures ∙ c.if-not-is_minimal.true)
 
 insert-requires : tie.Need-insert-requires
 insert-requires c κs = search rules

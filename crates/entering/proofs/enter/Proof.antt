@@ -26,7 +26,7 @@ asked : (at : tie.Else-not-premises) → let from = (start (two at)).args in
     let found = at.before.before.premises-premises.result in
     premises from.table.now from.goal (get_or from.rec.now 0 0) (get_or from.rec.now 1 0)
     ≡ some (take found.len found.goals-1)
-asked at = sym at.before.before.premises-premises.ensures.1 ∙ given-some _ (not-false _ at.if-not-premises.false)
+asked at = sym at.before.before.premises-premises.ensures.1 ∙ given-some _ at.if-not-premises.false
 
 halted-requires : tie.Need-halted-requires
 halted-requires c κs = search rules
@@ -49,7 +49,7 @@ halted-requires-2 c κs = search rules
 returns-2 : tie.Need-returns-then-not-premises
 returns-2 c =
     let found = c.before.before.before in
-    let unfit = sym found.premises-premises.ensures.1 ∙ given-none _ (not-true _ c.before.if-not-premises.true) in
+    let unfit = sym found.premises-premises.ensures.1 ∙ given-none _ c.before.if-not-premises.true in
     halts-with _ (omega arith) c.halted-then-not-premises.ensures (entry-unfit _ _ _ _ found.before.before.before.if-rec-lt2.false unfit)
 
 halted-requires-3 : tie.Need-halted-requires-then-levels-eq0

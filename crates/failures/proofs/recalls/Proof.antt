@@ -69,7 +69,7 @@ returns-5 c = λ told.
     c.before.before.before.before.before.before.if-wide-person.false
     c.before.before.before.before.wide-3.ensures
     c.before.before.before.if-wide-place.false
-    (c.before.before.same_states.ensures (not-false _ c.before.if-not-same_states.false))
+    (c.before.before.same_states.ensures c.before.if-not-same_states.false)
     (c.is_covered.ensures told)
 
 pub recalls_spec : {M : Type 1} → statement M

@@ -43,7 +43,7 @@ returns c =
     let pre = at.before.before.before.before.before.before.before.before.requires in
     let copy = c.before.before.before.before.before.before.before.copy_row in
     let next = c.before.before.before.next_level.ensures in
-    reached-last _ _ pre.0 pre.1.0 _ _ _ _ _ _ _ few at.loop-level.invariant.1 copy.ensures next _ (not-true _ c.if-not-next_level.true)
+    reached-last _ _ pre.0 pre.1.0 _ _ _ _ _ _ _ few at.loop-level.invariant.1 copy.ensures next _ c.if-not-next_level.true
 
 add-level : tie.Need-overflow_add-level invariant-loop decreases-loop
 add-level c = search rules

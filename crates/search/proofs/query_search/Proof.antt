@@ -59,7 +59,7 @@ none-requires-2 c κs = search rules
 returns-2 : tie.Need-returns-then-not-may_be_proved
 returns-2 c =
     let at = c.before.before.before in
-    let off = not-true _ c.before.if-not-may_be_proved.true in
+    let off = c.before.if-not-may_be_proved.true in
     tells-nothing _ _ _ _ _ _ c.none-then-not-may_be_proved.ensures
     (λ X. goal-missing (from at).requires.0 at.before.before.before.before.goal_person-person.ensures.0 (there at)
     at.before.goal_role-place.ensures.0 _ _ at.wide-levels.ensures.0 (from at).requires.1.0 c.before.before.may_be_proved.ensures _ X off)
