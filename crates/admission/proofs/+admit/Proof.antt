@@ -252,44 +252,44 @@ admits-by-sub-has-16 : admits-by-needs admits-by-lts.Need-overflow_sub-k
 admits-by-sub-has-16 t c = search rules
 
 admits-by-has-16-requires : admits-by-needs admits-by-lts.Need-has_16-requires
-admits-by-has-16-requires t c κs = omega (arith, few-left c.before.before.before.before.before.requires.1.0)
+admits-by-has-16-requires t c κs = omega (arith, few-left c.requires.1.0)
 
 admits-by-sub-admits-by : admits-by-needs admits-by-lts.Need-overflow_sub-k-then-not-has_16
 admits-by-sub-admits-by t c = search rules
 
 admits-by-admits-by-requires : admits-by-needs admits-by-lts.Need-admits_by-requires
 admits-by-admits-by-requires t c κs =
-    let pre = c.before.before.before.before.before.before.before.requires in
-    (omega (arith, pre.0, c.before.before.if-k-eq0.false), (undecided-next pre.1.0, pre.1.1))
+    let pre = c.requires in
+    (omega (arith, pre.0, c.if-k-eq0.false), (undecided-next pre.1.0, pre.1.1))
 
 admits-by-returns-2 : admits-by-needs admits-by-lts.Need-returns-then-not-has_16
 admits-by-returns-2 t c =
-    let known = c.before.before.before.before.before.before.before.before.requires.1.1 in
-    let none = rw known.bears at (failed c.before.before.has_16.ensures c.before.if-not-has_16.true) in
-    c.admits_by.ensures ∙ decided-unborne _ _ _ _ _ _ c.before.before.before.if-k-eq0.false none
+    let known = c.requires.1.1 in
+    let none = rw known.bears at (failed c.has_16.ensures c.if-not-has_16.true) in
+    c.admits_by.ensures ∙ decided-unborne _ _ _ _ _ _ c.if-k-eq0.false none
 
 admits-by-sub-has-16-2 : admits-by-needs admits-by-lts.Need-overflow_sub-k-2
 admits-by-sub-has-16-2 t c = search rules
 
 admits-by-has-16-requires-2 : admits-by-needs admits-by-lts.Need-has_16-requires-2
-admits-by-has-16-requires-2 t c κs = omega (arith, few-left c.before.before.before.before.before.before.before.requires.1.0)
+admits-by-has-16-requires-2 t c κs = omega (arith, few-left c.requires.1.0)
 
 -- some credential of the set bears automaton k
 admits-by-borne : (t : ℕ) (c : admits-by-lts.Else-not-has_16 (admits-by-claims t) (admits-by-at t) admits-by.Post) →
-    let args = c.before.before.before.before.before.before.before.args in
+    let args = c.args in
     Borne args.table.now args.terms.allowed args.k
 admits-by-borne t c =
-    let known = c.before.before.before.before.before.before.before.requires.1.1 in
+    let known = c.requires.1.1 in
     record {
-      some = c.before.before.if-k-eq0.false;
-      borne = rw known.bears at (passed c.before.has_16.ensures c.if-not-has_16.false);
+      some = c.if-k-eq0.false;
+      borne = rw known.bears at (passed c.has_16.ensures c.if-not-has_16.false);
     }
 
 admits-by-owes-one-requires : admits-by-needs admits-by-lts.Need-owes_one-requires
 admits-by-owes-one-requires t c κs =
-    let pre = c.before.before.before.before.before.before.before.before.before.requires in
+    let pre = c.requires in
     let is = admits-by-borne t c.before.before in
-    let marked = by-mark pre.1.0 is.some (sym c.before.has_16-2.ensures ∙ c.if-has_16.true) in
+    let marked = by-mark pre.1.0 is.some (sym c.has_16-2.ensures ∙ c.if-has_16.true) in
     (omega (arith, pre.0), (pre.1.0, (pre.1.1, (is, marked))))
 
 admits-by-returns-3 : admits-by-needs admits-by-lts.Need-returns-then-has_16
@@ -297,9 +297,9 @@ admits-by-returns-3 t c = c.owes_one.ensures
 
 admits-by-imposes-one-requires : admits-by-needs admits-by-lts.Need-imposes_one-requires
 admits-by-imposes-one-requires t c κs =
-    let pre = c.before.before.before.before.before.before.before.before.before.requires in
+    let pre = c.requires in
     let is = admits-by-borne t c.before.before in
-    let unmarked = by-no-mark pre.1.0 is.some (sym c.before.has_16-2.ensures ∙ c.if-has_16.false) in
+    let unmarked = by-no-mark pre.1.0 is.some (sym c.has_16-2.ensures ∙ c.if-has_16.false) in
     (omega (arith, pre.0), (pre.1.0, (is, unmarked)))
 
 admits-by-returns-4 : admits-by-needs admits-by-lts.Need-returns
@@ -312,16 +312,16 @@ admits-free-needs need = (t : ℕ) → need (admits-free-claims t) (admits-free-
 
 admits-free-is-member-requires : admits-free-needs admits-free-lts.Need-is_member-requires
 admits-free-is-member-requires t c κs =
-    let u = c.before.before.before.before.requires.1.0 in
+    let u = c.requires.1.0 in
     let p = u.prepared in
     ((p.well_formed, p.valid), ((p.indexed, p.aimed), u.members))
 
 admits-free-returns : admits-free-needs admits-free-lts.Need-returns-then-not-is_member
-admits-free-returns t c = free-unproved _ _ _ _ _ c.before.before.before.before.before.before.requires.1.1 _ (failed c.before.is_member.ensures c.if-not-is_member.true)
+admits-free-returns t c = free-unproved _ _ _ _ _ c.requires.1.1 _ (failed c.is_member.ensures c.if-not-is_member.true)
 
 admits-free-returns-2 : admits-free-needs admits-free-lts.Need-returns-then-k-eq0
 admits-free-returns-2 t c =
-    free-proved _ _ _ _ _ c.before.before.before.before.before.before.before.requires.1.1 _ (passed c.before.before.is_member.ensures c.before.if-not-is_member.false) (decided-last _ _ _ _ _ _ c.if-k-eq0.true)
+    free-proved _ _ _ _ _ c.requires.1.1 _ (passed c.is_member.ensures c.if-not-is_member.false) (decided-last _ _ _ _ _ _ c.if-k-eq0.true)
 
 admits-free-automata-of-requires : admits-free-needs admits-free-lts.Need-automata_of-borne-requires
 admits-free-automata-of-requires t c κs = search rules
@@ -331,14 +331,14 @@ admits-free-only-requires t c κs = search rules
 
 admits-free-admits-by-requires : admits-free-needs admits-free-lts.Need-admits_by-requires
 admits-free-admits-by-requires t c κs =
-    let pre = c.before.before.before.before.before.before.before.before.before.requires in
-    let owed = c.before.before.before.before.before.before.before.before.before.args.terms.owed in
-    let tells = free-tells _ _ _ _ owed pre.1.1 (passed c.before.before.before.before.is_member.ensures c.before.before.before.if-not-is_member.false) _ c.only-found.ensures in
-    (omega (arith, pre.0), (pre.1.0, record { bears = c.before.automata_of-borne.ensures; tells = tells }))
+    let pre = c.requires in
+    let owed = c.args.terms.owed in
+    let tells = free-tells _ _ _ _ owed pre.1.1 (passed c.is_member.ensures c.if-not-is_member.false) _ c.only-found.ensures in
+    (omega (arith, pre.0), (pre.1.0, record { bears = c.automata_of-borne.ensures; tells = tells }))
 
 admits-free-returns-3 : admits-free-needs admits-free-lts.Need-returns
 admits-free-returns-3 t c =
-    free-proved _ _ _ _ _ c.before.before.before.before.before.before.before.before.before.before.requires.1.1 _ (passed c.before.before.before.before.before.is_member.ensures c.before.before.before.before.if-not-is_member.false) c.admits_by.ensures
+    free-proved _ _ _ _ _ c.requires.1.1 _ (passed c.is_member.ensures c.if-not-is_member.false) c.admits_by.ensures
 
 -- what `admits_found` needs, whatever its measure is
 abbrev admits-found-needs :
@@ -365,7 +365,7 @@ module _ (t : ℕ) where
   -- leaving out the credentials of what cannot be met leaves fewer, and admits the same
   admits-found-proved : (c : admits-found-lost) → let args = (admits-found-asked c).args in
       covers args.found args.terms.owed ≡ true
-  admits-found-proved c = passed c.before.before.before.covers.ensures c.before.before.if-not-covers.false
+  admits-found-proved c = passed c.covers.ensures c.if-not-covers.false
 
   admits-found-lacking : (c : admits-found-lost) → let args = (admits-found-asked c).args in
       c.lacking-lost.result
@@ -388,22 +388,22 @@ module _ (t : ℕ) where
       lost-without _ pre.0.prepared.well_formed _ _ _ _ _ pre.1.tells (admits-found-proved c) _ (admits-found-lacking c)
 
 admits-found-covers-requires : admits-found-needs admits-found-lts.Need-covers-requires
-admits-found-covers-requires t c κs = c.before.before.before.before.requires.1.0.few
+admits-found-covers-requires t c κs = c.requires.1.0.few
 
 admits-found-returns : admits-found-needs admits-found-lts.Need-returns-then-not-covers
 admits-found-returns t c =
     let told = admits-found-told t c.before.before.before.before.before.before in
-    to-unproved _ _ _ _ _ _ (sym told ∙ failed c.before.covers.ensures c.if-not-covers.true)
+    to-unproved _ _ _ _ _ _ (sym told ∙ failed c.covers.ensures c.if-not-covers.true)
 
 admits-found-returns-2 : admits-found-needs admits-found-lts.Need-returns-then-k-eq0
 admits-found-returns-2 t c =
     let told = admits-found-told t c.before.before.before.before.before.before.before in
-    let proved = passed c.before.before.covers.ensures c.before.if-not-covers.false in
+    let proved = passed c.covers.ensures c.if-not-covers.false in
     to-proved _ _ _ _ _ _ (sym told ∙ proved) (decided-last _ _ _ _ _ _ c.if-k-eq0.true)
 
 admits-found-lacking-requires : admits-found-needs admits-found-lts.Need-lacking-lost-requires
 admits-found-lacking-requires t c κs =
-    let u = c.before.before.before.before.before.before.before.requires.1.0 in
+    let u = c.requires.1.0 in
     (u.few, few-left u)
 
 admits-found-without-requires : admits-found-needs admits-found-lts.Need-without-fewer-requires
@@ -414,12 +414,12 @@ admits-found-admits-under-requires t c κs =
     let lost = c.before.before in
     let pre = (admits-found-asked t lost).requires in
     let u = pre.1.0 in
-    let fewer = rw (← c.without-fewer.ensures) at (admits-found-less t lost c.before.if-lost-ne0.true) in
+    let fewer = rw (← c.without-fewer.ensures) at (admits-found-less t lost c.if-lost-ne0.true) in
     (omega (arith, pre.0, fewer), (u.prepared, (u.marks-are, (u.there, u.few))))
 
 admits-found-returns-3 : admits-found-needs admits-found-lts.Need-returns-then-lost-ne0
 admits-found-returns-3 t c =
-    let told = rw c.before.without-fewer.ensures at c.admits_under.ensures in
+    let told = rw c.without-fewer.ensures at c.admits_under.ensures in
     told ∙ admits-found-same t c.before.before.before
 
 admits-found-automata-of-requires : admits-found-needs admits-found-lts.Need-automata_of-borne-requires
@@ -443,13 +443,13 @@ admits-over-needs need = (t : ℕ) → need (admits-over-claims t) (admits-over-
 
 admits-over-owing-all-requires : admits-over-needs admits-over-lts.Need-owing_all-all-requires
 admits-over-owing-all-requires t c κs =
-    let u = c.before.before.before.before.requires.1 in
+    let u = c.requires.1 in
     (u.prepared.well_formed, u.marks-are)
 
 admits-over-admits-free-requires : admits-over-needs admits-over-lts.Need-admits_free-requires
 admits-over-admits-free-requires t c κs =
-    let pre = c.before.before.before.before.before.before.before.requires in
-    let asks = c.before.before.owing_all-all.ensures in
+    let pre = c.requires in
+    let asks = c.owing_all-all.ensures in
     (omega (arith, pre.0), (pre.1, rw (asks.every-is, asks.owed-is) at c.if-all-eq0.true))
 
 admits-over-returns : admits-over-needs admits-over-lts.Need-returns-then-all-eq0
@@ -457,12 +457,12 @@ admits-over-returns t c = c.admits_free.ensures
 
 admits-over-query-search-requires : admits-over-needs admits-over-lts.Need-query_search-found-requires
 admits-over-query-search-requires t c κs =
-    may-seek c.before.before.before.before.before.before.before.requires.1 c.before.before.owing_all-all.ensures
+    may-seek c.requires.1 c.owing_all-all.ensures
 
 admits-over-admits-found-requires : admits-over-needs admits-over-lts.Need-admits_found-requires
 admits-over-admits-found-requires t c κs =
-    let pre = c.before.before.before.before.before.before.before.before.requires in
-    let asks = c.before.before.before.owing_all-all.ensures in
+    let pre = c.requires in
+    let asks = c.owing_all-all.ensures in
     (omega (arith, pre.0), (pre.1, sought pre.1 asks c.query_search-found.ensures))
 
 admits-over-returns-2 : admits-over-needs admits-over-lts.Need-returns
@@ -481,11 +481,11 @@ admits-under-slice-aggregate-fill t c = search rules
 
 admits-under-fill-requires : admits-under-needs admits-under-lts.Need-fill-last-requires
 admits-under-fill-requires t c κs =
-    let valid = c.before.before.before.before.before.requires.1.0.valid in
-    let wide = c.before.wide.ensures.0 in (
-      c.before.before.before.before.before.requires.1.0.well_formed,
+    let valid = c.requires.1.0.valid in
+    let wide = c.wide.ensures.0 in (
+      c.requires.1.0.well_formed,
       (
-        c.before.before.before.before.before.requires.1.0.indexed,
+        c.requires.1.0.indexed,
         ((omega (arith, depth-some _ valid, wide), omega (arith, depth-fits _ valid, wide)), (refl, zeros table_cells)),
       ),
     )
@@ -495,11 +495,11 @@ admits-under-slice-aggregate-admits-over t c = search rules
 
 admits-under-admits-over-requires : admits-under-needs admits-under-lts.Need-admits_over-requires
 admits-under-admits-over-requires t c κs =
-    let pre = c.before.before.before.before.before.before.before.before.requires.1 in (
-      omega (arith, c.before.before.before.before.before.before.before.before.requires.0),
+    let pre = c.requires.1 in (
+      omega (arith, c.requires.0),
       record {
         prepared = pre.0;
-        members = rw c.before.before.before.before.wide.ensures.0 at c.before.before.fill-last.ensures;
+        members = rw c.wide.ensures.0 at c.fill-last.ensures;
         marks-are = pre.1.0;
         there = pre.1.1.0;
         few = pre.1.1.1;
@@ -516,7 +516,7 @@ imposes-one-needs need = (t : ℕ) → need (imposes-one-claims t) (imposes-one-
 
 imposes-one-without-one-requires : imposes-one-needs imposes-one-lts.Need-without_one-fewer-requires
 imposes-one-without-one-requires t c κs =
-    let pre = c.before.before.before.before.requires.1 in
+    let pre = c.requires.1 in
     (pre.0.prepared.well_formed, (pre.1.0.some, few-left pre.0))
 
 imposes-one-sub-admits-under : imposes-one-needs imposes-one-lts.Need-overflow_sub-k
@@ -524,66 +524,66 @@ imposes-one-sub-admits-under t c = search rules
 
 imposes-one-admits-under-requires : imposes-one-needs imposes-one-lts.Need-admits_under-requires
 imposes-one-admits-under-requires t c κs =
-    let pre = c.before.before.before.before.before.requires in
+    let pre = c.requires in
     let next = undecided-next pre.1.0 in
     let fewer = fewer-left _ _ _ c.without_one-fewer.ensures in
     (omega (arith, pre.0, pre.1.1.0.some, fewer), (next.prepared, (next.marks-are, (next.there, next.few))))
 
 imposes-one-returns : imposes-one-needs imposes-one-lts.Need-returns-then-admits_under
 imposes-one-returns t c =
-    let pre = c.before.before.before.before.before.before.before.requires.1 in
-    let out = spared-told _ _ _ _ _ _ c.before.before.without_one-fewer.ensures c.before.admits_under.ensures in
+    let pre = c.requires.1 in
+    let out = spared-told _ _ _ _ _ _ c.without_one-fewer.ensures c.admits_under.ensures in
     imposes-spared _ _ _ _ _ _ pre.1.0 pre.1.1 refl (sym out ∙ c.if-admits_under.true)
 
 imposes-one-imposing-requires : imposes-one-needs imposes-one-lts.Need-imposing-more-requires
 imposes-one-imposing-requires t c κs =
-    let pre = c.before.before.before.before.before.before.before.requires.1 in
+    let pre = c.requires.1 in
     (pre.1.0.some, few-left pre.0)
 
 imposes-one-owing-all-requires : imposes-one-needs imposes-one-lts.Need-owing_all-all-requires
 imposes-one-owing-all-requires t c κs =
-    let u = c.before.before.before.before.before.before.before.before.requires.1.0 in
+    let u = c.requires.1.0 in
     (u.prepared.well_formed, u.marks-are)
 
 imposes-one-query-search-requires : imposes-one-needs imposes-one-lts.Need-query_search-found-requires
 imposes-one-query-search-requires t c κs =
-    let u = c.before.before.before.before.before.before.before.before.before.requires.1.0 in
-    may-seek (undecided-with u c.before.imposing-more.ensures u.few) c.owing_all-all.ensures
+    let u = c.requires.1.0 in
+    may-seek (undecided-with u c.imposing-more.ensures u.few) c.owing_all-all.ensures
 
 imposes-one-sub-admits-found : imposes-one-needs imposes-one-lts.Need-overflow_sub-k-2
 imposes-one-sub-admits-found t c =
-    omega (arith, c.before.before.before.before.before.before.before.before.before.before.requires.1.1.0.some)
+    omega (arith, c.requires.1.1.0.some)
 
 imposes-one-admits-found-requires : imposes-one-needs imposes-one-lts.Need-admits_found-requires
 imposes-one-admits-found-requires t c κs =
-    let pre = c.before.before.before.before.before.before.before.before.before.before.requires in
-    let asks = c.before.before.imposing-more.ensures in
+    let pre = c.requires in
+    let asks = c.imposing-more.ensures in
     let next = undecided-with pre.1.0 asks pre.1.0.few in (
       omega (arith, pre.0, pre.1.1.0.some, asks.allowed-is),
-      (next, sought next c.before.owing_all-all.ensures c.query_search-found.ensures),
+      (next, sought next c.owing_all-all.ensures c.query_search-found.ensures),
     )
 
 imposes-one-returns-2 : imposes-one-needs imposes-one-lts.Need-returns
 imposes-one-returns-2 t c =
-    let pre = c.before.before.before.before.before.before.before.before.before.before.before.requires.1 in
-    let asks = c.before.before.before.imposing-more.ensures in
+    let pre = c.requires.1 in
+    let asks = c.imposing-more.ensures in
     let under = c.before.before.before.before.before in
-    let out = spared-told _ _ _ _ _ _ under.before.without_one-fewer.ensures under.admits_under.ensures in
+    let out = spared-told _ _ _ _ _ _ under.without_one-fewer.ensures under.admits_under.ensures in
     let over = rw (asks.allowed-is, asks.owed-is) at c.admits_found.ensures in
-    over ∙ imposes-met _ _ _ _ _ _ pre.1.0 pre.1.1 asks.every-is (sym out ∙ c.before.before.before.before.if-admits_under.false)
+    over ∙ imposes-met _ _ _ _ _ _ pre.1.0 pre.1.1 asks.every-is (sym out ∙ c.if-admits_under.false)
 
 -- whether what is owed with automaton k can be met is told
 owes-one-told : (t : ℕ) (c : owes-one-lts.After-covers (owes-one-claims t) (owes-one-at t) owes-one.Post) →
-    let args = c.before.before.before.before.before.before.args in
+    let args = c.args in
     c.covers.result
-    ≡ provable args.table.now args.query args.terms.allowed args.terms.constraints c.before.owing-more.result.owed
+    ≡ provable args.table.now args.query args.terms.allowed args.terms.constraints c.owing-more.result.owed
 owes-one-told t c =
-    let pre = c.before.before.before.before.before.before.requires.1 in
+    let pre = c.requires.1 in
     let wf = pre.0.prepared.well_formed in
     let is = pre.1.1.0 in
-    let owed = c.before.before.before.before.before.before.args.terms.owed in
+    let owed = c.args.terms.owed in
     let more = tells_more _ wf _ _ _ owed _ pre.1.0.tells _ (may_owe _ wf _ _ is pre.1.1.1) in
-    c.covers.ensures ∙ rw c.before.owing-more.ensures.owed-is more
+    c.covers.ensures ∙ rw c.owing-more.ensures.owed-is more
 
 -- what `owes_one` needs, whatever its measure is
 abbrev owes-one-needs :
@@ -592,12 +592,12 @@ owes-one-needs need = (t : ℕ) → need (owes-one-claims t) (owes-one-at t) owe
 
 owes-one-owing-requires : owes-one-needs owes-one-lts.Need-owing-more-requires
 owes-one-owing-requires t c κs =
-    let pre = c.before.before.before.before.requires.1 in
+    let pre = c.requires.1 in
     (pre.1.1.0.some, few-left pre.0)
 
 owes-one-covers-requires : owes-one-needs owes-one-lts.Need-covers-requires
 owes-one-covers-requires t c κs =
-    let pre = c.before.before.before.before.before.requires.1 in
+    let pre = c.requires.1 in
     rw c.owing-more.ensures.owed-is (owing-few pre.0 pre.1.1.0.some)
 
 owes-one-sub-admits-by : owes-one-needs owes-one-lts.Need-overflow_sub-k
@@ -605,25 +605,25 @@ owes-one-sub-admits-by t c = search rules
 
 owes-one-admits-by-requires : owes-one-needs owes-one-lts.Need-admits_by-requires
 owes-one-admits-by-requires t c κs =
-    let pre = c.before.before.before.before.before.before.before.requires in
+    let pre = c.requires in
     let u = pre.1.0 in
     let (known, (is, marked)) = pre.1.1 in
-    let asks = c.before.before.owing-more.ensures in (
+    let asks = c.owing-more.ensures in (
       omega (arith, pre.0, is.some, asks.allowed-is),
       (undecided-with u asks (owing-few u is.some), known-with u.prepared.well_formed known is marked asks),
     )
 
 owes-one-returns : owes-one-needs owes-one-lts.Need-returns-then-admits_by
 owes-one-returns t c =
-    let (known, (is, marked)) = c.before.before.before.before.before.before.before.before.before.requires.1.1 in
+    let (known, (is, marked)) = c.requires.1.1 in
     let told = c.before.before.before in
-    let asks = told.before.owing-more.ensures in
-    let met = rw (asks.allowed-is, asks.every-is) at (sym c.before.admits_by.ensures ∙ c.if-admits_by.true) in
-    owes-met _ _ _ _ _ _ is marked asks.owed-is (sym (owes-one-told t told) ∙ c.before.before.if-covers.true) met
+    let asks = told.owing-more.ensures in
+    let met = rw (asks.allowed-is, asks.every-is) at (sym c.admits_by.ensures ∙ c.if-admits_by.true) in
+    owes-met _ _ _ _ _ _ is marked asks.owed-is (sym (owes-one-told t told) ∙ c.if-covers.true) met
 
 owes-one-without-one-requires : owes-one-needs owes-one-lts.Need-without_one-fewer-requires
 owes-one-without-one-requires t c κs =
-    let pre = c.before.before.before.before.before.before.before.requires.1 in
+    let pre = c.requires.1 in
     (pre.0.prepared.well_formed, (pre.1.1.0.some, few-left pre.0))
 
 owes-one-sub-admits-under : owes-one-needs owes-one-lts.Need-overflow_sub-k-2
@@ -631,22 +631,22 @@ owes-one-sub-admits-under t c = search rules
 
 owes-one-admits-under-requires : owes-one-needs owes-one-lts.Need-admits_under-requires
 owes-one-admits-under-requires t c κs =
-    let pre = c.before.before.before.before.before.before.before.before.requires in
+    let pre = c.requires in
     let next = undecided-next pre.1.0 in
     let fewer = fewer-left _ _ _ c.without_one-fewer.ensures in
     (omega (arith, pre.0, pre.1.1.1.0.some, fewer), (next.prepared, (next.marks-are, (next.there, next.few))))
 
 owes-one-returns-2 : owes-one-needs owes-one-lts.Need-returns
 owes-one-returns-2 t c =
-    let (known, (is, marked)) = c.before.before.before.before.before.before.before.before.before.requires.1.1 in
+    let (known, (is, marked)) = c.requires.1.1 in
     let told = c.before.before.before in
-    let asks = told.before.owing-more.ensures in
-    spared-told _ _ _ _ _ _ c.before.without_one-fewer.ensures c.admits_under.ensures
+    let asks = told.owing-more.ensures in
+    spared-told _ _ _ _ _ _ c.without_one-fewer.ensures c.admits_under.ensures
     ∙ ⊎_elim
     (λ way. owes-unmet _ _ _ _ _ _ is marked asks.owed-is
-    (rw (asks.allowed-is, asks.every-is) at (sym way.1.ensures ∙ way.2.left)))
-    (λ way. owes-unproved _ _ _ _ _ _ is marked asks.owed-is (sym (owes-one-told t told) ∙ way.left))
-    c.before.before.if-covers.branch
+    (rw (asks.allowed-is, asks.every-is) at (sym way.1.ensures ∙ way.2.false)))
+    (λ way. owes-unproved _ _ _ _ _ _ is marked asks.owed-is (sym (owes-one-told t told) ∙ way.false))
+    c.if-covers.branch
 
 pub +admit_spec : {M : Type 1} → statement M
 +admit_spec =

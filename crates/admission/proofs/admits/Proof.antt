@@ -13,13 +13,13 @@ automata-requires c κs = search rules
 
 admits-under-requires : tie.Need-admits_under-requires
 admits-under-requires c κs = (
-  c.before.before.before.before.before.requires,
-  (c.before.marked.ensures, (omega (arith, c.automata.ensures.same), omega arith)),
+  c.requires,
+  (c.marked.ensures, (omega (arith, c.automata.ensures.same), omega arith)),
 )
 
 returns : tie.Need-returns
 unfolding admits
-returns c = rw c.before.automata.ensures.same at c.admits_under.ensures
+returns c = rw c.automata.ensures.same at c.admits_under.ensures
 
 pub admits_spec : {M : Type 1} → statement M
 admits_spec = tie.close (tie.spec marked-requires automata-requires admits-under-requires returns)

@@ -10,7 +10,7 @@ number-requires c κs = search rules
 
 returns : tie.Need-returns
 unfolding told
-returns c = rw c.number.ensures (answered-refusal c.before.args.why.reason _)
+returns c = rw c.number.ensures (answered-refusal c.args.why.reason _)
 
 pub refuse_spec : {M : Type 1} → statement M
 refuse_spec = tie.close (tie.spec number-requires returns)

@@ -58,7 +58,7 @@ fill-requires : tie.Need-fill-requires
 fill-requires c κs =
     let at = c.before.before.before.before in
     let (wf, (index, there)) = (start at).requires in
-    (wf, (index, (there, (index-whole index.room at.if-arcs-eq0.false, c.before.before.if-asked-eq-MADE.false))))
+    (wf, (index, (there, (index-whole index.room at.if-arcs-eq0.false, c.if-asked-eq-MADE.false))))
 
 same-length-2 : tie.Need-shape_of-arcs
 same-length-2 c = search rules

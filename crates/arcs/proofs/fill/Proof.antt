@@ -50,7 +50,7 @@ edges-requires c κs = search rules
 loop-holds : tie.Need-loop-k-init invariant-loop decreases-loop
 loop-holds c =
     let (wf, (index, (there, (full, unmade)))) = (start c).requires in
-    (omega arith, making-none c.before.before.before.before.before.clear.ensures _ wf index there full unmade)
+    (omega arith, making-none c.clear.ensures _ wf index there full unmade)
 
 add-k : tie.Need-overflow_add-k invariant-loop decreases-loop
 add-k c = search rules
@@ -73,7 +73,7 @@ put-requires c κs =
     let states = (in-range at).1 in
     let mask = one_bit 16 at.edge-edge.result.to (omega (arith, states.1)) in
     let m = (loop at).loop-k.inv.1 in
-    (making-room m, (making-found m _ at.edge-edge.ensures _ mask c.before.find-l.ensures states.1, in-range at))
+    (making-room m, (making-found m _ at.edge-edge.ensures _ mask c.find-l.ensures states.1, in-range at))
 
 loop-less : tie.Need-loop-k-smaller-then-matches invariant-loop decreases-loop
 loop-less c = search rules
@@ -84,11 +84,11 @@ loop-again c =
     let match = matched found.before in
     let at = read found.before in
     let (own, (from, to)) = in-range at in
-    let on = sym match.before.matches.ensures ∙ match.if1.taken in
+    let on = sym match.matches.ensures ∙ match.if1.true in
     let mask = one_bit 16 at.edge-edge.result.to (omega (arith, to)) in (
       omega arith,
       making-more (loop at).loop-k.inv.1 _ at.edge-edge.ensures _ mask found.find-l.ensures to own on
-          c.before.before.put.ensures,
+          c.put.ensures,
     )
 
 loop-less-2 : tie.Need-loop-k-smaller invariant-loop decreases-loop
@@ -97,7 +97,7 @@ loop-less-2 c = search rules
 loop-again-2 : tie.Need-loop-k-preserved invariant-loop decreases-loop
 loop-again-2 c =
     let at = c.before.before in
-    let off = sym c.before.matches.ensures ∙ c.if-matches.false in
+    let off = sym c.matches.ensures ∙ c.if-matches.false in
     (omega arith, making-past (loop at).loop-k.invariant.1 _ at.edge-edge.ensures off)
 
 add-arcs : tie.Need-overflow_add-arcs invariant-loop decreases-loop
@@ -107,16 +107,16 @@ mul-arcs : tie.Need-offset_bounds-arcs-place invariant-loop decreases-loop
 mul-arcs c = search rules
 
 slice-write-arcs : tie.Need-bounds-arcs-place invariant-loop decreases-loop
-slice-write-arcs c = let room = making-room c.before.loop-k.invariant.1 in omega (arith, room.0, room.1)
+slice-write-arcs c = let room = making-room c.loop-k.invariant.1 in omega (arith, room.0, room.1)
 
 same_length : tie.Need-shape_of-arcs invariant-loop decreases-loop
-same_length c = making-length c.before.loop-k.invariant.1 _ ∙ sym (start c.before.before).pre.1.1.1.0
+same_length c = making-length c.loop-k.invariant.1 _ ∙ sym (start c.before.before).pre.1.1.1.0
 
 returns : tie.Need-returns invariant-loop decreases-loop
 returns c =
     let at = c.before.before.before.before in
-    let made = making-all _ at.credential-credential.ensures c.before.loop-k.invariant.1 (omega arith) in
-    (made.0, made-since at.before.before.before.clear.ensures made.1)
+    let made = making-all _ at.credential-credential.ensures c.loop-k.invariant.1 (omega arith) in
+    (made.0, made-since at.clear.ensures made.1)
 
 pub fill_spec : {M : Type 1} → statement M
 fill_spec =

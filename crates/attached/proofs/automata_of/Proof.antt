@@ -34,7 +34,7 @@ has-requires c κs = search rules
 
 with-automaton-requires : tie.Need-with_automaton-mask-requires invariant-loop decreases-loop
 with-automaton-requires c κs =
-    automaton-few _ c.before.before.before.before.before.before.requires _ (omega arith) _ c.before.credential-credential.ensures
+    automaton-few _ c.requires _ (omega arith) _ c.credential-credential.ensures
 
 add-i : tie.Need-overflow_add-i-in-loop-i invariant-loop decreases-loop
 add-i c = search rules
@@ -44,15 +44,15 @@ loop-less c = search rules
 
 loop-again : tie.Need-loop-i-preserved invariant-loop decreases-loop
 loop-again c =
-    let so_far = c.before.before.before.before.loop-i.invariant.1 in
-    let next = automata-next _ _ _ c.before.has.ensures c.before.before.credential-credential.ensures so_far in
+    let so_far = c.loop-i.invariant.1 in
+    let next = automata-next _ _ _ c.has.ensures c.credential-credential.ensures so_far in
     (omega arith, c.with_automaton-mask.ensures ∙ next)
 
 returns : tie.Need-returns invariant-loop decreases-loop
 unfolding automata_of
 returns c =
-    let all : c.before.loop-i.i ≡ credentials c.before.before.before.before.args.table.now = omega arith in
-    rw all at c.before.loop-i.invariant.1
+    let all : c.loop-i.i ≡ credentials c.args.table.now = omega arith in
+    rw all at c.loop-i.invariant.1
 
 pub automata_of_spec : {M : Type 1} → statement M
 automata_of_spec =

@@ -11,7 +11,7 @@ has-16-requires c κs = search rules
 
 returns : tie.Need-returns-then-not-has_16
 unfolding ◌and◌
-returns c = rw (failed c.before.has_16.ensures c.if-not-has_16.true)
+returns c = rw (failed c.has_16.ensures c.if-not-has_16.true)
 
 add-automaton : tie.Need-overflow_add-k
 add-automaton c = search rules
@@ -22,8 +22,8 @@ automaton-requires c κs = search rules
 returns-2 : tie.Need-returns
 unfolding ◌and◌
 returns-2 c =
-    let member = passed c.before.before.before.has_16.ensures c.before.before.if-not-has_16.false in
-    rw (member, c.before.automaton.ensures, add-one)
+    let member = passed c.has_16.ensures c.if-not-has_16.false in
+    rw (member, c.automaton.ensures, add-one)
 
 pub is_marked_spec : {M : Type 1} → statement M
 is_marked_spec =

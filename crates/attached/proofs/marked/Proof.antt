@@ -38,14 +38,14 @@ loop-less c = search rules
 
 loop-again : tie.Need-loop-k-preserved invariant-loop decreases-loop
 loop-again c =
-    let test = c.before.is_marked.ensures in
-    let so_far = c.before.before.before.loop-k.invariant.1 in
+    let test = c.is_marked.ensures in
+    let so_far = c.loop-k.invariant.1 in
     let mask = ⊎_elim (λ w. w.mask-is ∙ w.with_16-mask.ensures ∙ set_more _ _ _ so_far (sym test ∙ w.if-is_marked.true))
     (λ w. w.mask-is ∙ set-not _ _ _ so_far (sym test ∙ w.if-is_marked.false)) c.if-is_marked.branch-raw in
     (omega arith, mask)
 
 returns : tie.Need-returns invariant-loop decreases-loop
-returns c = c.before.loop-k.invariant.1 ∙ marked_all _ _ _ (omega arith)
+returns c = c.loop-k.invariant.1 ∙ marked_all _ _ _ (omega arith)
 
 pub marked_spec : {M : Type 1} → statement M
 marked_spec =

@@ -11,7 +11,7 @@ returns c = rw c.if-not-member.true
 
 returns-2 : tie.Need-returns-then-automaton-eq0
 unfolding ◌and◌ pick
-returns-2 c = rw (c.before.if-not-member.false, eq-eqb _ 0 c.if-automaton-eq0.true)
+returns-2 c = rw (c.if-not-member.false, eq-eqb _ 0 c.if-automaton-eq0.true)
 
 wide-requires : tie.Need-wide-requires
 wide-requires c κs = search rules
@@ -25,10 +25,10 @@ with-16-requires c κs = search rules
 returns-3 : tie.Need-returns
 unfolding ◌and◌ pick
 returns-3 c =
-    let args = c.before.before.before.before.args in
-    let member = c.before.before.before.if-not-member.false in
-    let some = ne_eqb args.automaton 0 c.before.before.if-automaton-eq0.false in
-    rw (member, some, ← c.before.wide.ensures.0) c.with_16.ensures
+    let args = c.args in
+    let member = c.if-not-member.false in
+    let some = ne_eqb args.automaton 0 c.if-automaton-eq0.false in
+    rw (member, some, ← c.wide.ensures.0) c.with_16.ensures
 
 pub with_automaton_spec : {M : Type 1} → statement M
 with_automaton_spec =

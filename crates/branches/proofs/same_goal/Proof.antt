@@ -21,7 +21,7 @@ same-requires c κs = search rules
 
 returns-3 : tie.Need-returns
 unfolding same_goal
-returns-3 c = c.same.ensures ∙ and-on (eq-eqb _ _ c.before.if-one-other-2.false)
+returns-3 c = c.same.ensures ∙ and-on (eq-eqb _ _ c.if-one-other-2.false)
 
 pub same_goal_spec : {M : Type 1} → statement M
 same_goal_spec = tie.close (tie.spec returns returns-2 same-requires returns-3)

@@ -17,7 +17,7 @@ asked c = c.before.before.before
 answer : (c : Answered) → let from = (asked c).args in
     query_told c.check_request.result
     ≡ request_outcome from.table.now (as_query from.principal from.owner from.name from.depth)
-answer c = rw c.before.query_of-query.ensures at c.check_request.ensures
+answer c = rw c.query_of-query.ensures at c.check_request.ensures
 
 query-of-requires : tie.Need-query_of-query-requires
 query-of-requires c κs = search rules

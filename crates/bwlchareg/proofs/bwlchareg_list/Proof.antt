@@ -19,7 +19,7 @@ answer : (c : Answered) → let from = (asked c).args in
     let query = as_query from.principal from.owner from.name from.depth in
     (listing_told c.list.result ≡ listing from.table.now query (length from.sets-1.now))
     × (c.list.new.1.1.0 ≡ buffer_after from.table.now query from.sets-1.now)
-answer c = rw c.before.before.query_of-query.ensures at c.list.ensures
+answer c = rw c.query_of-query.ensures at c.list.ensures
 
 query-of-requires : tie.Need-query_of-query-requires
 query-of-requires c κs = search rules

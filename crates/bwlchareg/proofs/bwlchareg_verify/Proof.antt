@@ -17,7 +17,7 @@ asked c = c.before.before.before.before
 answer : (c : Answered) → let from = (asked c).args in
     verdict_told c.verify.result
     ≡ verdict from.table.now (as_query from.principal from.owner from.name from.depth) from.rec.now
-answer c = rw c.before.query_of-query.ensures at c.verify.ensures
+answer c = rw c.query_of-query.ensures at c.verify.ensures
 
 query-of-requires : tie.Need-query_of-query-requires
 query-of-requires c κs = search rules

@@ -20,7 +20,7 @@ answer : (c : Answered) → let from = (asked c).args in
     let query = as_query from.principal from.owner from.name from.depth in
     (written_told c.write.result ≡ writing from.table.now query from.set (length from.rec-1.now))
     × (c.write.new.1.1.1.0 ≡ record_after from.table.now query from.set from.rec-1.now)
-answer c = rw c.before.before.query_of-query.ensures at c.write.ensures
+answer c = rw c.query_of-query.ensures at c.write.ensures
 
 query-of-requires : tie.Need-query_of-query-requires
 query-of-requires c κs = search rules

@@ -23,13 +23,13 @@ credentials-requires c κs = search rules
 
 loop-holds : tie.Need-loop-i-init invariant-loop decreases-loop
 loop-holds c =
-    let pre = c.before.before.before.before.before.before.requires in
+    let pre = c.requires in
     (omega arith, c.credentials-n.ensures.same, grown-same pre.1.1.1.0 pre.1.1.1.1)
 
 grown-by-requires : tie.Need-grown_by-set-requires invariant-loop decreases-loop
 grown-by-requires c κs =
-    let pre = c.before.before.before.before.before.before.before.before.requires in
-    let loop = c.before.loop-i in
+    let pre = c.requires in
+    let loop = c.loop-i in
     (pre.0, (pre.1.0, (pre.1.1.0, (loop.invariant.2.fits, (loop.invariant.2.fails, omega (arith, loop.invariant.1))))))
 
 add-i : tie.Need-overflow_add-i invariant-loop decreases-loop
@@ -40,12 +40,12 @@ loop-less c = search rules
 
 loop-again : tie.Need-loop-i-preserved invariant-loop decreases-loop
 loop-again c =
-    let loop = c.before.before.loop-i in
+    let loop = c.loop-i in
     (omega arith, loop.invariant.1, grown-on loop.invariant.2 c.grown_by-set.ensures)
 
 returns : tie.Need-returns invariant-loop decreases-loop
 returns c =
-    let loop = c.before.loop-i in
+    let loop = c.loop-i in
     loop.invariant.2
 
 pub grown_spec : {M : Type 1} → statement M

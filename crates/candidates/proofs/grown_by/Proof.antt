@@ -11,7 +11,7 @@ has-requires c κs = search rules
 
 returns : tie.Need-returns-then-has
 returns c =
-    let pre = c.before.before.before.before.before.before.before.requires in
+    let pre = c.requires in
     grown-same pre.1.1.1.0 pre.1.1.1.1.0
 
 with-requires : tie.Need-with-more-requires
@@ -22,9 +22,9 @@ has-requires-2 c κs = search rules
 
 returns-2 : tie.Need-returns-then-not-has
 returns-2 c =
-    let pre = c.before.before.before.before.before.before.before.before.before.before.requires in
-    let with = c.before.before.with-more in
-    let out = failed c.before.has-2.ensures c.if-not-has.true in
+    let pre = c.requires in
+    let with = c.with-more in
+    let out = failed c.has-2.ensures c.if-not-has.true in
     grown-more _ _ _ pre.1.1.1.0 pre.1.1.1.1.1 with.ensures
     (beyond-fails _ _ _ pre.1.0 out pre.1.1.1.1.0 with.ensures)
 
@@ -33,9 +33,9 @@ meets-all-requires c κs = search rules
 
 returns-3 : tie.Need-returns-then-not-meets_all
 returns-3 c =
-    let pre = c.before.before.before.before.before.before.before.before.before.before.before.before.requires in
-    let with = c.before.before.before.before.with-more in
-    let unmet = failed c.before.meets_all.ensures c.if-not-meets_all.true in
+    let pre = c.requires in
+    let with = c.with-more in
+    let unmet = failed c.meets_all.ensures c.if-not-meets_all.true in
     grown-unmet _ _ _ pre.1.1.1.0 pre.1.1.1.1.1 pre.1.1.0 with.ensures unmet
 
 has-listed-requires : tie.Need-has_listed-requires
@@ -43,7 +43,7 @@ has-listed-requires c κs = search rules
 
 returns-4 : tie.Need-returns-then-has_listed
 returns-4 c =
-    let pre = c.before.before.before.before.before.before.before.before.before.before.before.before.before.before.requires in
+    let pre = c.requires in
     grown-same pre.1.1.1.0 pre.1.1.1.1.0
 
 admits-requires : tie.Need-admits-requires
@@ -52,15 +52,15 @@ admits-requires c κs = search rules
 returns-5 : tie.Need-returns-then-admits
 returns-5 c =
     let at_with = c.before.before.before.before.before.before.before.before in
-    let pre = at_with.before.before.before.before.before.before.before.before.requires in
+    let pre = at_with.requires in
     grown-same pre.1.1.1.0 pre.1.1.1.1.0
 
 returns-6 : tie.Need-returns
 returns-6 c =
     let at_with = c.before.before.before.before.before.before.before.before in
     let with = at_with.with-more in
-    let pre = at_with.before.before.before.before.before.before.before.before.requires in
-    let fails = sym (pre.1.0 _) ∙ sym c.before.admits.ensures ∙ c.if-admits.false in
+    let pre = at_with.requires in
+    let fails = sym (pre.1.0 _) ∙ sym c.admits.ensures ∙ c.if-admits.false in
     grown-more _ _ _ pre.1.1.1.0 pre.1.1.1.1.1 with.ensures fails
 
 pub grown_by_spec : {M : Type 1} → statement M

@@ -21,7 +21,7 @@ loop-holds c = (omega arith, omega arith, listed-none _ _)
 
 returns : tie.Need-returns-then-i-sets invariant-loop decreases-loop
 returns c =
-    let loop = c.before.before.loop-i in
+    let loop = c.loop-i in
     sym (listed-whole _ _ loop.i _ (omega (arith, c.if-i-sets.true)) loop.invariant.2)
 
 mul-if2 : tie.Need-offset_bounds-sets-i invariant-loop decreases-loop
@@ -38,9 +38,9 @@ shared-slice-read-if2-2 c = search rules
 
 returns-2 : tie.Need-returns-then-sets-i invariant-loop decreases-loop
 returns-2 c =
-    let if1 = c.before.before.before.if-i-sets in
-    let loop-test = c.before.before.before.before.loop-i-test in
-    let loop = c.before.before.before.before.before.loop-i in
+    let if1 = c.if-i-sets in
+    let loop-test = c.loop-i-test in
+    let loop = c.loop-i in
     sym (listed_here _ _ loop.i _ loop-test.true (omega (arith, if1.false, loop.invariant.1)) c.if-sets-i.true)
 
 add-i : tie.Need-overflow_add-i invariant-loop decreases-loop
@@ -51,14 +51,14 @@ loop-less c = search rules
 
 loop-again : tie.Need-loop-i-preserved invariant-loop decreases-loop
 loop-again c =
-    let if1 = c.before.before.before.if-i-sets in
-    let loop = c.before.before.before.before.before.loop-i in
+    let if1 = c.if-i-sets in
+    let loop = c.loop-i in
     (omega arith, omega (arith, if1.false, loop.invariant.1), listed_next _ _ loop.i loop.invariant.2 c.if-sets-i.false)
 
 returns-3 : tie.Need-returns invariant-loop decreases-loop
 returns-3 c =
-    let loop = c.before.loop-i in
-    let args = c.before.before.args in
+    let loop = c.loop-i in
+    let args = c.args in
     let all : loop.i ≡ args.found = omega arith in sym (rw all at loop.invariant.2)
 
 pub has_listed_spec : {M : Type 1} → statement M

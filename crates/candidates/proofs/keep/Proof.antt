@@ -13,7 +13,7 @@ is-minimal-requires c κs = search rules
 
 returns : tie.Need-returns-then-not-is_minimal
 returns c =
-    let is-minimal = c.before.is_minimal in
+    let is-minimal = c.is_minimal in
     kept-not (sym is-minimal.ensures ∙ c.if-not-is_minimal.true)
 
 insert-requires : tie.Need-insert-requires
@@ -24,11 +24,11 @@ same_length c = search rules
 
 returns-2 : tie.Need-returns
 returns-2 c =
-    let pre = c.before.before.before.before.before.before.before.before.before.before.requires in
-    let if1 = c.before.before.before.before.before.if-full in
-    let insert = c.before.before.insert in
+    let pre = c.requires in
+    let if1 = c.if-full in
+    let insert = c.insert in
     kept-least
-    (⊎_elim (λ w. sym w.1.ensures ∙ not-false _ w.2.left) (λ w. pre.1.1.1.0 w.left) if1.branch-raw)
+    (⊎_elim (λ w. sym w.1.ensures ∙ not-false _ w.2.false) (λ w. pre.1.1.1.0 w.false) if1.branch-raw)
     insert.ensures
 
 pub keep_spec : {M : Type 1} → statement M

@@ -16,12 +16,12 @@ shl-result c = search rules
 
 sub-result : tie.Need-overflow_sub-result
 sub-result c =
-    let pre = c.before.before.requires in
+    let pre = c.requires in
     all-some _ (omega (arith, c.credentials-n.ensures.same, pre.0.sized.counted.few_credentials))
 
 returns : tie.Need-returns
 returns c =
-    let pre = c.before.before.requires in
+    let pre = c.requires in
     let n = c.credentials-n.ensures.same in
     rw (← n) (outside-is _ _ (omega (arith, n, pre.0.sized.counted.few_credentials)) (rw n pre.1))
 

@@ -10,14 +10,14 @@ use Rattle.checks.proofs.check_query.Statement.{statement}
 use Rattle.checks.proofs.check_query.Tie as tie
 
 -- which fields have passed at each place where the code goes on
-principal-ok : (c : tie.Else-not-is_principal) → is_principal c.before.before.args.query.principal ≡ true
-principal-ok c = passed c.before.is_principal.ensures c.if-not-is_principal.false
+principal-ok : (c : tie.Else-not-is_principal) → is_principal c.args.query.principal ≡ true
+principal-ok c = passed c.is_principal.ensures c.if-not-is_principal.false
 
-owner-ok : (c : tie.Else-not-is_principal-2) → is_principal c.before.before.before.before.args.query.owner ≡ true
-owner-ok c = passed c.before.is_principal-2.ensures c.if-not-is_principal-2.false
+owner-ok : (c : tie.Else-not-is_principal-2) → is_principal c.args.query.owner ≡ true
+owner-ok c = passed c.is_principal-2.ensures c.if-not-is_principal-2.false
 
-name-ok : (c : tie.Else-not-is_name) → is_name c.before.before.before.before.before.before.args.query.name ≡ true
-name-ok c = passed c.before.is_name.ensures c.if-not-is_name.false
+name-ok : (c : tie.Else-not-is_name) → is_name c.args.query.name ≡ true
+name-ok c = passed c.is_name.ensures c.if-not-is_name.false
 
 abbrev owner-asked : tie.Else-not-is_principal-2 → tie.Else-not-is_principal
 owner-asked c = c.before.before
@@ -33,7 +33,7 @@ bad-field-requires c κs = search rules
 
 returns : tie.Need-returns-then-not-is_principal
 returns c =
-    let bad = failed c.before.before.is_principal.ensures c.before.if-not-is_principal.true in
+    let bad = failed c.is_principal.ensures c.if-not-is_principal.true in
     c.bad_field.ensures ∙ principal-refused _ bad
 
 is-principal-requires-2 : tie.Need-is_principal-requires-2
@@ -44,7 +44,7 @@ bad-field-requires-2 c κs = search rules
 
 returns-2 : tie.Need-returns-then-not-is_principal-2
 returns-2 c =
-    let bad = failed c.before.before.is_principal-2.ensures c.before.if-not-is_principal-2.true in
+    let bad = failed c.is_principal-2.ensures c.if-not-is_principal-2.true in
     c.bad_field-then-not-is_principal-2.ensures ∙ owner-refused _ (principal-ok c.before.before.before) bad
 
 is-name-requires : tie.Need-is_name-requires
@@ -56,7 +56,7 @@ bad-field-requires-3 c κs = search rules
 returns-3 : tie.Need-returns-then-not-is_name
 returns-3 c =
     let at = c.before.before.before in
-    let bad = failed c.before.before.is_name.ensures c.before.if-not-is_name.true in
+    let bad = failed c.is_name.ensures c.if-not-is_name.true in
     c.bad_field-then-not-is_name.ensures ∙ name-refused _ (principal-ok (owner-asked at)) (owner-ok at) bad
 
 cast-within : tie.Need-overflow_cast-within
@@ -72,7 +72,7 @@ returns-4 : tie.Need-returns-then-not-within
 returns-4 c =
     let at = c.before.before.before in
     let owner = name-asked at in
-    let bad = failed c.before.before.within.ensures c.before.if-not-within.true in
+    let bad = failed c.within.ensures c.if-not-within.true in
     c.bad_field-then-not-within.ensures ∙ depth-refused _ (principal-ok (owner-asked owner)) (owner-ok owner) (name-ok at) bad
 
 returns-5 : tie.Need-returns
@@ -80,7 +80,7 @@ unfolding query_told
 returns-5 c =
     let at = c.before.before in
     let owner = name-asked at in
-    let depth = passed c.before.within.ensures c.if-not-within.false in
+    let depth = passed c.within.ensures c.if-not-within.false in
     query-valid _ (principal-ok (owner-asked owner)) (owner-ok owner) (name-ok at) depth
 
 pub check_query_spec : {M : Type 1} → statement M

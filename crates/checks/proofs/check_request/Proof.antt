@@ -23,14 +23,14 @@ enum-known-why c = search rules
 returns : tie.Need-returns-in-Accepted
 unfolding request_outcome
 returns c =
-    let check-table = c.before.before.before.check_table in
-    c.check_query.ensures ∙ then-on (stage-passed check-table.ensures c.before.in-Accepted.is)
+    let check-table = c.check_table in
+    c.check_query.ensures ∙ then-on (stage-passed check-table.ensures c.in-Accepted.is)
 
 returns-2 : tie.Need-returns-in-Refused
 unfolding request_outcome query_told table_told
 returns-2 c =
-    let check-table = c.before.before.before.check_table in
-    let known = c.before.in-Refused.is in
+    let check-table = c.check_table in
+    let known = c.in-Refused.is in
     sym (ap table_told known) ∙ stage-stops check-table.ensures _ known
 
 pub check_request_spec : {M : Type 1} → statement M

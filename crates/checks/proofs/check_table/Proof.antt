@@ -76,7 +76,7 @@ abbrev some-asked : AskedMarks → SomeAutomata
 some-asked c = c.before.before
 
 abbrev at-credentials : AskedCredentials → List ℕ
-at-credentials c = c.before.before.before.before.args.table.now
+at-credentials c = c.args.table.now
 
 abbrev at_cells : AskedCells → List ℕ
 at_cells c = at-credentials (credentials-asked c)
@@ -92,22 +92,22 @@ at-marks c = at-edges (edges-asked (some-asked c))
 
 -- the row before has passed
 head_passed : (c : AskedCredentials) → head_outcome (at-credentials c) ≡ accepted 0
-head_passed c = stage-passed c.before.before.check_head-head.ensures c.in-Accepted.is
+head_passed c = stage-passed c.check_head-head.ensures c.in-Accepted.is
 
 credentials-passed : (c : AskedCells) → row_outcome (at_cells c) row.Credentials 4 ≡ accepted 0
 unfolding row_outcome
-credentials-passed c = row-passed _ _ _ 4 c.before.first_bad-credential.ensures c.if-credential-ne0.false
+credentials-passed c = row-passed _ _ _ 4 c.first_bad-credential.ensures c.if-credential-ne0.false
 
 cells-passed : (c : AskedChains) → row_outcome (at-chains c) row.Cells 5 ≡ accepted 0
 unfolding row_outcome
-cells-passed c = row-passed _ _ _ 5 c.before.first_bad-cell.ensures c.if-cell-ne0.false
+cells-passed c = row-passed _ _ _ 5 c.first_bad-cell.ensures c.if-cell-ne0.false
 
 chains-passed : (c : AskedEdges) → demand_each (good_chain (at-edges c)) (credentials (at-edges c)) 6 ≡ accepted 0
-chains-passed c = row-passed _ _ _ 6 c.before.first_bad_chain-chain.ensures c.if-chain-ne0.false
+chains-passed c = row-passed _ _ _ 6 c.first_bad_chain-chain.ensures c.if-chain-ne0.false
 
 edges-passed : (c : AskedMarks) → row_outcome (at-marks c) row.Edges 7 ≡ accepted 0
 unfolding row_outcome
-edges-passed c = row-passed _ _ _ 7 c.before.first_bad-edge.ensures c.if-edge-ne0.false
+edges-passed c = row-passed _ _ _ 7 c.first_bad-edge.ensures c.if-edge-ne0.false
 
 -- so the rows from here on decide
 credentials-left : (c : AskedCredentials) → from-credentials (at-credentials c) ≡ table_outcome (at-credentials c)
@@ -141,7 +141,7 @@ enum-told-2 : tie.Need-enum_told-in_default
 enum-told-2 c = search rules
 
 returns : tie.Need-returns-in_default
-returns c = stage-stops c.before.before.check_head-head.ensures _ c.in_default.is ∙ by_rows _
+returns c = stage-stops c.check_head-head.ensures _ c.in_default.is ∙ by_rows _
 
 first-bad-requires : tie.Need-first_bad-credential-requires
 first-bad-requires c κs = has-size c
@@ -152,7 +152,7 @@ refused-requires c κs = search rules
 returns-2 : tie.Need-returns-then-credential-ne0
 unfolding row_outcome number_of
 returns-2 c =
-    let bad = row-stops _ _ _ 4 c.before.before.first_bad-credential.ensures c.before.if-credential-ne0.true in
+    let bad = row-stops _ _ _ 4 c.first_bad-credential.ensures c.if-credential-ne0.true in
     c.refused.ensures ∙ refused-then _ bad ∙ credentials-left c.before.before.before
 
 first-bad-requires-2 : tie.Need-first_bad-cell-requires
@@ -164,7 +164,7 @@ refused-requires-2 c κs = search rules
 returns-3 : tie.Need-returns-then-cell-ne0
 unfolding row_outcome number_of
 returns-3 c =
-    let bad = row-stops _ _ _ 5 c.before.before.first_bad-cell.ensures c.before.if-cell-ne0.true in
+    let bad = row-stops _ _ _ 5 c.first_bad-cell.ensures c.if-cell-ne0.true in
     c.refused-then-cell-ne0.ensures ∙ refused-then _ bad ∙ cells_left c.before.before.before
 
 first-bad-chain-requires : tie.Need-first_bad_chain-chain-requires
@@ -178,7 +178,7 @@ refused-requires-3 c κs = search rules
 returns-4 : tie.Need-returns-then-chain-ne0
 unfolding number_of
 returns-4 c =
-    let bad = row-stops _ _ _ 6 c.before.before.first_bad_chain-chain.ensures c.before.if-chain-ne0.true in
+    let bad = row-stops _ _ _ 6 c.first_bad_chain-chain.ensures c.if-chain-ne0.true in
     c.refused-then-chain-ne0.ensures ∙ refused-then _ bad ∙ chains-left c.before.before.before
 
 edges-requires : tie.Need-edges-requires
@@ -194,8 +194,8 @@ returns-5 : tie.Need-returns-then-edges-automata-eq0
 unfolding row_outcome records table_told
 returns-5 c =
     let at = c.before.before.before in
-    let edges = c.before.before.edges.ensures in
-    let automata = c.before.automata.ensures in
+    let edges = c.edges.ensures in
+    let automata = c.automata.ensures in
     rows_empty _ (omega (arith, c.if-edges-automata-eq0.true, edges.same)) (omega (arith, c.if-edges-automata-eq0.true, automata.same)) ∙ edges-left at
 
 first-bad-requires-3 : tie.Need-first_bad-edge-requires
@@ -207,7 +207,7 @@ refused-requires-4 c κs = search rules
 returns-6 : tie.Need-returns-then-edge-ne0
 unfolding row_outcome number_of
 returns-6 c =
-    let bad = row-stops _ _ _ 7 c.before.before.first_bad-edge.ensures c.before.if-edge-ne0.true in
+    let bad = row-stops _ _ _ 7 c.first_bad-edge.ensures c.if-edge-ne0.true in
     c.refused-then-edge-ne0.ensures ∙ refused-then _ bad ∙ edges-left (edges-asked c.before.before.before)
 
 first-bad-requires-4 : tie.Need-first_bad-mark-requires
@@ -219,13 +219,13 @@ refused-requires-5 c κs = search rules
 returns-7 : tie.Need-returns-then-mark-ne0
 unfolding row_outcome number_of
 returns-7 c =
-    let bad = row-stops _ _ _ 17 c.before.before.first_bad-mark.ensures c.before.if-mark-ne0.true in
+    let bad = row-stops _ _ _ 17 c.first_bad-mark.ensures c.if-mark-ne0.true in
     c.refused-then-mark-ne0.ensures ∙ bad ∙ marks-left c.before.before.before
 
 returns-8 : tie.Need-returns
 unfolding row_outcome table_told
 returns-8 c =
-    let passed = row-passed _ _ _ 17 c.before.first_bad-mark.ensures c.if-mark-ne0.false in
+    let passed = row-passed _ _ _ 17 c.first_bad-mark.ensures c.if-mark-ne0.false in
     sym passed ∙ marks-left c.before.before
 
 pub check_table_spec : {M : Type 1} → statement M

@@ -29,15 +29,15 @@ loop-less c = search rules
 
 loop-again : tie.Need-loop-i-preserved invariant-loop decreases-loop
 loop-again c =
-    let so_far = c.before.before.before.loop-i.invariant in
-    let told = sym c.before.may_use.ensures in
+    let so_far = c.loop-i.invariant in
+    let told = sym c.may_use.ensures in
     ⊎_elim (λ w. (omega arith, omega arith, rw w.last-is (none_first _ _ _ _)))
     (λ w. (omega arith, omega arith, rw w.last-is (none-next _ _ _ _ _ so_far.2 (told ∙ w.if-may_use.false)))) c.if-may_use.branch-raw
 
 returns : tie.Need-returns invariant-loop decreases-loop
 returns c =
-    let loop = c.before.loop-i in
-    let all : loop.i ≡ c.before.before.before.args.n = omega arith in
+    let loop = c.loop-i in
+    let all : loop.i ≡ c.args.n = omega arith in
     record { few = loop.invariant.1; none = rw all at loop.invariant.2 }
 
 pub last_usable_spec : {M : Type 1} → statement M

@@ -32,7 +32,7 @@ credentials-requires c κs = search rules
 
 last-usable-requires : tie.Need-last_usable-last-requires invariant-loop decreases-loop
 last-usable-requires c κs =
-    let pre = c.before.before.before.before.before.before.requires in
+    let pre = c.requires in
     let n = c.credentials.ensures in
     (pre.0.indexed.placed, (omega (arith, n.same, pre.1.0.1), n.few))
 
@@ -54,7 +54,7 @@ may-use-requires : tie.Need-may_use-requires invariant-loop decreases-loop
 may-use-requires c κs = search rules
 
 inside : (at : Found) (i : ℕ) → i < at.last_usable-last.result → i < credentials (asked at).args.table.now
-inside at i l = omega (arith, l, at.last_usable-last.ensures.few, at.before.credentials.ensures.same)
+inside at i l = omega (arith, l, at.last_usable-last.ensures.few, at.credentials.ensures.same)
 
 credential-search-requires : tie.Need-credential_search-answer-requires invariant-loop decreases-loop
 credential-search-requires c κs =
@@ -68,7 +68,7 @@ meets-requires c κs = search rules
 
 same_length : tie.Need-shape_of-memory-then-meets invariant-loop decreases-loop
 same_length c =
-    c.before.before.before.memory-1.given ∙ c.before.before.before.before.before.before.before.before.before.loop-i.invariant.2.0
+    c.memory-1.given ∙ c.loop-i.invariant.2.0
 
 returns : tie.Need-returns-then-meets invariant-loop decreases-loop
 returns c =
@@ -76,11 +76,11 @@ returns c =
     let way = asking.before.before in
     let loop = way.before.before.before in
     let pre = (asked loop.before).pre in
-    let there = inside loop.before _ way.before.before.loop-i-test.true in
+    let there = inside loop.before _ way.loop-i-test.true in
     let (judged, remembered) = asking.credential_search-answer.ensures in
-    let proved = own-wanted _ _ _ _ _ _ _ _ pre.1.1.0 (judged-told (wide (asked loop.before)) judged) c.before.meets.ensures in (
+    let proved = own-wanted _ _ _ _ _ _ _ _ pre.1.1.0 (judged-told (wide (asked loop.before)) judged) c.meets.ensures in (
       chosen-here pre.0.indexed pre.1.0.0 pre.1.0.1 _ _ _ _ there loop.loop-i.invariant.1
-          (passes-here pre.0.indexed pre.1.0.0 pre.1.0.1 _ _ _ _ there way.before.may_use.ensures
+          (passes-here pre.0.indexed pre.1.0.0 pre.1.0.1 _ _ _ _ there way.may_use.ensures
           way.if-may_use.true proved c.if-meets.true),
       remembered,
     )
@@ -96,12 +96,12 @@ loop-again c =
     let loop = c.before.before.before in
     let pre = (asked loop.before).pre in
     let (_, so_far, remembered) = loop.loop-i.invariant in
-    let next = c.before.before.loop-i-test.true in
+    let next = c.loop-i-test.true in
     let there = inside loop.before _ next in
-    let may-use = c.before.may_use.ensures in (
+    let may-use = c.may_use.ensures in (
       omega (arith, next),
-      ⊎_elim (λ way. next-failed pre.0.indexed pre.1.0.0 pre.1.0.1 _ _ _ _ there may-use way.0.taken
-          (own-wanted _ _ _ _ _ _ _ _ pre.1.1.0 (judged-told (wide (asked loop.before)) way.2.ensures.0) way.5.ensures) so_far way.6.left)
+      ⊎_elim (λ way. next-failed pre.0.indexed pre.1.0.0 pre.1.0.1 _ _ _ _ there may-use way.0.true
+          (own-wanted _ _ _ _ _ _ _ _ pre.1.1.0 (judged-told (wide (asked loop.before)) way.2.ensures.0) way.5.ensures) so_far way.6.false)
           (λ way. next-skipped pre.0.indexed pre.1.0.0 pre.1.0.1 _ _ _ _ there may-use so_far way.if-may_use.false)
           c.if-may_use.branch-raw,
       ⊎_elim (λ way. rw way.7 (way.3.given ∙ remembered.0, way.2.ensures.1)) (λ way. rw way.memory-is remembered) c.if-may_use.branch-raw,
@@ -114,8 +114,8 @@ returns-2 : tie.Need-returns invariant-loop decreases-loop
 returns-2 c =
     let at = c.before.before in
     let pre = (asked at).requires in
-    let (within, so_far, (same, remembered)) = c.before.loop-i.invariant in (
-      chosen_last pre.0.indexed pre.1.0.0 pre.1.0.1 _ _ _ _ _ _ at.before.credentials.ensures.same
+    let (within, so_far, (same, remembered)) = c.loop-i.invariant in (
+      chosen_last pre.0.indexed pre.1.0.0 pre.1.0.1 _ _ _ _ _ _ at.credentials.ensures.same
           at.last_usable-last.ensures (omega (arith, c.loop-i-test.false, within)) so_far pre.1.1.1.1,
       remembered,
     )

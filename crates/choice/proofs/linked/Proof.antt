@@ -26,9 +26,9 @@ returns : tie.Need-returns
 returns c =
     let second = c.before.before in
     let first = second.before in
-    let index = first.before.before.before.before.args.index in
-    made-linked _ index.now _ _ _ _ first.before.credential-middle.ensures first.asked_cell-first.ensures.0
-    second.link_cell-second.ensures.0 _ c.before.link_asked.ensures.1 _ c.made.ensures
+    let index = first.args.index in
+    made-linked _ index.now _ _ _ _ first.credential-middle.ensures first.asked_cell-first.ensures.0
+    second.link_cell-second.ensures.0 _ c.link_asked.ensures.1 _ c.made.ensures
 
 pub linked_spec : {M : Type 1} → statement M
 linked_spec =

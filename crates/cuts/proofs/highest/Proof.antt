@@ -21,8 +21,8 @@ has-requires c κs = search rules
 
 returns : tie.Need-returns-then-has invariant-loop decreases-loop
 returns c =
-    let loop = c.before.before.before.loop-i in
-    let has = c.before.has in
+    let loop = c.loop-i in
+    let has = c.has in
     (sym has.ensures ∙ c.if-has.true, loop.invariant.0)
 
 sub-i : tie.Need-overflow_sub-i invariant-loop decreases-loop
@@ -33,15 +33,15 @@ loop-less c = search rules
 
 loop-again : tie.Need-loop-i-preserved invariant-loop decreases-loop
 loop-again c =
-    let loop = c.before.before.before.loop-i in
-    let loop-test = c.before.before.loop-i-test in
-    let has = c.before.has in
+    let loop = c.loop-i in
+    let loop-test = c.loop-i-test in
+    let has = c.has in
     (omega arith, fewer-next _ _ loop-test.true loop.invariant.1 (sym has.ensures ∙ c.if-has.false))
 
 returns-2 : tie.Need-returns invariant-loop decreases-loop
 returns-2 c =
-    let loop = c.before.loop-i in
-    let pre = c.before.before.requires in
+    let loop = c.loop-i in
+    let pre = c.requires in
     (zero_left _ loop.i (omega arith) pre.0 loop.invariant.1, omega arith)
 
 pub highest_spec : {M : Type 1} → statement M

@@ -11,7 +11,7 @@ meets-all-requires c κs = search rules
 
 returns : tie.Need-returns-then-not-meets_all
 returns c =
-    let meets-all = c.before.meets_all in
+    let meets-all = c.meets_all in
     judged-off _ _ _ _ (failed meets-all.ensures c.if-not-meets_all.true)
 
 returns-2 : tie.Need-returns-then-count-cuts
@@ -22,8 +22,8 @@ sole-requires c κs = search rules
 
 returns-3 : tie.Need-returns
 returns-3 c =
-    let pre = c.before.before.before.before.before.requires in
-    let if2 = c.before.if-count-cuts in
+    let pre = c.requires in
+    let if2 = c.if-count-cuts in
     judged-sole _ _ _ _ _ c.sole.ensures (omega (arith, if2.false, pre))
 
 pub is_barren_spec : {M : Type 1} → statement M

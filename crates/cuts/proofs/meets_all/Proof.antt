@@ -27,7 +27,7 @@ shared-slice-read-if1 c = search rules
 
 returns : tie.Need-returns-then-set-cuts-eq0 invariant-loop decreases-loop
 returns c =
-    let loop-test = c.before.before.loop-i-test in
+    let loop-test = c.loop-i-test in
     sym (meets-missed _ _ _ _ loop-test.true (meets-not _ _ c.if-set-cuts-eq0.true))
 
 add-i : tie.Need-overflow_add-i invariant-loop decreases-loop
@@ -38,13 +38,13 @@ loop-less c = search rules
 
 loop-again : tie.Need-loop-i-preserved invariant-loop decreases-loop
 loop-again c =
-    let loop = c.before.before.before.loop-i in
+    let loop = c.loop-i in
     (omega arith, meets-next _ _ _ loop.invariant.1 (meets-some _ _ c.if-set-cuts-eq0.false))
 
 returns-2 : tie.Need-returns invariant-loop decreases-loop
 returns-2 c =
-    let loop = c.before.loop-i in
-    let args = c.before.before.args in
+    let loop = c.loop-i in
+    let args = c.args in
     let all : loop.i ≡ args.count = omega arith in sym (rw all at loop.invariant.1)
 
 pub meets_all_spec : {M : Type 1} → statement M

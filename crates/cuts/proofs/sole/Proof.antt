@@ -35,13 +35,13 @@ loop-less c = search rules
 
 loop-again : tie.Need-loop-i-preserved invariant-loop decreases-loop
 loop-again c =
-    let loop = c.before.before.before.loop-i in
+    let loop = c.loop-i in
     (omega arith, sole-next _ _ _ _ _ loop.invariant.1 c.if_single-found.ensures)
 
 returns : tie.Need-returns invariant-loop decreases-loop
 returns c =
-    let loop = c.before.loop-i in
-    let args = c.before.before.before.args in
+    let loop = c.loop-i in
+    let args = c.args in
     let all : loop.i ≡ args.count = omega arith in λ k. rw all at (loop.invariant.1 k)
 
 pub sole_spec : {M : Type 1} → statement M

@@ -33,9 +33,9 @@ shared-slice-read-result c = search rules
 
 returns : tie.Need-returns-then-set-cuts-eq0 invariant-loop decreases-loop
 returns c =
-    let loop = c.before.before.before.before.loop-i in
-    let loop-test = c.before.before.before.loop-i-test in
-    let if1 = c.before.if-set-cuts-eq0 in
+    let loop = c.loop-i in
+    let loop-test = c.loop-i-test in
+    let if1 = c.if-set-cuts-eq0 in
     unmet-first _ _ _ _ loop.invariant.1 loop-test.true (meets-not _ _ if1.true)
 
 add-i : tie.Need-overflow_add-i invariant-loop decreases-loop
@@ -46,13 +46,13 @@ loop-less c = search rules
 
 loop-again : tie.Need-loop-i-preserved invariant-loop decreases-loop
 loop-again c =
-    let loop = c.before.before.before.loop-i in
+    let loop = c.loop-i in
     (omega arith, meets-next _ _ _ loop.invariant.1 (meets-some _ _ c.if-set-cuts-eq0.false))
 
 returns-2 : tie.Need-returns invariant-loop decreases-loop
 returns-2 c =
-    let loop = c.before.loop-i in
-    let args = c.before.before.args in
+    let loop = c.loop-i in
+    let args = c.args in
     let all : loop.i ≡ args.count = omega arith in unmet-none _ _ _ (rw all at loop.invariant.1)
 
 pub unmet_spec : {M : Type 1} → statement M

@@ -12,8 +12,8 @@ returns c = sym (take_all _ _ c.if-bytes-le-MOST_BYTES.true)
 
 slice-aggregate-result : tie.Need-slice_bounds-result-end
 slice-aggregate-result c =
-    let more = c.before.if-bytes-le-MOST_BYTES.false in
-    sym (length-take-le most_bytes c.before.before.args.bytes.now (omega arith))
+    let more = c.if-bytes-le-MOST_BYTES.false in
+    sym (length-take-le most_bytes c.args.bytes.now (omega arith))
 
 returns-2 : tie.Need-returns
 returns-2 c = search rules

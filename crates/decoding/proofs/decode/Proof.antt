@@ -51,19 +51,19 @@ loop-less c = omega arith
 
 loop-again : tie.Need-loop-i-preserved invariant-loop decreases-loop
 loop-again c =
-    let loop = c.before.before.before.before.loop-i in (
-      omega (arith, c.before.before.before.loop-i-test),
+    let loop = c.loop-i in (
+      omega (arith, c.loop-i-test),
       refl,
       loop.invariant.2,
       simp length-set loop.invariant.3,
-      decoded-next loop.invariant.4 _ c.before.before.before.loop-i-test.true (omega arith) c.number_of_lem.ensures,
+      decoded-next loop.invariant.4 _ c.loop-i-test.true (omega arith) c.number_of.ensures,
     )
 
 same_length : tie.Need-shape_of-numbers invariant-loop decreases-loop
-same_length c = c.before.loop-i.invariant.3
+same_length c = c.loop-i.invariant.3
 
 returns : tie.Need-returns invariant-loop decreases-loop
-returns c = let loop = c.before.loop-i in decoded-all loop.invariant.4 loop.invariant.0 c.loop-i-test.false
+returns c = let loop = c.loop-i in decoded-all loop.invariant.4 loop.invariant.0 c.loop-i-test.false
 
 pub decode_spec : {M : Type 1} → statement M
 decode_spec =

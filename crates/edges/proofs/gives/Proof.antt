@@ -16,7 +16,7 @@ given-requires c κs = search rules
 
 returns : tie.Need-returns-then-to-eq0
 returns c =
-    gives_none _ _ _ c.before.before.before.before.requires c.before.given-to.ensures c.if-to-eq0.true
+    gives_none _ _ _ c.requires c.given-to.ensures c.if-to-eq0.true
 
 matches-requires : tie.Need-matches-requires
 matches-requires c κs = search rules
@@ -24,14 +24,14 @@ matches-requires c κs = search rules
 returns-2 : tie.Need-returns-then-matches
 returns-2 c =
     let at = c.before.before.before in
-    let on = sym c.before.matches.ensures ∙ c.if-matches.true in
-    gives-matching _ _ _ at.before.before.before.requires at.given-to.ensures on
+    let on = sym c.matches.ensures ∙ c.if-matches.true in
+    gives-matching _ _ _ at.requires at.given-to.ensures on
 
 returns-3 : tie.Need-returns
 returns-3 c =
     let at = c.before.before.before in
-    let off = sym c.before.matches.ensures ∙ c.if-matches.false in
-    gives_other _ _ _ at.before.before.before.requires at.given-to.ensures off
+    let off = sym c.matches.ensures ∙ c.if-matches.false in
+    gives_other _ _ _ at.requires at.given-to.ensures off
 
 pub gives_spec : {M : Type 1} → statement M
 gives_spec =

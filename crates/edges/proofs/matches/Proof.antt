@@ -13,19 +13,19 @@ same-requires-2 : tie.Need-same-requires-in-3
 same-requires-2 c κs = search rules
 
 returns : tie.Need-returns-in-1
-returns c = c.same.ensures ∙ sym (label-1 _ _ c.before.in-1.is)
+returns c = c.same.ensures ∙ sym (label-1 _ _ c.in-1.is)
 
 returns-2 : tie.Need-returns-in-2
 returns-2 c = sym (label-2 _ _ c.in-2.is)
 
 returns-3 : tie.Need-returns-in-3
-returns-3 c = ap not c.same-in-3.ensures ∙ sym (label-3 _ _ c.before.in-3.is)
+returns-3 c = ap not c.same-in-3.ensures ∙ sym (label-3 _ _ c.in-3.is)
 
 returns-4 : tie.Need-returns-in-4
-returns-4 c = sym (label-4 _ _ c.before.before.in-4.is)
+returns-4 c = sym (label-4 _ _ c.in-4.is)
 
 returns-5 : tie.Need-returns-in_default
-returns-5 c = let no = c.in_default.rest in sym (label-none _ _ no.0.0.0.1 no.0.0.1 no.0.1 no.1)
+returns-5 c = let no = c.in_default.in_default-own.rest in sym (label-none _ _ no.0.0.0.1 no.0.0.1 no.0.1 no.1)
 
 pub matches_spec : {M : Type 1} → statement M
 matches_spec =

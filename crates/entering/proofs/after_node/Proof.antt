@@ -15,7 +15,7 @@ accepting-requires c κs = search rules
 returns-2 : tie.Need-returns
 unfolding pick
 returns-2 c =
-    let ends = eq-eqb _ 0 c.before.if-len-ne0.false in
+    let ends = eq-eqb _ 0 c.if-len-ne0.false in
     (rw (ends, c.accepting-accepting.ensures), rw (ends, c.accepting-accepting.ensures))
 
 pub after_node_spec : {M : Type 1} → statement M

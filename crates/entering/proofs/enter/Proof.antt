@@ -23,16 +23,16 @@ abbrev two : tie.Else-not-premises → tie.Else-rec-lt2
 two at = at.before.before.before.before.before
 
 asked : (at : tie.Else-not-premises) → let from = (start (two at)).args in
-    let found = at.before.before.premises-premises.result in
+    let found = at.premises-premises.result in
     premises from.table.now from.goal (get_or from.rec.now 0 0) (get_or from.rec.now 1 0)
     ≡ some (take found.len found.goals-1)
-asked at = sym at.before.before.premises-premises.ensures.1 ∙ given-some _ at.if-not-premises.false
+asked at = sym at.premises-premises.ensures.1 ∙ given-some _ at.if-not-premises.false
 
 halted-requires : tie.Need-halted-requires
 halted-requires c κs = search rules
 
 returns : tie.Need-returns-then-rec-lt2
-returns c = halts-with _ (omega arith) c.halted.ensures (entry-short _ _ _ _ c.before.if-rec-lt2.true)
+returns c = halts-with _ (omega arith) c.halted.ensures (entry-short _ _ _ _ c.if-rec-lt2.true)
 
 shared-slice-read-premises : tie.Need-bounds-rec-0
 shared-slice-read-premises c = search rules
@@ -49,8 +49,8 @@ halted-requires-2 c κs = search rules
 returns-2 : tie.Need-returns-then-not-premises
 returns-2 c =
     let found = c.before.before.before in
-    let unfit = sym found.premises-premises.ensures.1 ∙ given-none _ c.before.if-not-premises.true in
-    halts-with _ (omega arith) c.halted-then-not-premises.ensures (entry-unfit _ _ _ _ found.before.before.before.if-rec-lt2.false unfit)
+    let unfit = sym found.premises-premises.ensures.1 ∙ given-none _ c.if-not-premises.true in
+    halts-with _ (omega arith) c.halted-then-not-premises.ensures (entry-unfit _ _ _ _ found.if-rec-lt2.false unfit)
 
 halted-requires-3 : tie.Need-halted-requires-then-levels-eq0
 halted-requires-3 c κs = search rules
@@ -58,7 +58,7 @@ halted-requires-3 c κs = search rules
 returns-3 : tie.Need-returns-then-levels-eq0
 returns-3 c =
     let at = c.before.before in
-    let no-level = may_none _ _ _ c.before.if-levels-eq0.true in
+    let no-level = may_none _ _ _ c.if-levels-eq0.true in
     halts-with _ (omega arith) c.halted-then-levels-eq0.ensures (entry_closed _ _ _ _ (two at).if-rec-lt2.false (asked at) no-level)
 
 is-fresh-requires : tie.Need-is_fresh-requires
@@ -71,7 +71,7 @@ returns-4 : tie.Need-returns-then-not-is_fresh
 returns-4 c =
     let tested = c.before.before in
     let at = tested.before.before in
-    let again = may-fresh _ _ _ tested.before.if-levels-eq0.false ∙ failed tested.is_fresh.ensures c.before.if-not-is_fresh.true in
+    let again = may-fresh _ _ _ tested.if-levels-eq0.false ∙ failed tested.is_fresh.ensures c.if-not-is_fresh.true in
     halts-with _ (omega arith) c.halted-then-not-is_fresh.ensures (entry_closed _ _ _ _ (two at).if-rec-lt2.false (asked at) again)
 
 shared-slice-read-t13 : tie.Need-bounds-rec-0-2
@@ -86,8 +86,8 @@ returns-5 c =
     let new = c.before.before.before in
     let tested = new.before in
     let at = tested.before.before in
-    let free = may-fresh _ _ _ tested.before.if-levels-eq0.false ∙ passed tested.is_fresh.ensures new.if-not-is_fresh.false in
-    (at.before.before.premises-premises.ensures.0, entry-asks _ _ _ _ (two at).if-rec-lt2.false (asked at) free)
+    let free = may-fresh _ _ _ tested.if-levels-eq0.false ∙ passed tested.is_fresh.ensures new.if-not-is_fresh.false in
+    (at.premises-premises.ensures.0, entry-asks _ _ _ _ (two at).if-rec-lt2.false (asked at) free)
 
 pub enter_spec : {M : Type 1} → statement M
 enter_spec =

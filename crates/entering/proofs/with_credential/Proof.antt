@@ -13,7 +13,7 @@ with-requires : tie.Need-with-requires
 with-requires c κs = search rules
 
 returns : tie.Need-returns
-returns c = rw (← c.before.wide.ensures.0) c.with.ensures
+returns c = rw (← c.wide.ensures.0) c.with.ensures
 
 pub with_credential_spec : {M : Type 1} → statement M
 with_credential_spec = tie.close (tie.spec wide-requires sub-with with-requires returns)

@@ -45,11 +45,11 @@ loop-less : tie.Need-loop-r-smaller invariant-loop decreases-loop
 loop-less c = search rules
 
 loop-again : tie.Need-loop-r-preserved invariant-loop decreases-loop
-loop-again c = (omega arith, cell-next _ _ _ _ _ _ c.before.before.loop-r.invariant.1 (omega arith))
+loop-again c = (omega arith, cell-next _ _ _ _ _ _ c.loop-r.invariant.1 (omega arith))
 
 returns : tie.Need-returns invariant-loop decreases-loop
 unfolding cells_from
-returns c = λ r l. c.before.loop-r.invariant.1.each r (omega arith)
+returns c = λ r l. c.loop-r.invariant.1.each r (omega arith)
 
 pub blocking_at_spec : {M : Type 1} → statement M
 blocking_at_spec =

@@ -45,11 +45,11 @@ loop-less : tie.Need-loop-j-smaller invariant-loop decreases-loop
 loop-less c = search rules
 
 loop-again : tie.Need-loop-j-preserved invariant-loop decreases-loop
-loop-again c = (omega arith, cell-next _ _ _ _ _ _ c.before.before.loop-j.invariant.1 (omega arith))
+loop-again c = (omega arith, cell-next _ _ _ _ _ _ c.loop-j.invariant.1 (omega arith))
 
 returns : tie.Need-returns invariant-loop decreases-loop
 unfolding cells_from
-returns c = λ j l. c.before.loop-j.invariant.1.each j (omega arith)
+returns c = λ j l. c.loop-j.invariant.1.each j (omega arith)
 
 pub family_at_spec : {M : Type 1} → statement M
 family_at_spec =

@@ -48,10 +48,10 @@ loop-less : tie.Need-loop-r-smaller invariant-loop decreases-loop
 loop-less c = search rules
 
 loop-again : tie.Need-loop-r-preserved invariant-loop decreases-loop
-loop-again c = (omega arith, covered_next _ _ _ _ c.before.before.before.before.loop-r.invariant.1 c.if-blocking-above.false)
+loop-again c = (omega arith, covered_next _ _ _ _ c.loop-r.invariant.1 c.if-blocking-above.false)
 
 returns-2 : tie.Need-returns invariant-loop decreases-loop
-returns-2 c = λ told r l. c.before.loop-r.invariant.1.each r (omega arith)
+returns-2 c = λ told r l. c.loop-r.invariant.1.each r (omega arith)
 
 pub is_covered_spec : {M : Type 1} → statement M
 is_covered_spec =

@@ -42,10 +42,10 @@ loop-less : tie.Need-loop-r-smaller invariant-loop decreases-loop
 loop-less c = search rules
 
 loop-again : tie.Need-loop-r-preserved invariant-loop decreases-loop
-loop-again c = (omega arith, made-next _ _ _ _ _ c.before.before.before.loop-r.invariant.1 (omega arith) refl)
+loop-again c = (omega arith, made-next _ _ _ _ _ c.loop-r.invariant.1 (omega arith) refl)
 
 returns : tie.Need-returns invariant-loop decreases-loop
-returns c = λ r l. c.before.loop-r.invariant.1.each r (omega arith)
+returns c = λ r l. c.loop-r.invariant.1.each r (omega arith)
 
 pub joined_spec : {M : Type 1} → statement M
 joined_spec =

@@ -48,14 +48,14 @@ put-states-requires c κs = search rules
 
 put-blocking-requires : tie.Need-put_blocking-requires
 put-blocking-requires c κs =
-    let pre = c.before.before.before.before.before.before.requires.0 in
-    rw c.before.before.before.put_states.ensures.room (simp length-set pre)
+    let pre = c.requires.0 in
+    rw c.put_states.ensures.room (simp length-set pre)
 
 put-family-requires : tie.Need-put_family-requires
 put-family-requires c κs =
     let blocking = c.before.before.before in
     let states = blocking.before.before.before.before in
-    let pre = states.before.before.before.requires.0 in
+    let pre = states.requires.0 in
     rw (blocking.put_blocking.ensures.room, states.put_states.ensures.room) (simp length-set pre)
 
 same_length : tie.Need-shape_of-memory
@@ -70,7 +70,7 @@ returns c =
     let family = c.before.before in
     let blocking = family.before.before.before.before in
     let states = blocking.before.before.before.before in
-    let pre = states.before.before.before.requires.0 in
+    let pre = states.requires.0 in
     kept _ _ _ _ _ _ _ _ _ _ _ _ (head-written _ _ _ _ _ pre) states.put_states.ensures
     blocking.put_blocking.ensures family.put_family.ensures
 

@@ -38,7 +38,7 @@ mul-memory-2 : tie.Need-offset_bounds-memory-from invariant-loop decreases-loop
 mul-memory-2 c = search rules
 
 slice-write-memory : tie.Need-bounds-memory-from invariant-loop decreases-loop
-slice-write-memory c = omega (arith, c.before.before.loop-r.invariant.1.room)
+slice-write-memory c = omega (arith, c.loop-r.invariant.1.room)
 
 add_r : tie.Need-overflow_add-r invariant-loop decreases-loop
 add_r c = search rules
@@ -47,13 +47,13 @@ loop-less : tie.Need-loop-r-smaller invariant-loop decreases-loop
 loop-less c = search rules
 
 loop-again : tie.Need-loop-r-preserved invariant-loop decreases-loop
-loop-again c = (omega arith, written_next _ _ _ _ _ _ _ c.before.before.loop-r.invariant.1 refl (omega arith) refl)
+loop-again c = (omega arith, written_next _ _ _ _ _ _ _ c.loop-r.invariant.1 refl (omega arith) refl)
 
 same_length : tie.Need-shape_of-memory invariant-loop decreases-loop
-same_length c = c.before.loop-r.invariant.1.room
+same_length c = c.loop-r.invariant.1.room
 
 returns : tie.Need-returns invariant-loop decreases-loop
-returns c = let all : c.before.loop-r.r ≡ most_credentials = omega arith in rw all at c.before.loop-r.invariant.1
+returns c = let all : c.loop-r.r ≡ most_credentials = omega arith in rw all at c.loop-r.invariant.1
 
 pub put_blocking_spec : {M : Type 1} → statement M
 put_blocking_spec =

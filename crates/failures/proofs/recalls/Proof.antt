@@ -63,13 +63,13 @@ is-covered-requires c κs = search rules
 returns-5 : tie.Need-returns
 returns-5 c = λ told.
     recalled _ _ _ _ _ _ _ _ _ _
-    c.before.before.before.before.before.before.before.before.before.before.wide.ensures
-    c.before.before.before.before.before.before.before.before.before.if-wide-levels.false
-    c.before.before.before.before.before.before.before.wide-2.ensures
-    c.before.before.before.before.before.before.if-wide-person.false
-    c.before.before.before.before.wide-3.ensures
-    c.before.before.before.if-wide-place.false
-    (c.before.before.same_states.ensures c.before.if-not-same_states.false)
+    c.wide.ensures
+    c.if-wide-levels.false
+    c.wide-2.ensures
+    c.if-wide-person.false
+    c.wide-3.ensures
+    c.if-wide-place.false
+    (c.same_states.ensures c.if-not-same_states.false)
     (c.is_covered.ensures told)
 
 pub recalls_spec : {M : Type 1} → statement M

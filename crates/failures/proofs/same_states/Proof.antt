@@ -51,10 +51,10 @@ loop-less : tie.Need-loop-j-smaller invariant-loop decreases-loop
 loop-less c = search rules
 
 loop-again : tie.Need-loop-j-preserved invariant-loop decreases-loop
-loop-again c = (omega arith, states-next _ _ _ _ c.before.before.before.before.loop-j.invariant.1 c.if-memory-from.false)
+loop-again c = (omega arith, states-next _ _ _ _ c.loop-j.invariant.1 c.if-memory-from.false)
 
 returns-2 : tie.Need-returns invariant-loop decreases-loop
-returns-2 c = λ told j l. c.before.loop-j.invariant.1.each j (omega arith)
+returns-2 c = λ told j l. c.loop-j.invariant.1.each j (omega arith)
 
 pub same_states_spec : {M : Type 1} → statement M
 same_states_spec =

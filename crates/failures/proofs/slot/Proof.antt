@@ -45,7 +45,7 @@ cast-sum : tie.Need-overflow_cast-sum invariant-loop decreases-loop
 cast-sum c = search rules
 
 add-sum-2 : tie.Need-overflow_add-sum-in-loop-j invariant-loop decreases-loop
-add-sum-2 c = sum_fits _ _ c.before.before.loop-j.invariant.1 (search rules)
+add-sum-2 c = sum_fits _ _ c.loop-j.invariant.1 (search rules)
 
 add-j : tie.Need-overflow_add-j invariant-loop decreases-loop
 add-j c = search rules
@@ -67,8 +67,8 @@ sub-result c = search rules
 
 returns : tie.Need-returns invariant-loop decreases-loop
 returns c =
-    let sum = c.before.loop-j.sum in
-    masked (sum + sum / 128 + sum / 128 / 128) _ c.before.before.requires.1
+    let sum = c.loop-j.sum in
+    masked (sum + sum / 128 + sum / 128 / 128) _ c.requires.1
 
 pub slot_spec : {M : Type 1} → statement M
 slot_spec =

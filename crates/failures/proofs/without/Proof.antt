@@ -17,7 +17,7 @@ has-requires : tie.Need-has-requires
 has-requires c κs = search rules
 
 returns : tie.Need-returns-then-not-has
-returns c = spared-none _ _ _ (failed c.before.has.ensures c.if-not-has.true)
+returns c = spared-none _ _ _ (failed c.has.ensures c.if-not-has.true)
 
 cast-persons : tie.Need-overflow_cast-persons
 cast-persons c = search rules
@@ -33,7 +33,7 @@ array-write-persons c = search rules
 
 returns-2 : tie.Need-returns
 returns-2 c =
-    let there = passed c.before.before.has.ensures c.before.if-not-has.false in
+    let there = passed c.has.ensures c.if-not-has.false in
     spared-one _ _ _ (search rules) (omega arith) there _ (one_bit 32 _ (omega arith))
 
 pub without_spec : {M : Type 1} → statement M

@@ -9,7 +9,7 @@ row-of-requires c κs = search rules
 
 asked-members-requires : tie.Need-asked_members-requires
 asked-members-requires c κs =
-    let pre = c.before.before.before.requires in
+    let pre = c.requires in
     record {
       placed = pre.0;
       room = pre.1.0.0;
@@ -22,8 +22,8 @@ has-requires c κs = search rules
 
 returns : tie.Need-returns
 returns c =
-    let row = c.before.before.row_of.ensures in
-    let set = rw row at c.before.asked_members.ensures in
+    let row = c.row_of.ensures in
+    let set = rw row at c.asked_members.ensures in
     rw set at c.has.ensures
 
 pub are_listed_spec : {M : Type 1} → statement M

@@ -15,10 +15,10 @@ none-requires c κs = search rules
 returns : tie.Need-returns-then-asked_cell-person
 returns c =
     let named = c.before.before in
-    let args = named.before.before.before.before.args in
+    let args = named.args in
     let accepting = accepting_set args.table.now args.states in
     other-named _ _ named.asked_cell.ensures.0 args.terms.constraints args.terms.owed accepting _
-    c.before.if-asked_cell-person.true c.none.ensures
+    c.if-asked_cell-person.true c.none.ensures
 
 accepting-requires : tie.Need-accepting-accepting-requires
 accepting-requires c κs = search rules
@@ -30,22 +30,22 @@ returns-2 : tie.Need-returns-then-terms-accepting
 returns-2 c =
     let asked = c.before.before.before.before in
     let named = asked.before.before in
-    let args = named.before.before.before.before.args in
+    let args = named.args in
     let accepting = accepting_set args.table.now args.states in
     word-rejected _ _ named.asked_cell.ensures.0 args.terms.constraints args.terms.owed accepting _
-    asked.before.if-asked_cell-person.false asked.accepting-accepting.ensures c.before.if-terms-accepting.true c.none-then-terms-accepting.ensures
+    asked.if-asked_cell-person.false asked.accepting-accepting.ensures c.if-terms-accepting.true c.none-then-terms-accepting.ensures
 
 only-requires : tie.Need-only-requires
-only-requires c κs = and-few _ _ c.before.before.before.before.before.before.before.before.before.before.requires.1.1.1.1
+only-requires c κs = and-few _ _ c.requires.1.1.1.1
 
 returns-3 : tie.Need-returns
 returns-3 c =
     let asked = c.before.before.before.before.before in
     let named = asked.before.before in
-    let args = named.before.before.before.before.args in
+    let args = named.args in
     let accepting = accepting_set args.table.now args.states in
     word-ends _ _ named.asked_cell.ensures.0 args.terms.constraints args.terms.owed accepting _
-    asked.before.if-asked_cell-person.false asked.accepting-accepting.ensures c.before.before.if-terms-accepting.false c.only.ensures
+    asked.if-asked_cell-person.false asked.accepting-accepting.ensures c.if-terms-accepting.false c.only.ensures
 
 pub ends_word_spec : {M : Type 1} → statement M
 ends_word_spec =

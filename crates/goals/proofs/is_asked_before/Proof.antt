@@ -33,8 +33,8 @@ asked-cell-requires-2 c κs = search rules
 returns : tie.Need-returns-then-asked_cell-place invariant-loop decreases-loop
 returns c =
     let loop = c.before.before in
-    let place = loop.before.before.asked_cell-place.ensures.0 in
-    asked_here _ _ _ _ loop.loop-j-test.true (sym c.before.asked_cell.ensures.0 ∙ c.if-asked_cell-place.true ∙ place)
+    let place = loop.asked_cell-place.ensures.0 in
+    asked_here _ _ _ _ loop.loop-j-test.true (sym c.asked_cell.ensures.0 ∙ c.if-asked_cell-place.true ∙ place)
 
 add-j : tie.Need-overflow_add-j invariant-loop decreases-loop
 add-j c = search rules
@@ -46,14 +46,14 @@ loop-again : tie.Need-loop-j-preserved invariant-loop decreases-loop
 loop-again c =
     let loop = c.before.before.before in
     let asked = loop.before in
-    let args = asked.before.before.args in (
+    let args = asked.args in (
       omega arith,
-      asked-next args.index.now args.i args.k _ loop.loop-j.invariant.1 c.before.asked_cell.ensures.0
+      asked-next args.index.now args.i args.k _ loop.loop-j.invariant.1 c.asked_cell.ensures.0
           asked.asked_cell-place.ensures.0 c.if-asked_cell-place.false,
     )
 
 returns-2 : tie.Need-returns invariant-loop decreases-loop
-returns-2 c = asked-nowhere _ _ _ _ (omega arith) c.before.loop-j.invariant.1
+returns-2 c = asked-nowhere _ _ _ _ (omega arith) c.loop-j.invariant.1
 
 pub is_asked_before_spec : {M : Type 1} → statement M
 is_asked_before_spec =

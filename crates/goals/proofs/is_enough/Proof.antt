@@ -9,13 +9,13 @@ has-requires : tie.Need-has-requires
 has-requires c κs = search rules
 
 returns : tie.Need-returns-then-has
-returns c = sym (or-first _ (sym c.before.has.ensures ∙ c.if-has.true))
+returns c = sym (or-first _ (sym c.has.ensures ∙ c.if-has.true))
 
 is-part-requires : tie.Need-is_part-requires
 is-part-requires c κs = search rules
 
 returns-2 : tie.Need-returns
-returns-2 c = c.is_part.ensures ∙ or_off (sym c.before.before.has.ensures ∙ c.before.if-has.false)
+returns-2 c = c.is_part.ensures ∙ or_off (sym c.has.ensures ∙ c.if-has.false)
 
 pub is_enough_spec : {M : Type 1} → statement M
 is_enough_spec = tie.close (tie.spec has-requires returns is-part-requires returns-2)

@@ -8,7 +8,7 @@ is-listed-requires : tie.Need-is_listed-requires
 is-listed-requires c κs = search rules
 
 returns : tie.Need-returns-then-not-is_listed
-returns c = and-missed c.before.is_listed.ensures _ c.if-not-is_listed.true
+returns c = and-missed c.is_listed.ensures _ c.if-not-is_listed.true
 
 is-listed-requires-2 : tie.Need-is_listed-requires-2
 is-listed-requires-2 c κs = search rules
@@ -16,7 +16,7 @@ is-listed-requires-2 c κs = search rules
 returns-2 : tie.Need-returns-then-not-is_listed-2
 returns-2 c =
     let at = c.before.before in
-    and-missed-second at.before.is_listed.ensures at.if-not-is_listed.false c.before.is_listed-2.ensures _ c.if-not-is_listed-2.true
+    and-missed-second at.is_listed.ensures at.if-not-is_listed.false c.is_listed-2.ensures _ c.if-not-is_listed-2.true
 
 is-person-requires : tie.Need-is_person-requires
 is-person-requires c κs = search rules
@@ -25,7 +25,7 @@ returns-3 : tie.Need-returns
 returns-3 c =
     let second = c.before.before in
     let at = second.before in
-    and-third at.before.is_listed.ensures at.if-not-is_listed.false second.is_listed-2.ensures c.before.if-not-is_listed-2.false
+    and-third at.is_listed.ensures at.if-not-is_listed.false second.is_listed-2.ensures c.if-not-is_listed-2.false
     c.is_person.ensures
 
 pub is_middle_spec : {M : Type 1} → statement M

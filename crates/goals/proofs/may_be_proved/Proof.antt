@@ -22,27 +22,27 @@ credentials-requires c κs = search rules
 returns-2 : tie.Need-returns-then-credentials-place
 unfolding may_be_proved
 returns-2 c =
-    let args = c.before.before.before.before.before.args in
-    let beyond : credentials args.table.now ≤ args.place = omega (arith, c.if-credentials-place.true, c.before.credentials.ensures.same) in
-    sym (and_is (ap not (ne_eqb _ 0 c.before.before.if-levels-eq0.false)) (and-is-off _ (le-ltb _ _ beyond)))
+    let args = c.args in
+    let beyond : credentials args.table.now ≤ args.place = omega (arith, c.if-credentials-place.true, c.credentials.ensures.same) in
+    sym (and_is (ap not (ne_eqb _ 0 c.if-levels-eq0.false)) (and-is-off _ (le-ltb _ _ beyond)))
 
 row-of-requires : tie.Need-row_of-requires
 row-of-requires c κs = search rules
 
 is-listed-requires : tie.Need-is_listed-requires
 is-listed-requires c κs =
-    let pre = c.before.before.before.before.before.before.requires in
+    let pre = c.requires in
     ((pre.1.0.0, row_within _ _ _ c.row_of.ensures pre.1.0.1), pre.1.1)
 
 returns-3 : tie.Need-returns
 unfolding may_be_proved
 returns-3 c =
-    let args = c.before.before.before.before.before.before.before.args in
+    let args = c.args in
     let there : args.place < credentials args.table.now =
-    omega (arith, c.before.before.if-credentials-place.false, c.before.before.before.credentials.ensures.same) in
-    let row = c.before.row_of.ensures in
+    omega (arith, c.if-credentials-place.false, c.credentials.ensures.same) in
+    let row = c.row_of.ensures in
     rw row at c.is_listed.ensures
-    ∙ sym (and_is (ap not (ne_eqb _ 0 c.before.before.before.before.if-levels-eq0.false)) (and_is (lt-ltb _ _ there) refl))
+    ∙ sym (and_is (ap not (ne_eqb _ 0 c.if-levels-eq0.false)) (and_is (lt-ltb _ _ there) refl))
 
 pub may_be_proved_spec : {M : Type 1} → statement M
 may_be_proved_spec =

@@ -10,14 +10,14 @@ has-requires : tie.Need-has-requires
 has-requires c κs = search rules
 
 returns : tie.Need-returns-then-not-has
-returns c = unallowed _ _ _ _ (failed c.before.has.ensures c.if-not-has.true)
+returns c = unallowed _ _ _ _ (failed c.has.ensures c.if-not-has.true)
 
 role-cell-requires : tie.Need-role_cell-requires
 role-cell-requires c κs = search rules
 
 returns-2 : tie.Need-returns
 returns-2 c =
-    allowed-defines _ _ _ _ (passed c.before.before.has.ensures c.before.if-not-has.false) _ c.role_cell.ensures.0
+    allowed-defines _ _ _ _ (passed c.has.ensures c.if-not-has.false) _ c.role_cell.ensures.0
 
 pub may_use_spec : {M : Type 1} → statement M
 may_use_spec = tie.close (tie.spec has-requires returns role-cell-requires returns-2)

@@ -11,7 +11,7 @@ moved-requires : tie.Need-moved-requires
 moved-requires c κs = search rules
 
 returns-2 : tie.Need-returns
-returns-2 c = moves _ _ _ _ _ c.before.if-asked-eq0.false c.moved.ensures
+returns-2 c = moves _ _ _ _ _ c.if-asked-eq0.false c.moved.ensures
 
 pub stepped_spec : {M : Type 1} → statement M
 stepped_spec = tie.close (tie.spec returns moved-requires returns-2)

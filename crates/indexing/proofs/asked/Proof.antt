@@ -7,11 +7,11 @@ use Rattle.indexing.proofs.asked.Tie as tie
 
 parts-requires : tie.Need-parts-requires
 parts-requires c κs =
-    let pre = c.before.before.requires in
+    let pre = c.requires in
     (pre.0, (pre.1.first c.if-kind-eq-INTERSECTION_CONTAINMENT.true, pre.1.chained c.if-kind-eq-INTERSECTION_CONTAINMENT.true))
 
 returns : tie.Need-returns-then-kind-eq-INTERSECTION_CONTAINMENT
-returns c = asked-parts _ _ _ c.before.if-kind-eq-INTERSECTION_CONTAINMENT.true c.parts.ensures
+returns c = asked-parts _ _ _ c.if-kind-eq-INTERSECTION_CONTAINMENT.true c.parts.ensures
 
 one-asked-requires : tie.Need-one_asked-place-requires
 one-asked-requires c κs = search rules

@@ -37,14 +37,14 @@ role-at-requires c κs = search rules
 
 asked-requires : tie.Need-asked-requires invariant-loop decreases-loop
 asked-requires c κs =
-    let pre = c.before.before.before.before.before.before.before.requires in
-    (pre, whole _ pre _ (record { first = omega arith; last = omega arith }) _ c.before.before.credential-credential.ensures)
+    let pre = c.requires in
+    (pre, whole _ pre _ (record { first = omega arith; last = omega arith }) _ c.credential-credential.ensures)
 
 put-requires : tie.Need-put-requires invariant-loop decreases-loop
 put-requires c κs =
     let asks = c.asked.ensures in (
-      record { cells = c.before.before.before.before.before.loop-i.invariant.1.room; there = omega arith },
-      record { defined = c.before.role_at.ensures.few; room = asks.room; each = asks.few },
+      record { cells = c.loop-i.invariant.1.room; there = omega arith },
+      record { defined = c.role_at.ensures.few; room = asks.room; each = asks.few },
     )
 
 slice-aggregate-links : tie.Need-slice_bounds-links-end invariant-loop decreases-loop
@@ -55,10 +55,10 @@ links-requires c κs =
     let put = c.before.before.before.before in
     let turn = put.before.before.before.before.before in
     let head = turn.before.before in
-    let room = put.put.ensures.written.room ∙ turn.before.loop-i.invariant.1.room in
+    let room = put.put.ensures.written.room ∙ turn.loop-i.invariant.1.room in
     let inside = turn.loop-i-test.true in
     let few = head.credentials-n.ensures.few in
-    (head.before.before.requires, record { cells = room; there = omega (arith, inside, few) })
+    (head.requires, record { cells = room; there = omega (arith, inside, few) })
 
 add-i : tie.Need-overflow_add-i-in-loop-i invariant-loop decreases-loop
 add-i c = search rules
@@ -71,13 +71,13 @@ loop-again c =
     let put = c.before.before.before in
     let found = put.before.before in
     let turn = found.before.before.before.before in
-    let few = turn.before.before.before.requires.sized.counted.few_credentials in
-    let read = found.before.before.credential-credential.ensures in (
+    let few = turn.requires.sized.counted.few_credentials in
+    let read = found.credential-credential.ensures in (
       omega arith,
       filled_next _ few _ (omega arith) _ read _ _ _ _ _ put.put.ensures
           (⊎_elim (λ w. rw w.index-is (links-written _ _ _ _ _ w.links.ensures)) (λ w. rw w.index-is (links-none _ _ _ _ w.if-credential-eq-LINKING_CONTAINMENT.false))
           c.if-credential-eq-LINKING_CONTAINMENT.branch-raw)
-          found.role_at.ensures put.before.asked.ensures turn.loop-i.invariant.1,
+          found.role_at.ensures put.asked.ensures turn.loop-i.invariant.1,
     )
 
 role-at-requires-2 : tie.Need-role_at-requires-2 invariant-loop decreases-loop
@@ -95,11 +95,11 @@ array-write-index-2 c = search rules
 returns : tie.Need-returns invariant-loop decreases-loop
 returns c =
     let start = c.before.before.before.before.before.before.before.before in
-    let loop = c.before.before.before.before.before.loop-i in
+    let loop = c.loop-i in
     let all : loop.i ≡ credentials start.args.table.now = omega arith in
     let filled = rw all at loop.invariant.1 in
     let few = start.requires.sized.counted.few_credentials in
-    index-made _ _ few filled _ _ _ c.before.role_at-2.ensures c.person_at.ensures
+    index-made _ _ few filled _ _ _ c.role_at-2.ensures c.person_at.ensures
 
 pub index_spec : {M : Type 1} → statement M
 index_spec =

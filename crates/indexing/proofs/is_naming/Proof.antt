@@ -7,7 +7,7 @@ returns : tie.Need-returns-then-c-ne-SIMPLE_MEMBERSHIP
 returns c = names-not _ _ c.if-c-ne-SIMPLE_MEMBERSHIP.true
 
 returns-2 : tie.Need-returns
-returns-2 c = names-by _ _ c.before.if-c-ne-SIMPLE_MEMBERSHIP.false
+returns-2 c = names-by _ _ c.if-c-ne-SIMPLE_MEMBERSHIP.false
 
 pub is_naming_spec : {M : Type 1} → statement M
 is_naming_spec = tie.close (tie.spec returns returns-2)

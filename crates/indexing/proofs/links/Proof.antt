@@ -51,9 +51,9 @@ loop-less c = search rules
 
 loop-again : tie.Need-loop-j-preserved invariant-loop decreases-loop
 loop-again c =
-    let so_far = c.before.before.before.before.loop-j.invariant.1 in
-    let read = c.before.before.credential-credential.ensures in
-    let room = c.before.before.before.before.before.before.before.before.requires.1 in (
+    let so_far = c.loop-j.invariant.1 in
+    let read = c.credential-credential.ensures in
+    let room = c.requires.1 in (
       omega arith,
       ⊎_elim (λ w. rw w.index-is (linked-next _ _ _ _ _ _ so_far _ read room (omega arith) _ w.role_at.ensures))
           (λ w. rw w.index-is (linked-other _ _ _ _ _ _ so_far _ read w.if-credential-eq-SIMPLE_MEMBERSHIP.false)) c.if-credential-eq-SIMPLE_MEMBERSHIP.branch-raw,
@@ -64,8 +64,8 @@ same_length c = search rules
 
 returns : tie.Need-returns invariant-loop decreases-loop
 returns c =
-    let all : c.before.loop-j.j ≡ credentials c.before.before.before.before.before.args.table.now = omega arith in
-    rw all at c.before.loop-j.invariant.1
+    let all : c.loop-j.j ≡ credentials c.args.table.now = omega arith in
+    rw all at c.loop-j.invariant.1
 
 pub links_spec : {M : Type 1} → statement M
 links_spec =

@@ -9,21 +9,21 @@ person-at-requires : tie.Need-person_at-requires
 person-at-requires c κs = search rules
 
 returns : tie.Need-returns-then-kind-eq-SIMPLE_MEMBERSHIP
-returns c = one-membership _ _ _ c.before.if-kind-eq-SIMPLE_MEMBERSHIP.true c.person_at.ensures
+returns c = one-membership _ _ _ c.if-kind-eq-SIMPLE_MEMBERSHIP.true c.person_at.ensures
 
 role-at-requires : tie.Need-role_at-requires
 role-at-requires c κs = search rules
 
 returns-2 : tie.Need-returns-then-kind-eq-LINKING_CONTAINMENT
-returns-2 c = one-linking _ _ _ c.before.before.if-kind-eq-LINKING_CONTAINMENT.true c.role_at.ensures
+returns-2 c = one-linking _ _ _ c.if-kind-eq-LINKING_CONTAINMENT.true c.role_at.ensures
 
 role-at-requires-2 : tie.Need-role_at-requires-2
 role-at-requires-2 c κs = search rules
 
 returns-3 : tie.Need-returns
 returns-3 c =
-    let pre = c.before.before.before.before.requires in
-    one-containment _ _ _ pre.1.0 pre.1.1 c.before.before.if-kind-eq-SIMPLE_MEMBERSHIP.false c.before.if-kind-eq-LINKING_CONTAINMENT.false c.role_at-2.ensures
+    let pre = c.requires in
+    one-containment _ _ _ pre.1.0 pre.1.1 c.if-kind-eq-SIMPLE_MEMBERSHIP.false c.if-kind-eq-LINKING_CONTAINMENT.false c.role_at-2.ensures
 
 pub one_asked_spec : {M : Type 1} → statement M
 one_asked_spec =

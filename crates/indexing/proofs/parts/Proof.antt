@@ -21,16 +21,16 @@ chain-requires : tie.Need-chain-chain-requires invariant-loop decreases-loop
 chain-requires c κs = search rules
 
 sub-last : tie.Need-overflow_sub-last invariant-loop decreases-loop
-sub-last c = omega (arith, held-some _ _ _ c.chain-chain.ensures c.before.before.requires.1.1)
+sub-last c = omega (arith, held-some _ _ _ c.chain-chain.ensures c.requires.1.1)
 
 loop-holds : tie.Need-loop-k-init invariant-loop decreases-loop
 loop-holds c = (omega arith, parts_none _ _ _ refl)
 
 mul-role-at : tie.Need-offset_bounds-chain-at invariant-loop decreases-loop
-mul-role-at c = ⊎_elim (λ w. omega arith) (λ w. omega arith) c.before.if-k-last.branch-raw
+mul-role-at c = ⊎_elim (λ w. omega arith) (λ w. omega arith) c.if-k-last.branch-raw
 
 element-copy-out-role-at : tie.Need-bounds-chain-at invariant-loop decreases-loop
-element-copy-out-role-at c = ⊎_elim (λ w. omega arith) (λ w. omega arith) c.before.if-k-last.branch-raw
+element-copy-out-role-at c = ⊎_elim (λ w. omega arith) (λ w. omega arith) c.if-k-last.branch-raw
 
 role-at-requires : tie.Need-role_at-requires invariant-loop decreases-loop
 role-at-requires c κs = search rules
@@ -46,20 +46,20 @@ loop-less c = search rules
 
 loop-again : tie.Need-loop-k-preserved invariant-loop decreases-loop
 loop-again c =
-    let chain = c.before.before.before.before.before.before.chain-chain.ensures in
-    let some = held-some _ _ _ chain c.before.before.before.before.before.before.before.before.requires.1.1 in
-    let so_far = c.before.before.before.before.before.loop-k.invariant.1 in (
+    let chain = c.chain-chain.ensures in
+    let some = held-some _ _ _ chain c.requires.1.1 in
+    let so_far = c.loop-k.invariant.1 in (
       omega arith,
       parts_next _ _ _ _ _ _ so_far (omega arith)
           (⊎_elim (λ w. part-own _ _ _ chain _ _ _ w.if-k-last.true w.at-is)
-          (λ w. part-last _ _ _ chain _ _ _ some w.if-k-last.false w.at-is) c.before.before.before.if-k-last.branch-raw)
+          (λ w. part-last _ _ _ chain _ _ _ some w.if-k-last.false w.at-is) c.if-k-last.branch-raw)
           c.role_at.ensures,
     )
 
 returns : tie.Need-returns invariant-loop decreases-loop
 returns c =
-    let all : c.before.loop-k.k ≡ most_parts = omega arith in
-    rw all at c.before.loop-k.invariant.1
+    let all : c.loop-k.k ≡ most_parts = omega arith in
+    rw all at c.loop-k.invariant.1
 
 pub parts_spec : {M : Type 1} → statement M
 parts_spec =

@@ -41,19 +41,19 @@ loop-less c = search rules
 
 loop-again : tie.Need-loop-k-preserved invariant-loop decreases-loop
 loop-again c =
-    let pre = c.before.before.requires in
-    (omega arith, copied_next _ _ _ _ pre.0 pre.1 _ _ (omega arith) c.before.loop-k.invariant.1)
+    let pre = c.requires in
+    (omega arith, copied_next _ _ _ _ pre.0 pre.1 _ _ (omega arith) c.loop-k.invariant.1)
 
 slice-write-index-2 : tie.Need-bounds-index-at-2 invariant-loop decreases-loop
 slice-write-index-2 c = search rules
 
 same_length : tie.Need-shape_of-index invariant-loop decreases-loop
-same_length c = simp length-set c.before.loop-k.invariant.1.written.room
+same_length c = simp length-set c.loop-k.invariant.1.written.room
 
 returns : tie.Need-returns invariant-loop decreases-loop
 returns c =
-    let all : c.before.loop-k.k ≡ most_parts = omega arith in
-    copied-put _ _ _ _ c.before.before.requires.0 c.before.before.requires.1 _ (rw all at c.before.loop-k.invariant.1)
+    let all : c.loop-k.k ≡ most_parts = omega arith in
+    copied-put _ _ _ _ c.requires.0 c.requires.1 _ (rw all at c.loop-k.invariant.1)
 
 pub put_spec : {M : Type 1} → statement M
 put_spec =

@@ -40,8 +40,8 @@ cast-result c = search rules
 returns : tie.Need-returns-then-same invariant-loop decreases-loop
 unfolding role_at
 returns c =
-    place_found _ _ _ (omega arith) c.before.before.before.before.loop-i.invariant.1 (omega arith)
-    (told-role _ _ _ c.before.before.credential-credential.ensures _ c.before.same.ensures ∙ c.if-same.true)
+    place_found _ _ _ (omega arith) c.loop-i.invariant.1 (omega arith)
+    (told-role _ _ _ c.credential-credential.ensures _ c.same.ensures ∙ c.if-same.true)
 
 add-i : tie.Need-overflow_add-i-in-loop-i invariant-loop decreases-loop
 add-i c = search rules
@@ -51,15 +51,15 @@ loop-less c = search rules
 
 loop-again : tie.Need-loop-i-preserved invariant-loop decreases-loop
 loop-again c =
-    let passed = told-role _ _ _ c.before.before.credential-credential.ensures _ c.before.same.ensures ∙ c.if-same.false in
-    (omega arith, any_next _ _ c.before.before.before.before.loop-i.invariant.1 passed)
+    let passed = told-role _ _ _ c.credential-credential.ensures _ c.same.ensures ∙ c.if-same.false in
+    (omega arith, any_next _ _ c.loop-i.invariant.1 passed)
 
 cast-result-2 : tie.Need-overflow_cast-result-2 invariant-loop decreases-loop
 cast-result-2 c = search rules
 
 returns-2 : tie.Need-returns invariant-loop decreases-loop
 unfolding role_at
-returns-2 c = place-behind _ _ _ (omega arith) c.before.loop-i.invariant.1 (omega arith) _ (omega arith)
+returns-2 c = place-behind _ _ _ (omega arith) c.loop-i.invariant.1 (omega arith) _ (omega arith)
 
 pub role_at_spec : {M : Type 1} → statement M
 role_at_spec =

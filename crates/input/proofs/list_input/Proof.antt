@@ -49,7 +49,7 @@ few : (c : Read) → length (counting c) / 2 ≤ 2048
 few c = read-few (bytes c) _ c.counted-read.ensures
 
 is-whole : (c : WholeRead) → is_whole (counting (read c)) ≡ true
-is-whole c = whole _ c.before.if-read-half.false c.if-half-lt-QUERY_SIZE.false
+is-whole c = whole _ c.if-read-half.false c.if-half-lt-QUERY_SIZE.false
 
 whole_length : (c : NumbersDecoded) → length (decoding c) / 2 ≡ length (take (length (decoding c) / 2) (places c))
 whole_length c = let at = read (whole-read c) in read_length (bytes at) _ at.counted-read.ensures (places c) c.decode.auto.1.0
@@ -66,7 +66,7 @@ returns c = let at = c.before in answers-unwhole (bytes at) _ at.counted-read.en
 returns-2 : tie.Need-returns-then-half-lt-QUERY_SIZE
 returns-2 c =
     let at = c.before.before in
-    answers-unwhole (bytes at) _ at.counted-read.ensures _ (short-unwhole _ c.before.if-read-half.false c.if-half-lt-QUERY_SIZE.true)
+    answers-unwhole (bytes at) _ at.counted-read.ensures _ (short-unwhole _ c.if-read-half.false c.if-half-lt-QUERY_SIZE.true)
 
 slice-aggregate-decode : tie.Need-slice_bounds-decode-end
 slice-aggregate-decode c = search rules
@@ -93,7 +93,7 @@ returns-3 c =
     let at = c.before.before.before.before.before.before in
     let from = read (whole-read at) in
     answers-whole (bytes from) _ from.counted-read.ensures _ _ _ _ (is-whole (whole-read at))
-    (decoded-first _ _ _ at.decode.ensures) c.before.before.list_numbers.ensures
+    (decoded-first _ _ _ at.decode.ensures) c.list_numbers.ensures
 
 pub list_input_spec : {M : Type 1} → statement M
 list_input_spec =

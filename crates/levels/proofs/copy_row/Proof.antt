@@ -54,7 +54,7 @@ loop-less c = search rules
 
 loop-again : tie.Need-loop-r-preserved invariant-loop decreases-loop
 loop-again c =
-    let loop = c.before.before.loop-r in
+    let loop = c.loop-r in
     (omega arith, copied_more _ loop.r _ _ (omega arith) (omega arith) loop.invariant.1)
 
 same_length : tie.Need-shape_of-rows invariant-loop decreases-loop
@@ -62,8 +62,8 @@ same_length c = search rules
 
 returns : tie.Need-returns invariant-loop decreases-loop
 returns c =
-    let all : c.before.loop-r.r ≡ row_cells = omega arith in
-    rw all at c.before.loop-r.invariant.1
+    let all : c.loop-r.r ≡ row_cells = omega arith in
+    rw all at c.loop-r.invariant.1
 
 pub copy_row_spec : {M : Type 1} → statement M
 copy_row_spec =

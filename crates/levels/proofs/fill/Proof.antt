@@ -22,7 +22,7 @@ first-level-requires c κs = search rules
 loop-holds : tie.Need-loop-level-init invariant-loop decreases-loop
 loop-holds c =
     let start = c.before.before.before.before.before.before.before in
-    (omega arith, reached-first _ _ start.requires.0 start.requires.1.0 _ _ _ c.before.before.first_level-others.ensures)
+    (omega arith, reached-first _ _ start.requires.0 start.requires.1.0 _ _ _ c.first_level-others.ensures)
 
 copy-row-requires : tie.Need-copy_row-requires invariant-loop decreases-loop
 copy-row-requires c κs = search rules
@@ -40,9 +40,9 @@ returns : tie.Need-returns-then-not-next_level invariant-loop decreases-loop
 returns c =
     let at = c.before.before.before.before.before.before.before.before.before.before in
     let few : at.loop-level.level < most_depth = omega arith in
-    let pre = at.before.before.before.before.before.before.before.before.requires in
-    let copy = c.before.before.before.before.before.before.before.copy_row in
-    let next = c.before.before.before.next_level.ensures in
+    let pre = at.requires in
+    let copy = c.copy_row in
+    let next = c.next_level.ensures in
     reached-last _ _ pre.0 pre.1.0 _ _ _ _ _ _ _ few at.loop-level.invariant.1 copy.ensures next _ c.if-not-next_level.true
 
 add-level : tie.Need-overflow_add-level invariant-loop decreases-loop
@@ -55,9 +55,9 @@ loop-again : tie.Need-loop-level-preserved invariant-loop decreases-loop
 loop-again c =
     let at = c.before.before.before.before.before.before.before.before.before.before in
     let few : at.loop-level.level < most_depth = omega arith in
-    let pre = at.before.before.before.before.before.before.before.before.requires in
-    let copy = c.before.before.before.before.before.before.before.copy_row in
-    let next = c.before.before.before.next_level.ensures in
+    let pre = at.requires in
+    let copy = c.copy_row in
+    let next = c.next_level.ensures in
     (omega arith, reached-next _ _ pre.0 pre.1.0 _ _ _ _ _ _ _ few at.loop-level.invariant.1 copy.ensures next)
 
 same-length-2 : tie.Need-shape_of-rows invariant-loop decreases-loop
@@ -66,7 +66,7 @@ same-length-2 c = search rules
 returns-2 : tie.Need-returns invariant-loop decreases-loop
 returns-2 c =
     let start = c.before.before.before.before.before.before.before.before.before in
-    let loop = c.before.loop-level in
+    let loop = c.loop-level in
     reached-all _ _ start.requires.0 start.requires.1.0 _ _ _ _ _ (omega arith) (omega arith) loop.invariant.1
 
 pub fill_spec : {M : Type 1} → statement M

@@ -68,15 +68,15 @@ loop-less c = search rules
 
 loop-again : tie.Need-loop-i-preserved invariant-loop decreases-loop
 loop-again c =
-    let so_far = c.before.before.before.loop-i.invariant.1 in
-    let told = sym c.before.has.ensures in (
+    let so_far = c.loop-i.invariant.1 in
+    let told = sym c.has.ensures in (
       omega arith,
       three_ways
           (λ w. first-is _ _ _ _ _ _ _ _ w.8 w.9
-          (first-named _ _ _ _ _ _ so_far _ w.1.ensures (told ∙ w.0.taken) w.3.taken _ _ w.4.ensures.0
+          (first-named _ _ _ _ _ _ so_far _ w.1.ensures (told ∙ w.0.true) w.3.true _ _ w.4.ensures.0
           w.4.ensures.1 w.6.ensures.0 _ w.7.ensures))
           (λ w. first-is _ _ _ _ _ _ _ _ w.5 (w.6 ∙ w.4.ensures)
-          (first-other _ _ _ _ _ _ so_far _ w.1.ensures (told ∙ w.0.taken) w.3.left))
+          (first-other _ _ _ _ _ _ so_far _ w.1.ensures (told ∙ w.0.true) w.3.false))
           (λ w. first-is _ _ _ _ _ _ _ _ w.rows-is w.others-is (first-outside _ _ _ _ _ _ so_far (told ∙ w.if-has.false))) c.if-has.branch-raw,
     )
 
@@ -86,7 +86,7 @@ same_length c = search rules
 returns : tie.Need-returns invariant-loop decreases-loop
 returns c =
     let start = c.before.before.before.before.before.before in
-    let loop = c.before.loop-i in
+    let loop = c.loop-i in
     let all : loop.i ≡ credentials start.args.table.now = omega arith in
     rw all at loop.invariant.1
 

@@ -20,7 +20,7 @@ credentials-requires : tie.Need-credentials-n-requires invariant-loop decreases-
 credentials-requires c κs = search rules
 
 loop-holds : tie.Need-loop-i-init invariant-loop decreases-loop
-loop-holds c = (omega arith, grown-starts _ _ _ _ _ c.before.before.before.before.requires.1.1.0)
+loop-holds c = (omega arith, grown-starts _ _ _ _ _ c.requires.1.1.0)
 
 has-requires : tie.Need-has-requires invariant-loop decreases-loop
 has-requires c κs = search rules
@@ -46,7 +46,7 @@ slice-read-more c = search rules
 proved-by-requires : tie.Need-proved_by-requires invariant-loop decreases-loop
 proved-by-requires c κs =
     let at = c.before.before.before.before.before.before in
-    let pre = at.before.before.before.before.before.requires in
+    let pre = at.requires in
     let room = at.loop-i.invariant.1.room in (
       pre.0,
       (record { placed = pre.1.0.placed; room = room; last = omega arith; there = omega arith }, omega arith),
@@ -72,16 +72,16 @@ loop-less c = search rules
 
 loop-again : tie.Need-loop-i-preserved invariant-loop decreases-loop
 loop-again c =
-    let made = c.before.before.before.before.before.before.before.before.requires.1.0 in
-    let so_far = c.before.before.before.loop-i.invariant.1 in
-    let told = sym c.before.has.ensures in (
+    let made = c.requires.1.0 in
+    let so_far = c.loop-i.invariant.1 in
+    let told = sym c.has.ensures in (
       omega arith,
       three_ways
           (λ w. grown-is _ _ _ _ _ _ _ _ _ _ w.7 w.8
-          (grown-more _ _ _ _ _ _ _ _ so_far (told ∙ w.0.taken) made (omega arith) _ w.1.ensures.0 _ w.4.ensures))
+          (grown-more _ _ _ _ _ _ _ _ so_far (told ∙ w.0.true) made (omega arith) _ w.1.ensures.0 _ w.4.ensures))
           (λ w. grown-is _ _ _ _ _ _ _ _ _ _ w.7 w.8
-          (grown-same _ _ _ _ _ _ _ _ so_far (told ∙ w.0.taken) made (omega arith) _ w.1.ensures.0 _ w.4.ensures
-          w.6.left))
+          (grown-same _ _ _ _ _ _ _ _ so_far (told ∙ w.0.true) made (omega arith) _ w.1.ensures.0 _ w.4.ensures
+          w.6.false))
           (λ w. grown-is _ _ _ _ _ _ _ _ _ _ w.rows-is w.is_new-is (grown-outside _ _ _ _ _ _ _ _ so_far (told ∙ w.if-has.false)))
           c.if-has.branch-raw,
     )
@@ -92,7 +92,7 @@ same_length c = search rules
 returns : tie.Need-returns invariant-loop decreases-loop
 returns c =
     let start = c.before.before.before.before.before.before in
-    let loop = c.before.loop-i in
+    let loop = c.loop-i in
     let all : loop.i ≡ credentials start.args.table.now = omega arith in
     rw all at loop.invariant.1
 

@@ -30,17 +30,17 @@ put-number-claims t = (put-digit-reads.Asked, put-digit-reads.Learnt, put-number
 
 put-number-put-digit-requires : (t : ℕ)
     → put-number-lts.Need-put_digit-requires (put-number-claims t) (put-number-at t) put-number.Post
-put-number-put-digit-requires t c κs = omega (arith, c.before.before.before.requires, length-one _ c.before.if-number-lt10.true)
+put-number-put-digit-requires t c κs = omega (arith, c.requires, length-one _ c.if-number-lt10.true)
 
 put-number-same-length : (t : ℕ) → put-number-lts.Need-shape_of-out-then-number-lt10 (put-number-claims t) (put-number-at t) put-number.Post
-put-number-same-length t c = c.before.before.put_digit.auto.0
+put-number-same-length t c = c.put_digit.auto.0
 
 put-number-returns : (t : ℕ) → put-number-lts.Need-returns-then-number-lt10 (put-number-claims t) (put-number-at t) put-number.Post
-put-number-returns t c = put-single _ c.before.before.before.before.if-number-lt10.true c.before.before.put_digit.ensures
+put-number-returns t c = put-single _ c.if-number-lt10.true c.put_digit.ensures
 
 put-number-put-number-requires : (t : ℕ)
     → put-number-lts.Need-put_number-last-requires (put-number-claims t) (put-number-at t) put-number.Post
-put-number-put-number-requires t c κs = omega (arith, c.before.before.before.requires, length_more _ c.before.if-number-lt10.false)
+put-number-put-number-requires t c κs = omega (arith, c.requires, length_more _ c.if-number-lt10.false)
 
 put-number-put-digit-requires-2 : (t : ℕ)
     → put-number-lts.Need-put_digit-requires-2 (put-number-claims t) (put-number-at t) put-number.Post

@@ -36,17 +36,17 @@ loop-less c = omega arith
 
 loop-again : tie.Need-loop-i-preserved invariant-loop decreases-loop
 loop-again c =
-    let inv = c.before.before.loop-i.invariant in
-    (omega arith, inv.1, simp length-set inv.2, put_next _ _ inv.3 c.before.loop-i-test.true (omega arith))
+    let inv = c.loop-i.invariant in
+    (omega arith, inv.1, simp length-set inv.2, put_next _ _ inv.3 c.loop-i-test.true (omega arith))
 
 add-result : tie.Need-overflow_add-result invariant-loop decreases-loop
 add-result c = omega arith
 
 same_length : tie.Need-shape_of-out invariant-loop decreases-loop
-same_length c = c.before.loop-i.invariant.2
+same_length c = c.loop-i.invariant.2
 
 returns : tie.Need-returns invariant-loop decreases-loop
-returns c = let inv = c.before.loop-i.invariant in put_all _ _ inv.3 inv.0 c.loop-i-test.false
+returns c = let inv = c.loop-i.invariant in put_all _ _ inv.3 inv.0 c.loop-i-test.false
 
 pub put_spec : {M : Type 1} → statement M
 put_spec =

@@ -6,7 +6,7 @@ use Rattle.lines.proofs.put_line.Statement.{statement}
 use Rattle.lines.proofs.put_line.Tie as tie
 
 put-number-requires : tie.Need-put_number-next-requires
-put-number-requires c κs = omega (arith, decimal-long _ c.before.before.ranges.number)
+put-number-requires c κs = omega (arith, decimal-long _ c.ranges.number)
 
 slice-aggregate-put : tie.Need-slice-aggregate-put
 slice-aggregate-put c = search rules

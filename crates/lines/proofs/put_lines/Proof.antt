@@ -16,7 +16,7 @@ abbrev decreases-loop : tie.decreases-loop-i
 decreases-loop out₀ sets next₀ i₀ out next i = length sets - i
 
 loop-holds : tie.Need-loop-i-init invariant-loop decreases-loop
-loop-holds c = (c.before.before.requires, lines-begin _ _)
+loop-holds c = (c.requires, lines-begin _ _)
 
 mul-put-line : tie.Need-offset_bounds-sets-i invariant-loop decreases-loop
 mul-put-line c = omega arith
@@ -25,7 +25,7 @@ shared-slice-read-put-line : tie.Need-bounds-sets-i invariant-loop decreases-loo
 shared-slice-read-put-line c = omega arith
 
 cast-put-line : tie.Need-overflow_cast-sets invariant-loop decreases-loop
-cast-put-line c = omega (arith, c.shared_slice_known-in-loop-i-1.given c.before.before.before.loop-i.i)
+cast-put-line c = omega (arith, c.shared_slice_known-in-loop-i-1.given c.loop-i.i)
 
 put-line-requires : tie.Need-put_line-next-requires invariant-loop decreases-loop
 put-line-requires c κs = omega arith
@@ -42,14 +42,14 @@ loop-again c =
     let known = line.before in
     let turn = known.before.before.before in
     let fits = known.shared_slice_known-in-loop-i-1.given turn.loop-i.i in
-    let next = lines-go-on turn.loop-i.invariant.1 known.before.before.loop-i-test.true (omega arith) in
+    let next = lines-go-on turn.loop-i.invariant.1 known.loop-i-test.true (omega arith) in
     (turn.loop-i.invariant.0, next line.put_line-next.auto.0 line.put_line-next.ensures)
 
 same_length : tie.Need-shape_of-out invariant-loop decreases-loop
-same_length c = c.before.loop-i.invariant.1.size
+same_length c = c.loop-i.invariant.1.size
 
 returns : tie.Need-returns invariant-loop decreases-loop
-returns c = lines_end c.before.loop-i.invariant.1 c.loop-i-test.false
+returns c = lines_end c.loop-i.invariant.1 c.loop-i-test.false
 
 pub put_lines_spec : {M : Type 1} → statement M
 put_lines_spec =

@@ -14,7 +14,7 @@ asked at = at.before.before.before.before.before.before.before.before.before.bef
 
 below-requires : tie.Need-below-requires
 below-requires c κs =
-    let pre = c.before.before.before.before.before.before.before.before.before.requires in
+    let pre = c.requires in
     let bears = relevant-admits _ pre.0.well_formed _ _ pre.1.0 in
     (pre.0, (bears, (start-ready _ _ _ pre.1.0.fits _, start-held _ _ _)))
 
@@ -34,7 +34,7 @@ returns c =
     let pre = (asked at).requires in
     let bears = relevant-admits _ pre.0.well_formed _ _ pre.1.0 in
     let held = start-ended _ _ _ pre.1.0.fits bears at.below.ensures in
-    told-instead c.refused.ensures (longer-told _ _ _ _ _ held c.before.if-cells-found.true)
+    told-instead c.refused.ensures (longer-told _ _ _ _ _ held c.if-cells-found.true)
 
 same-length-3 : tie.Need-shape_of-cuts
 same-length-3 c = search rules

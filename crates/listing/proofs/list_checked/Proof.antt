@@ -55,7 +55,7 @@ returns c =
     let at = c.before.before.before.before.before in
     let relevant = at.relevant-usable.ensures in
     let bears = relevant-admits _ (start at).requires.0 _ _ relevant in
-    let unproved = failed c.before.before.admits.ensures c.before.if-not-admits.true in
+    let unproved = failed c.admits.ensures c.if-not-admits.true in
     told-instead c.refused.ensures
     (none_told _ _ _ _ _ (start_none _ _ _ relevant.fits bears (start at).requires.0 unproved _) refl)
 
@@ -76,7 +76,7 @@ list-over-requires c κs =
     let admitted = c.before.before.before.before.before in
     let at = bearing admitted in (
       prepared-by (start at).pre (indexed at).index-index.ensures (no-arcs _ _ (simp length-take (omega arith))),
-      (at.relevant-usable.ensures, passed admitted.before.admits.ensures admitted.if-not-admits.false),
+      (at.relevant-usable.ensures, passed admitted.admits.ensures admitted.if-not-admits.false),
     )
 
 same_length : tie.Need-shape_of-sets-then-automata_of-eq0
@@ -106,7 +106,7 @@ list-over-requires-2 c κs =
     let admitted = made.before.before.before.before.before in
     let at = bearing admitted in (
       prepared-by (start at).pre (indexed at).index-index.ensures made.make_arcs.ensures.0,
-      (at.relevant-usable.ensures, passed admitted.before.admits.ensures admitted.if-not-admits.false),
+      (at.relevant-usable.ensures, passed admitted.admits.ensures admitted.if-not-admits.false),
     )
 
 same-length-2 : tie.Need-shape_of-sets

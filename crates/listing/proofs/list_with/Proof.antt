@@ -20,7 +20,7 @@ enum_told c = search rules
 list-checked-requires : tie.Need-list_checked-requires
 unfolding query_told
 list-checked-requires c κs =
-    let both = request-accepted _ _ (sym c.before.before.before.check_request.ensures ∙ ap query_told c.before.in-Valid.is) in
+    let both = request-accepted _ _ (sym c.check_request.ensures ∙ ap query_told c.in-Valid.is) in
     (both.0, both.1)
 
 enum-known-why : tie.Need-enum_known-why
@@ -32,13 +32,13 @@ same_length c = search rules
 returns : tie.Need-returns-in-Valid
 unfolding listing query_told
 returns c =
-    let accepts = sym c.before.before.before.before.before.before.check_request.ensures ∙ ap query_told c.before.before.before.before.in-Valid.is in
-    (c.before.before.list_checked.ensures.0 ∙ then-on accepts, c.before.before.list_checked.ensures.1 ∙ sym (buffer-accepted _ _ _ accepts))
+    let accepts = sym c.check_request.ensures ∙ ap query_told c.in-Valid.is in
+    (c.list_checked.ensures.0 ∙ then-on accepts, c.list_checked.ensures.1 ∙ sym (buffer-accepted _ _ _ accepts))
 
 returns-2 : tie.Need-returns-in-Refused
 unfolding listing listing_told query_told told
 returns-2 c =
-    let refuses = ap query_told (sym c.before.in-Refused.is) ∙ c.before.before.before.check_request.ensures in
+    let refuses = ap query_told (sym c.in-Refused.is) ∙ c.check_request.ensures in
     (refused-then _ refuses, sym (buffer-refused _ _ _ (sym refuses)))
 
 pub list_with_spec : {M : Type 1} → statement M

@@ -21,7 +21,7 @@ shared-slice-read-result : tie.Need-bounds-rows-level
 shared-slice-read-result c = search rules
 
 returns : tie.Need-returns
-returns c = rw (← c.before.asked_cell.ensures.0) refl
+returns c = rw (← c.asked_cell.ensures.0) refl
 
 pub asked_mask_spec : {M : Type 1} → statement M
 asked_mask_spec =

@@ -22,9 +22,9 @@ returns : tie.Need-returns
 unfolding asked_members
 returns c =
     rw (
-      c.before.before.before.asked_mask.ensures,
-      c.before.before.asked_mask-2.ensures,
-      c.before.asked_mask-3.ensures,
+      c.asked_mask.ensures,
+      c.asked_mask-2.ensures,
+      c.asked_mask-3.ensures,
       c.asked_mask-4.ensures,
     ) refl
 

@@ -50,8 +50,8 @@ loop-less c = search rules
 
 loop-again : tie.Need-loop-j-preserved invariant-loop decreases-loop
 loop-again c =
-    let so_far = c.before.before.before.loop-j.invariant.1 in
-    let told = sym c.before.has.ensures in (
+    let so_far = c.loop-j.invariant.1 in
+    let told = sym c.has.ensures in (
       omega arith,
       ⊎_elim (λ w. w.found-is ∙ linked-more _ _ _ _ _ _ _ so_far _ w.link_cell.ensures.0 (told ∙ w.if-has.true))
           (λ w. w.found-is ∙ linked-not _ _ _ _ _ _ _ so_far (told ∙ w.if-has.false)) c.if-has.branch-raw,
@@ -60,7 +60,7 @@ loop-again c =
 returns : tie.Need-returns invariant-loop decreases-loop
 returns c =
     let start = c.before.before.before.before.before.before in
-    let loop = c.before.loop-j in
+    let loop = c.loop-j in
     let all : loop.j ≡ credentials start.args.table.now = omega arith in
     rw all at loop.invariant.1
 

@@ -16,17 +16,17 @@ credential-requires c κs = search rules
 
 returns : tie.Need-returns-then-credential-ne-LINKING_CONTAINMENT
 returns c =
-    let asked = c.before.before.before.asked_members-asked in
-    proved-asked _ _ _ _ _ _ c.before.before.credential-credential.ensures _ c.if-credential-ne-LINKING_CONTAINMENT.true asked.ensures
+    let asked = c.asked_members-asked in
+    proved-asked _ _ _ _ _ _ c.credential-credential.ensures _ c.if-credential-ne-LINKING_CONTAINMENT.true asked.ensures
 
 linked-members-requires : tie.Need-linked_members-requires
 linked-members-requires c κs = search rules
 
 returns-2 : tie.Need-returns
 returns-2 c =
-    let read = c.before.before.before.credential-credential in
-    let asked = c.before.before.before.before.asked_members-asked in
-    proved-linked _ _ _ _ _ _ read.ensures _ _ c.before.if-credential-ne-LINKING_CONTAINMENT.false asked.ensures c.linked_members.ensures
+    let read = c.credential-credential in
+    let asked = c.asked_members-asked in
+    proved-linked _ _ _ _ _ _ read.ensures _ _ c.if-credential-ne-LINKING_CONTAINMENT.false asked.ensures c.linked_members.ensures
 
 pub proved_by_spec : {M : Type 1} → statement M
 proved_by_spec =

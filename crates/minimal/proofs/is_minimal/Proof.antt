@@ -32,7 +32,7 @@ is-spare-requires c κs = search rules
 
 returns : tie.Need-returns-then-is_spare invariant-loop decreases-loop
 returns c =
-    let is-spare = c.before.is_spare in
+    let is-spare = c.is_spare in
     sym (spare_more _ _ _ is-spare.ensures c.if-is_spare.true)
 
 add-i : tie.Need-overflow_add-i invariant-loop decreases-loop
@@ -43,14 +43,14 @@ loop-less c = search rules
 
 loop-again : tie.Need-loop-i-preserved invariant-loop decreases-loop
 loop-again c =
-    let loop = c.before.before.before.loop-i in
-    let is-spare = c.before.is_spare in
+    let loop = c.loop-i in
+    let is-spare = c.is_spare in
     (omega arith, loop.invariant.1, any_next (spare (admits _ _) _) _ loop.invariant.2 (sym is-spare.ensures ∙ c.if-is_spare.false))
 
 returns-2 : tie.Need-returns invariant-loop decreases-loop
 returns-2 c =
-    let pre = c.before.before.before.before.before.before.requires in
-    let loop = c.before.loop-i in
+    let pre = c.requires in
+    let loop = c.loop-i in
     sym (none-spare _ _ (admits-monotone _ pre.0.well_formed _) _ pre.1.0 pre.1.1 _ (omega (arith, loop.invariant.1)) loop.invariant.2)
 
 pub is_minimal_spec : {M : Type 1} → statement M

@@ -11,7 +11,7 @@ has-requires c κs = search rules
 
 returns : tie.Need-returns-then-not-has
 returns c =
-    let has = c.before.has in
+    let has = c.has in
     spare-out (admits _ _) _ _ has.ensures c.if-not-has.true
 
 cast-admits : tie.Need-overflow_cast-i
@@ -25,8 +25,8 @@ admits-requires c κs = search rules
 
 returns-2 : tie.Need-returns
 returns-2 c =
-    let has = c.before.before.has in
-    let if1 = c.before.if-not-has in
+    let has = c.has in
+    let if1 = c.if-not-has in
     spare-in (admits _ _) _ _ (omega arith) has.ensures if1.false c.admits.ensures
 
 pub is_spare_spec : {M : Type 1} → statement M

@@ -13,7 +13,7 @@ array-share-prefix-out : tie.Need-slice_bounds-out-end
 array-share-prefix-out c = filled_within c.answer-count.ensures
 
 slice-aggregate-write-all : tie.Need-slice_bounds-write_all-end
-slice-aggregate-write-all c = sym (length-take-le _ _ (filled_within c.before.answer-count.ensures))
+slice-aggregate-write-all c = sym (length-take-le _ _ (filled_within c.answer-count.ensures))
 
 write-all-requires : tie.Need-write_all-requires
 write-all-requires c κs = search rules

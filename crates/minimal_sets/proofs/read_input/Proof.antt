@@ -21,7 +21,7 @@ read-more-requires : tie.Need-read_more-got-requires invariant-loop decreases-lo
 read-more-requires c κs = search rules
 
 same_length : tie.Need-shape_of-input-then-got-lt0 invariant-loop decreases-loop
-same_length c = c.before.before.before.read_more-got.auto.0 ∙ c.before.before.before.before.before.before.loop-filled.invariant.1
+same_length c = c.read_more-got.auto.0 ∙ c.loop-filled.invariant.1
 
 returns : tie.Need-returns-then-got-lt0 invariant-loop decreases-loop
 returns c = search rules
@@ -66,7 +66,7 @@ cast-result-2 : tie.Need-overflow_cast-result-2 invariant-loop decreases-loop
 cast-result-2 c = search rules
 
 same-length-3 : tie.Need-shape_of-input invariant-loop decreases-loop
-same-length-3 c = c.before.loop-filled.invariant.1
+same-length-3 c = c.loop-filled.invariant.1
 
 returns-3 : tie.Need-returns invariant-loop decreases-loop
 returns-3 c = search rules

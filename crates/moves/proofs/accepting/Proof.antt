@@ -60,7 +60,7 @@ loop-less c = search rules
 
 loop-again : tie.Need-loop-k-preserved invariant-loop decreases-loop
 loop-again c =
-    let so_far = c.before.before.before.before.loop-k.invariant.1 in
+    let so_far = c.loop-k.invariant.1 in
     let mask = ⊎_elim (λ w. w.mask-is ∙ w.with_16-mask.ensures ∙ set_more _ _ _ so_far (meets-some _ _ w.if-states-k-ne0.true))
     (λ w. w.mask-is ∙ set-not _ _ _ so_far (meets-not _ _ w.if-states-k-ne0.false)) c.if-states-k-ne0.branch-raw in
     (omega arith, mask)
@@ -69,7 +69,7 @@ returns-2 : tie.Need-returns invariant-loop decreases-loop
 returns-2 c =
     let at = c.before.before in
     let pre = (start at).requires in
-    c.before.loop-k.invariant.1 ∙ accepting-in _ pre.0 pre.1 (whole at) _ (omega arith)
+    c.loop-k.invariant.1 ∙ accepting-in _ pre.0 pre.1 (whole at) _ (omega arith)
 
 pub accepting_spec : {M : Type 1} → statement M
 accepting_spec =

@@ -62,10 +62,10 @@ loop-less : tie.Need-loop-k-smaller invariant-loop decreases-loop
 loop-less c = search rules
 
 loop-again : tie.Need-loop-k-preserved invariant-loop decreases-loop
-loop-again c = giving-more (omega arith) c.before.before.before.before.loop-k.invariant c.given.ensures
+loop-again c = giving-more (omega arith) c.loop-k.invariant c.given.ensures
 
 returns : tie.Need-returns invariant-loop decreases-loop
-returns c = giving-all _ (omega arith) (search rules) c.before.loop-k.invariant
+returns c = giving-all _ (omega arith) (search rules) c.loop-k.invariant
 
 pub by_arc_spec : {M : Type 1} → statement M
 by_arc_spec =

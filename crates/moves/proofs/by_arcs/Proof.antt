@@ -17,10 +17,10 @@ abbrev decreases-loop : tie.decreases-loop-l
 decreases-loop states arcs place next₀ row l₀ next l = most_arcs - l
 
 -- the row ends after arc l, which is the last or leads nowhere: the other arcs give no more
-ended : (at : tie.At-loop-l invariant-loop decreases-loop) → let from = at.before.before.args in
+ended : (at : tie.At-loop-l invariant-loop decreases-loop) → let from = at.args in
     (at.loop-l.l ≡ most_arcs) ⊎ (get_or from.arcs.now (to_cell from.place at.loop-l.l) 0 ≡ 0)
     → at.loop-l.next ≡ led_sets from.arcs.now from.place from.states most_arcs
-ended at last = at.loop-l.invariant.1 ∙ led-all _ _ _ _ at.before.before.requires.1 at.loop-l.invariant.0 last
+ended at last = at.loop-l.invariant.1 ∙ led-all _ _ _ _ at.requires.1 at.loop-l.invariant.0 last
 
 mul-row : tie.Need-overflow_mul-row invariant-loop decreases-loop
 mul-row c = search rules
@@ -59,7 +59,7 @@ loop-less : tie.Need-loop-l-smaller invariant-loop decreases-loop
 loop-less c = search rules
 
 loop-again : tie.Need-loop-l-preserved invariant-loop decreases-loop
-loop-again c = (omega arith, c.by_arc-next.ensures ∙ led-more _ _ _ _ c.before.before.before.before.loop-l.invariant.1)
+loop-again c = (omega arith, c.by_arc-next.ensures ∙ led-more _ _ _ _ c.loop-l.invariant.1)
 
 returns-2 : tie.Need-returns invariant-loop decreases-loop
 returns-2 c = ended c.before (inl (omega arith))

@@ -8,7 +8,7 @@ use Rattle.moves.proofs.is_made.Statement.{statement}
 use Rattle.moves.proofs.is_made.Tie as tie
 
 returns : tie.Need-returns-then-arcs-eq0
-returns c = let args = c.before.args in sym (ne_eqb _ _ (unmade args.arcs.now args.place c.if-arcs-eq0.true))
+returns c = let args = c.args in sym (ne_eqb _ _ (unmade args.arcs.now args.place c.if-arcs-eq0.true))
 
 add-result : tie.Need-overflow_add-result
 add-result c = search rules
@@ -17,7 +17,7 @@ mul-result : tie.Need-offset_bounds-arcs-place
 mul-result c = search rules
 
 shared-slice-read-result : tie.Need-bounds-arcs-place
-shared-slice-read-result c = omega (arith, index-whole c.before.before.requires.0 c.before.if-arcs-eq0.false)
+shared-slice-read-result c = omega (arith, index-whole c.requires.0 c.if-arcs-eq0.false)
 
 returns-2 : tie.Need-returns
 returns-2 c = search rules

@@ -11,7 +11,7 @@ dead-requires : tie.Need-dead-requires
 dead-requires c κs = search rules
 
 returns : tie.Need-returns
-returns c = dead-told _ _ _ c.before.next-below.ensures c.dead.ensures
+returns c = dead-told _ _ _ c.next-below.ensures c.dead.ensures
 
 pub moved_spec : {M : Type 1} → statement M
 moved_spec = tie.close (tie.spec next-requires dead-requires returns)

@@ -18,14 +18,14 @@ is-made-requires c κs = search rules
 by-arcs-requires : tie.Need-by_arcs-requires
 by-arcs-requires c κs =
     let index = (start c).requires.1 in
-    let (whole, row) = row_made _ index.0 index.1 c.before.is_made.ensures c.if-is_made.true in
+    let (whole, row) = row_made _ index.0 index.1 c.is_made.ensures c.if-is_made.true in
     ((whole, omega arith), row.ended)
 
 returns : tie.Need-returns-then-is_made
 returns c =
     let at = c.before in
     let index = (start at).requires.1 in
-    let (whole, row) = row_made _ index.0 index.1 at.before.is_made.ensures at.if-is_made.true in
+    let (whole, row) = row_made _ index.0 index.1 at.is_made.ensures at.if-is_made.true in
     c.by_arcs.ensures ∙ row-moves _ _ _ _ _ row
 
 add-credential : tie.Need-overflow_add-place
@@ -38,7 +38,7 @@ by-edges-requires : tie.Need-by_edges-requires
 by-edges-requires c κs = search rules
 
 returns-2 : tie.Need-returns
-returns-2 c = c.by_edges.ensures ∙ role-moves _ _ _ c.before.credential-credential.ensures
+returns-2 c = c.by_edges.ensures ∙ role-moves _ _ _ c.credential-credential.ensures
 
 pub next_spec : {M : Type 1} → statement M
 next_spec =

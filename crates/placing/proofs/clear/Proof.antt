@@ -29,7 +29,7 @@ mul-arcs : tie.Need-offset_bounds-arcs-row invariant-loop decreases-loop
 mul-arcs c = search rules
 
 slice-write-arcs : tie.Need-bounds-arcs-row invariant-loop decreases-loop
-slice-write-arcs c = omega (arith, c.before.loop-x.invariant.elsewhere.room)
+slice-write-arcs c = omega (arith, c.loop-x.invariant.elsewhere.room)
 
 add-x : tie.Need-overflow_add-x invariant-loop decreases-loop
 add-x c = search rules
@@ -39,14 +39,14 @@ loop-less c = search rules
 
 loop-again : tie.Need-loop-x-preserved invariant-loop decreases-loop
 loop-again c =
-    let so_far = c.before.loop-x.invariant in
+    let so_far = c.loop-x.invariant in
     clearing-more _ _ _ _ so_far (omega arith) (omega (arith, so_far.elsewhere.room))
 
 same_length : tie.Need-shape_of-arcs invariant-loop decreases-loop
-same_length c = c.before.loop-x.invariant.elsewhere.room
+same_length c = c.loop-x.invariant.elsewhere.room
 
 returns : tie.Need-returns invariant-loop decreases-loop
-returns c = clearing-all c.before.loop-x.invariant (omega arith)
+returns c = clearing-all c.loop-x.invariant (omega arith)
 
 pub clear_spec : {M : Type 1} → statement M
 clear_spec =

@@ -39,10 +39,10 @@ shared-slice-read-other : tie.Need-bounds-arcs-row invariant-loop decreases-loop
 shared-slice-read-other c = search rules
 
 returns : tie.Need-returns-then-other-to invariant-loop decreases-loop
-returns c = found_here c.before.before.before.loop-l.invariant (λ less. inl c.if-other-to.true)
+returns c = found_here c.loop-l.invariant (λ less. inl c.if-other-to.true)
 
 returns-2 : tie.Need-returns-then-other-eq0 invariant-loop decreases-loop
-returns-2 c = found_here c.before.before.before.before.loop-l.invariant (λ less. inr c.if-other-eq0.true)
+returns-2 c = found_here c.loop-l.invariant (λ less. inr c.if-other-eq0.true)
 
 add-l : tie.Need-overflow_add-l invariant-loop decreases-loop
 add-l c = search rules
@@ -52,10 +52,10 @@ loop-less c = search rules
 
 loop-again : tie.Need-loop-l-preserved invariant-loop decreases-loop
 loop-again c =
-    looking-more _ _ _ _ c.before.before.before.before.loop-l.invariant (omega arith) c.before.if-other-to.false c.if-other-eq0.false
+    looking-more _ _ _ _ c.loop-l.invariant (omega arith) c.if-other-to.false c.if-other-eq0.false
 
 returns-3 : tie.Need-returns invariant-loop decreases-loop
-returns-3 c = found_here c.before.loop-l.invariant (λ less. absurd (omega arith))
+returns-3 c = found_here c.loop-l.invariant (λ less. absurd (omega arith))
 
 pub find_spec : {M : Type 1} → statement M
 find_spec =

@@ -17,7 +17,7 @@ same_length : tie.Need-shape_of-out
 same_length c = search rules
 
 returns : tie.Need-returns
-returns c = told-filled _ _ c.before.before.before.number.ensures c.before.before.put_place.ensures
+returns c = told-filled _ _ c.number.ensures c.put_place.ensures
 
 pub put_refusal_spec : {M : Type 1} → statement M
 put_refusal_spec =

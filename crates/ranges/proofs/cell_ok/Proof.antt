@@ -16,27 +16,27 @@ is-role-requires c κs = search rules
 returns : tie.Need-returns-then-next-eq0
 unfolding cell_to
 returns c =
-    let wide = c.before.before.before.wide-next in
-    let role = flag-on c.before.before.is_role.ensures c.before.if-is_role.taken in
-    rw (← wide.ensures.0) (or-on _ (eq-eqb _ _ c.if-next-eq0.taken) ∙ role)
+    let wide = c.wide-next in
+    let role = flag-on c.is_role.ensures c.if-is_role.true in
+    rw (← wide.ensures.0) (or-on _ (eq-eqb _ _ c.if-next-eq0.true) ∙ role)
 
 returns-2 : tie.Need-returns-then-j-next
 unfolding cell_to
 returns-2 c =
-    let wide = c.before.before.before.before.wide-next in
-    let role = flag-on c.before.before.before.is_role.ensures c.before.before.if-is_role.taken in
-    rw (← wide.ensures.0) (and-on (lt-ltb _ _ c.if-j-next.taken) ∙ or_off (ne_eqb _ _ c.before.if-next-eq0.left) ∙ role)
+    let wide = c.wide-next in
+    let role = flag-on c.is_role.ensures c.if-is_role.true in
+    rw (← wide.ensures.0) (and-on (lt-ltb _ _ c.if-j-next.true) ∙ or_off (ne_eqb _ _ c.if-next-eq0.false) ∙ role)
 
 returns-3 : tie.Need-returns-else-j-next
 unfolding cell_to
 returns-3 c =
-    let wide = c.before.before.before.before.wide-next in
-    let role = flag-on c.before.before.before.is_role.ensures c.before.before.if-is_role.taken in
-    rw (← wide.ensures.0) (and-off _ (le-ltb _ _ c.if-j-next.left) ∙ or_off (ne_eqb _ _ c.before.if-next-eq0.left) ∙ role)
+    let wide = c.wide-next in
+    let role = flag-on c.is_role.ensures c.if-is_role.true in
+    rw (← wide.ensures.0) (and-off _ (le-ltb _ _ c.if-j-next.false) ∙ or_off (ne_eqb _ _ c.if-next-eq0.false) ∙ role)
 
 returns-4 : tie.Need-returns-else-is_role
 unfolding cell_to
-returns-4 c = flag_off _ c.before.is_role.ensures c.if-is_role.left
+returns-4 c = flag_off _ c.is_role.ensures c.if-is_role.false
 
 pub cell_ok_spec : {M : Type 1} → statement M
 cell_ok_spec = tie.close (tie.spec wide-requires is-role-requires returns returns-2 returns-3 returns-4)

@@ -18,21 +18,21 @@ wide-requires c κs = search rules
 returns : tie.Need-returns-then-meaning_ok
 unfolding credential_to
 returns c =
-    let meaning-ok = c.before.before.meaning_ok in
-    let is-role = c.before.before.before.before.is_role in
-    let if1 = c.before.before.before.if-is_role in
-    rw (← c.wide.ensures.0) (flag-on meaning-ok.ensures c.before.if-meaning_ok.taken ∙ flag-on is-role.ensures if1.taken)
+    let meaning-ok = c.meaning_ok in
+    let is-role = c.is_role in
+    let if1 = c.if-is_role in
+    rw (← c.wide.ensures.0) (flag-on meaning-ok.ensures c.if-meaning_ok.true ∙ flag-on is-role.ensures if1.true)
 
 returns-2 : tie.Need-returns-else-meaning_ok
 unfolding credential_to
 returns-2 c =
-    let is-role = c.before.before.before.is_role in
-    let if1 = c.before.before.if-is_role in
-    flag_off _ c.before.meaning_ok.ensures c.if-meaning_ok.left ∙ flag-on is-role.ensures if1.taken
+    let is-role = c.is_role in
+    let if1 = c.if-is_role in
+    flag_off _ c.meaning_ok.ensures c.if-meaning_ok.false ∙ flag-on is-role.ensures if1.true
 
 returns-3 : tie.Need-returns-else-is_role
 unfolding credential_to
-returns-3 c = flag_off _ c.before.is_role.ensures c.if-is_role.left
+returns-3 c = flag_off _ c.is_role.ensures c.if-is_role.false
 
 pub credential_ok_spec : {M : Type 1} → statement M
 credential_ok_spec =

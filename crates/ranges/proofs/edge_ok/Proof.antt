@@ -16,31 +16,31 @@ label-ok-requires c κs = search rules
 returns : tie.Need-returns-then-e-le-LAST_STATE-2
 unfolding edge_to
 returns c =
-    let if2 = c.before.before.before.if-e-le-LAST_STATE in
-    let within = c.before.before.before.before.before.before.within in
-    let if1 = c.before.before.before.before.before.if-within in
-    c.label_ok.ensures ∙ and-on (le-leb _ _ c.before.if-e-le-LAST_STATE-2.taken) ∙ and-on (le-leb _ _ if2.taken) ∙
-    flag-on within.ensures if1.taken
+    let if2 = c.if-e-le-LAST_STATE in
+    let within = c.within in
+    let if1 = c.if-within in
+    c.label_ok.ensures ∙ and-on (le-leb _ _ c.if-e-le-LAST_STATE-2.true) ∙ and-on (le-leb _ _ if2.true) ∙
+    flag-on within.ensures if1.true
 
 returns-2 : tie.Need-returns-else-e-le-LAST_STATE-2
 unfolding edge_to
 returns-2 c =
-    let if2 = c.before.before.if-e-le-LAST_STATE in
-    let within = c.before.before.before.before.before.within in
-    let if1 = c.before.before.before.before.if-within in
-    and-off _ (lt-leb _ _ c.if-e-le-LAST_STATE-2.left) ∙ and-on (le-leb _ _ if2.taken) ∙ flag-on within.ensures
-    if1.taken
+    let if2 = c.if-e-le-LAST_STATE in
+    let within = c.within in
+    let if1 = c.if-within in
+    and-off _ (lt-leb _ _ c.if-e-le-LAST_STATE-2.false) ∙ and-on (le-leb _ _ if2.true) ∙ flag-on within.ensures
+    if1.true
 
 returns-3 : tie.Need-returns-else-e-le-LAST_STATE
 unfolding edge_to
 returns-3 c =
-    let within = c.before.before.before.within in
-    let if1 = c.before.before.if-within in
-    and-off _ (lt-leb _ _ c.if-e-le-LAST_STATE.left) ∙ flag-on within.ensures if1.taken
+    let within = c.within in
+    let if1 = c.if-within in
+    and-off _ (lt-leb _ _ c.if-e-le-LAST_STATE.false) ∙ flag-on within.ensures if1.true
 
 returns-4 : tie.Need-returns-else-within
 unfolding edge_to
-returns-4 c = flag_off _ c.before.within.ensures c.if-within.left
+returns-4 c = flag_off _ c.within.ensures c.if-within.false
 
 pub edge_ok_spec : {M : Type 1} → statement M
 edge_ok_spec =

@@ -15,12 +15,12 @@ is-name-requires c κs = search rules
 returns : tie.Need-returns-then-is_principal
 unfolding is_role_to
 returns c =
-    let is-principal = c.before.before.is_principal in
-    c.is_name.ensures ∙ flag-on is-principal.ensures c.before.if-is_principal.taken
+    let is-principal = c.is_principal in
+    c.is_name.ensures ∙ flag-on is-principal.ensures c.if-is_principal.true
 
 returns-2 : tie.Need-returns-else-is_principal
 unfolding is_role_to
-returns-2 c = flag_off (is_name _) c.before.is_principal.ensures c.if-is_principal.left
+returns-2 c = flag_off (is_name _) c.is_principal.ensures c.if-is_principal.false
 
 pub is_role_spec : {M : Type 1} → statement M
 is_role_spec = tie.close (tie.spec is-principal-requires is-name-requires returns returns-2)

@@ -26,50 +26,50 @@ within-requires c κs = search rules
 
 returns : tie.Need-returns-then-is_principal
 returns c =
-    let chosen = c.before.before.in-1 in
-    flag-on c.before.is_principal.ensures c.if-is_principal.taken ∙ sym (kind_1 _ _ _ _ chosen.keys1)
+    let chosen = c.in-1 in
+    flag-on c.is_principal.ensures c.if-is_principal.true ∙ sym (kind_1 _ _ _ _ chosen.is)
 
 returns-2 : tie.Need-returns-else-is_principal
 returns-2 c =
-    let chosen = c.before.before.in-1 in
-    flag_off _ c.before.is_principal.ensures c.if-is_principal.left ∙ sym (kind_1 _ _ _ _ chosen.keys1)
+    let chosen = c.in-1 in
+    flag_off _ c.is_principal.ensures c.if-is_principal.false ∙ sym (kind_1 _ _ _ _ chosen.is)
 
 returns-3 : tie.Need-returns-then-is_principal-2
 returns-3 c =
-    let is-principal2 = c.before.before.is_principal-in-2 in
-    let chosen = c.before.before.before.in-2 in
-    c.is_name.ensures ∙ flag-on is-principal2.ensures c.before.if-is_principal-2.taken ∙ sym (kind_2 _ _ _ _
-    chosen.keys2)
+    let is-principal2 = c.is_principal-in-2 in
+    let chosen = c.in-2 in
+    c.is_name.ensures ∙ flag-on is-principal2.ensures c.if-is_principal-2.true ∙ sym (kind_2 _ _ _ _
+    chosen.is)
 
 returns-4 : tie.Need-returns-else-is_principal-2
 returns-4 c =
-    let chosen = c.before.before.in-2 in
-    flag_off _ c.before.is_principal-in-2.ensures c.if-is_principal-2.left ∙ sym (kind_2 _ _ _ _ chosen.keys2)
+    let chosen = c.in-2 in
+    flag_off _ c.is_principal-in-2.ensures c.if-is_principal-2.false ∙ sym (kind_2 _ _ _ _ chosen.is)
 
 returns-5 : tie.Need-returns-then-is_name
 returns-5 c =
-    let is-name2 = c.before.before.is_name-in-3 in
-    let chosen = c.before.before.before.in-3 in
-    c.is_name-then-is_name.ensures ∙ flag-on is-name2.ensures c.before.if-is_name.taken ∙ sym (kind_3 _ _ _ _
-    chosen.keys3)
+    let is-name2 = c.is_name-in-3 in
+    let chosen = c.in-3 in
+    c.is_name-then-is_name.ensures ∙ flag-on is-name2.ensures c.if-is_name.true ∙ sym (kind_3 _ _ _ _
+    chosen.is)
 
 returns-6 : tie.Need-returns-else-is_name
 returns-6 c =
-    let chosen = c.before.before.in-3 in
-    flag_off _ c.before.is_name-in-3.ensures c.if-is_name.left ∙ sym (kind_3 _ _ _ _ chosen.keys3)
+    let chosen = c.in-3 in
+    flag_off _ c.is_name-in-3.ensures c.if-is_name.false ∙ sym (kind_3 _ _ _ _ chosen.is)
 
 returns-7 : tie.Need-returns-then-within
 returns-7 c =
-    let chosen = c.before.before.in-4 in
-    flag-on c.before.within.ensures c.if-within.taken ∙ sym (kind-4 _ _ _ _ chosen.keys4)
+    let chosen = c.in-4 in
+    flag-on c.within.ensures c.if-within.true ∙ sym (kind-4 _ _ _ _ chosen.is)
 
 returns-8 : tie.Need-returns-else-within
 returns-8 c =
-    let chosen = c.before.before.in-4 in
-    flag_off _ c.before.within.ensures c.if-within.left ∙ sym (kind-4 _ _ _ _ chosen.keys4)
+    let chosen = c.in-4 in
+    flag_off _ c.within.ensures c.if-within.false ∙ sym (kind-4 _ _ _ _ chosen.is)
 
 returns-9 : tie.Need-returns-in_default
-returns-9 c = let no = c.in_default.rest in sym (kind-none _ _ _ _ no.0.0.0.1 no.0.0.1 no.0.1 no.1)
+returns-9 c = let no = c.in_default.in_default-own.rest in sym (kind-none _ _ _ _ no.0.0.0.1 no.0.0.1 no.0.1 no.1)
 
 pub meaning_ok_spec : {M : Type 1} → statement M
 meaning_ok_spec =

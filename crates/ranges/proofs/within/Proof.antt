@@ -11,11 +11,11 @@ wide-requires c κs = search rules
 
 returns : tie.Need-returns-then-low-x
 unfolding within
-returns c = rw (← c.before.wide-x.ensures.0) (and-on (le-leb _ _ c.if-low-x.taken))
+returns c = rw (← c.wide-x.ensures.0) (and-on (le-leb _ _ c.if-low-x.true))
 
 returns-2 : tie.Need-returns-else-low-x
 unfolding within
-returns-2 c = rw (← c.before.wide-x.ensures.0) (and-off _ (lt-leb _ _ c.if-low-x.left))
+returns-2 c = rw (← c.wide-x.ensures.0) (and-off _ (lt-leb _ _ c.if-low-x.false))
 
 pub within_spec : {M : Type 1} → statement M
 within_spec = tie.close (tie.spec wide-requires returns returns-2)

@@ -78,10 +78,10 @@ module _ (t : ℕ) where
   start at = at.before.before.before.before.before.before
 
   node : (at : Entered) → let from = (start at).args in
-      Node from.table.now from.levels from.branch from.goal from.rec.now at.before.enter-step.result
+      Node from.table.now from.levels from.branch from.goal from.rec.now at.enter-step.result
   node at =
-      let enter = at.before.enter-step in
-      record { table = (start at).pre.1.0; held = enter.ensures.0; enters = enter.ensures.1; goes = at.if-stopped-ne0.left }
+      let enter = at.enter-step in
+      record { table = (start at).pre.1.0; held = enter.ensures.0; enters = enter.ensures.1; goes = at.if-stopped-ne0.false }
 
   -- where the row of its credential has been asked for
   abbrev Asked : Type 0
@@ -90,8 +90,8 @@ module _ (t : ℕ) where
   abbrev entered : Asked → Entered
   entered at = at.before.before.before.before
 
-  place : (at : Asked) → at.before.before.before.wide-place.result ≡ (entered at).before.enter-step.result.credential
-  place at = at.before.before.before.wide-place.ensures.0
+  place : (at : Asked) → at.wide-place.result ≡ (entered at).enter-step.result.credential
+  place at = at.wide-place.ensures.0
 
   -- where the sets have been moved
   abbrev Moved : Type 0
@@ -113,9 +113,9 @@ module _ (t : ℕ) where
   abbrev Keeps : WordsKept → List Goal → Type 0
   Keeps at deeper =
       let from = (start (own at)).args in
-      let step = (own at).before.enter-step.result in
+      let step = (own at).enter-step.result in
       Down from.table.now from.branch from.goal from.states step from.used.now from.every.now
-      from.some.now deeper (moved at).moved-below.result.states at.before.before.before.before.with_credential.result
+      from.some.now deeper (moved at).moved-below.result.states at.with_credential.result
       at.after_node-kept.result.every at.after_node-kept.result.some
 
   keeps : (at : WordsKept) (deeper : List Goal) → let from = (start (own at)).args in
@@ -124,7 +124,7 @@ module _ (t : ℕ) where
       record {
         branches = branches;
         moves = node-moves (node (own at)) (place (asked (moved at))) _ (moved at).moved-below.ensures;
-        uses = at.before.before.before.before.with_credential.ensures;
+        uses = at.with_credential.ensures;
         keeps = at.after_node-kept.ensures;
       }
 
@@ -153,15 +153,15 @@ module _ (t : ℕ) where
   inside at = at.before.before.before.before.before.before.before.before.before
 
 read-add-nodes : (t : ℕ) → read-lts.Need-overflow_add-nodes (read-claims t) (read_at t) read.Post read-Inv-loop read-μ-loop
-read-add-nodes t c = omega (arith, c.before.before.before.before.requires.1.1.1.0)
+read-add-nodes t c = omega (arith, c.requires.1.1.1.0)
 
 read-enter-requires : (t : ℕ) → read-lts.Need-enter-step-requires (read-claims t) (read_at t) read.Post read-Inv-loop read-μ-loop
-read-enter-requires t c κs = let pre = c.before.before.before.before.requires in (pre.1.0, pre.1.1.0)
+read-enter-requires t c κs = let pre = c.requires in (pre.1.0, pre.1.1.0)
 
 read-returns : (t : ℕ) → read-lts.Need-returns-then-stopped-ne0 (read-claims t) (read_at t) read.Post read-Inv-loop read-μ-loop
 read-returns t c =
-    let pre = c.before.before.before.before.before.before.requires in
-    (node-halts _ _ c.before.enter-step.ensures.1 c.if-stopped-ne0.true, pre.1.1.1.1.1)
+    let pre = c.requires in
+    (node-halts _ _ c.enter-step.ensures.1 c.if-stopped-ne0.true, pre.1.1.1.1.1)
 
 read-wide-requires : (t : ℕ) → read-lts.Need-wide-place-requires (read-claims t) (read_at t) read.Post read-Inv-loop read-μ-loop
 read-wide-requires t c κs = tt
@@ -173,13 +173,13 @@ read-ask-requires : (t : ℕ) → read-lts.Need-ask-requires (read-claims t) (re
 read-ask-requires t c κs =
     let at = c.before.before in
     let pre = (start t at).requires in
-    (pre.1.0, (pre.1.1.1.1.1, node-place (node t at) c.before.wide-place.ensures.0))
+    (pre.1.0, (pre.1.1.1.1.1, node-place (node t at) c.wide-place.ensures.0))
 
 read-moved-requires : (t : ℕ) → read-lts.Need-moved-below-requires (read-claims t) (read_at t) read.Post read-Inv-loop read-μ-loop
 read-moved-requires t c κs =
     let at = c.before.before in
     let from = entered t at in
-    ((start t from).pre.1.0, (at.before.ask.ensures, node-place (node t from) (place t at)))
+    ((start t from).pre.1.0, (at.ask.ensures, node-place (node t from) (place t at)))
 
 read-with-credential-requires : (t : ℕ)
     → read-lts.Need-with_credential-requires (read-claims t) (read_at t) read.Post read-Inv-loop read-μ-loop
@@ -189,7 +189,7 @@ read-after-node-requires : (t : ℕ)
     → read-lts.Need-after_node-kept-requires (read-claims t) (read_at t) read.Post read-Inv-loop read-μ-loop
 read-after-node-requires t c κs =
     let at = asked t c.before.before.before.before.before.before in
-    ((start t (entered t at)).pre.1.0, at.before.ask.ensures)
+    ((start t (entered t at)).pre.1.0, at.ask.ensures)
 
 read-sub-rest : (t : ℕ) → read-lts.Need-slice_bounds-rest-count (read-claims t) (read_at t) read.Post read-Inv-loop read-μ-loop
 read-sub-rest t c = omega (arith, node-long (node t (own t c)))
@@ -209,7 +209,7 @@ read-returns-2 t c =
     let here = node t (own t at) in
     let starts = onward-starts here.held (start t (own t at)).pre.1.1.1.1.0 in
     let read_all = children-read here (keeps t at _ refl) _ starts (omega (arith, c.if-len-eq0.true)) in
-    (read_all, (asked t (moved t at)).before.ask.ensures)
+    (read_all, (asked t (moved t at)).ask.ensures)
 
 read-with-requires : (t : ℕ) → read-lts.Need-with-deeper-requires (read-claims t) (read_at t) read.Post read-Inv-loop read-μ-loop
 read-with-requires t c κs =
@@ -221,14 +221,14 @@ read-loop-holds : (t : ℕ) → read-lts.Need-loop-i-init (read-claims t) (read_
 read-loop-holds t c =
     let at = kept t c in
     let starts = onward-starts (node t (own t at)).held (start t (own t at)).pre.1.1.1.1.0 in
-    (starts, (asked t (moved t at)).before.ask.ensures, refl)
+    (starts, (asked t (moved t at)).ask.ensures, refl)
 
 read-mul-read : (t : ℕ) → read-lts.Need-offset_bounds-goals-i (read-claims t) (read_at t) read.Post read-Inv-loop read-μ-loop
-read-mul-read t c = omega (arith, c.before.loop-i.invariant.0.held.fits)
+read-mul-read t c = omega (arith, c.loop-i.invariant.0.held.fits)
 
 read-array-copy-out-read : (t : ℕ)
     → read-lts.Need-bounds-goals-i (read-claims t) (read_at t) read.Post read-Inv-loop read-μ-loop
-read-array-copy-out-read t c = omega (arith, c.before.loop-i.invariant.0.held.fits)
+read-array-copy-out-read t c = omega (arith, c.loop-i.invariant.0.held.fits)
 
 read-sub-read : (t : ℕ) → read-lts.Need-overflow_sub-levels (read-claims t) (read_at t) read.Post read-Inv-loop read-μ-loop
 read-sub-read t c = omega (arith, node-level (node t (own t (kept t c.before.before.before))))
@@ -252,7 +252,7 @@ read-same-length-2 t c =
 read-returns-3 : (t : ℕ) → read-lts.Need-returns-then-refusal-ne0 (read-claims t) (read_at t) read.Post read-Inv-loop read-μ-loop
 read-returns-3 t c =
     let at = c.before.before.before in
-    let child = at.before.read-next.ensures in
+    let child = at.read-next.ensures in
     let less = (inside t at).loop-i-test.true in
     let loop = (inside t at).before in
     let here = node t (own t (kept t loop.before)) in
@@ -261,26 +261,26 @@ read-returns-3 t c =
 read-add-i : (t : ℕ) → read-lts.Need-overflow_add-i (read-claims t) (read_at t) read.Post read-Inv-loop read-μ-loop
 read-add-i t c =
     let here = inside t c.before.before.before in
-    omega (arith, here.before.loop-i.inv.0.held.fits, here.loop-test.taken)
+    omega (arith, here.loop-i.inv.0.held.fits, here.loop-test.true)
 
 read-loop-less : (t : ℕ) → read-lts.Need-loop-i-smaller (read-claims t) (read_at t) read.Post read-Inv-loop read-μ-loop
-read-loop-less t c = omega (arith, (inside t c.before.before.before).loop-i-test.taken)
+read-loop-less t c = omega (arith, (inside t c.before.before.before).loop-i-test.true)
 
 read-loop-again : (t : ℕ) → read-lts.Need-loop-i-preserved (read-claims t) (read_at t) read.Post read-Inv-loop read-μ-loop
 read-loop-again t c =
     let at = c.before.before.before in
-    let child = at.before.read-next.ensures in
-    let inv = (inside t at).before.loop-i.invariant in
+    let child = at.read-next.ensures in
+    let inv = (inside t at).loop-i.invariant in
     (onward-goes inv.0 (inside t at).loop-i-test.true child.0 c.if-refusal-ne0.false, child.1, at.arcs-in-loop-i-1.given ∙ inv.2)
 
 read-same-length-3 : (t : ℕ) → read-lts.Need-shape_of-arcs (read-claims t) (read_at t) read.Post read-Inv-loop read-μ-loop
-read-same-length-3 t c = c.before.loop-i.invariant.2 ∙ (asked t (moved t (kept t c.before.before))).arcs-1.given
+read-same-length-3 t c = c.loop-i.invariant.2 ∙ (asked t (moved t (kept t c.before.before))).arcs-1.given
 
 read-returns-4 : (t : ℕ) → read-lts.Need-returns (read-claims t) (read_at t) read.Post read-Inv-loop read-μ-loop
 read-returns-4 t c =
     let children = c.before.before in
     let here = node t (own t (kept t children)) in
-    let inv = c.before.loop-i.invariant in
+    let inv = c.loop-i.invariant in
     (children-read here (down t children) _ inv.0 c.loop-i-test.false, inv.1)
 
 pub +read_spec : {M : Type 1} → statement M

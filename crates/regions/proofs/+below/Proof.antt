@@ -52,14 +52,14 @@ below-same-length-2 t c = search rules
 
 below-returns : below-needs below-lts.Need-returns-then-among-eq0
 below-returns t c =
-    let decide = c.before.before.before.before.before.decide-among in
+    let decide = c.decide-among in
     let decide = decide in
     decide.ensures.over c.if-among-eq0.true
 
 below-highest-requires : below-needs below-lts.Need-highest-next-requires
 below-highest-requires t c κs =
-    let pre = c.before.before.before.before.before.before.before.before.before.before.before.before.before.before.before.requires in
-    let decide = c.before.before.before.before.before.decide-among in
+    let pre = c.requires in
+    let decide = c.decide-among in
     let pre = pre in
     let decide = decide in
     (c.if-among-eq0.false, left-few pre.1.1.1.0 decide.ensures pre.1.0.well_formed.sized.counted.few_credentials)

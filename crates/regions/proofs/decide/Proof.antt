@@ -19,8 +19,8 @@ same_length c = search rules
 
 returns : tie.Need-returns-then-is_barren
 returns c =
-    let pre = c.before.before.before.before.before.before.before.before.before.requires in
-    let is-barren = c.before.is_barren in
+    let pre = c.requires in
+    let is-barren = c.is_barren in
     let ready = pre.1.1.0 in
     let none = is-barren.ensures.none c.if-is_barren.true _ _ (admits-monotone _ pre.0.well_formed _) ready in
     decided-over (ended-barren (more_same ready.known) none refl refl)
@@ -33,9 +33,9 @@ same-length-2 c = search rules
 
 returns-2 : tie.Need-returns-then-among-ne0
 returns-2 c =
-    let args = c.before.before.before.before.before.before.before.before.before.before.before.before.args in
-    let pre = c.before.before.before.before.before.before.before.before.before.before.before.before.requires in
-    let unmet = c.before.unmet in
+    let args = c.args in
+    let pre = c.requires in
+    let unmet = c.unmet in
     decided-left _ (and-part unmet.result args.free) (more_same pre.1.1.0.known) (λ none. absurd (c.if-among-ne0.true none))
 
 admits-requires : tie.Need-admits-requires
@@ -92,9 +92,9 @@ same-length-5 c = search rules
 
 returns-4 : tie.Need-returns-then-count-cuts
 returns-4 c =
-    let pre = c.before.before.before.before.before.before.before.before.before.before.before.before.before.before.before.requires in
-    let admits = c.before.before.admits in
-    let if3 = c.before.if-admits in
+    let pre = c.requires in
+    let admits = c.admits in
+    let if3 = c.if-admits in
     let ready = pre.1.1.0 in
     let fails = sym admits.ensures ∙ if3.false in
     decided-left _ (part-refl _) (more_same ready.known) (full-barren ready c.if-count-cuts.true fails)
@@ -116,21 +116,21 @@ outside-requires c κs = search rules
 mul-cuts : tie.Need-offset_bounds-cuts-count
 mul-cuts c =
     let start = c.before.before.before.before.before.before.before.before.before.before.before.before.before.before.before.before.before.before.before.before in
-    let slice-known = c.before.before.before.before.before.before.before.before.before.before.before.before.before.before.before.before.slice_known-1 in
-    let if4 = c.before.before.before.before.before.if-count-cuts in
+    let slice-known = c.slice_known-1 in
+    let if4 = c.if-count-cuts in
     search (rules, start.well-formed.1.1.1.1.1.1.1.0, slice-known.given, start.requires.1.1.0.known.room, if4.false)
 
 slice-write-cuts : tie.Need-bounds-cuts-count
 slice-write-cuts c =
     let start = c.before.before.before.before.before.before.before.before.before.before.before.before.before.before.before.before.before.before.before.before in
-    let if4 = c.before.before.before.before.before.if-count-cuts in
+    let if4 = c.if-count-cuts in
     search (rules, start.requires.1.1.0.known.room, if4.false)
 
 add-count : tie.Need-overflow_add-count
 add-count c =
     let start = c.before.before.before.before.before.before.before.before.before.before.before.before.before.before.before.before.before.before.before.before in
-    let slice-known = c.before.before.before.before.before.before.before.before.before.before.before.before.before.before.before.before.slice_known-1 in
-    let if4 = c.before.before.before.before.before.if-count-cuts in
+    let slice-known = c.slice_known-1 in
+    let if4 = c.if-count-cuts in
     search (rules, start.well-formed.1.1.1.1.1.1.1.0, slice-known.given, start.requires.1.1.0.known.room, if4.false)
 
 same-length-6 : tie.Need-shape_of-cuts

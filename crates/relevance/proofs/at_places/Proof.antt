@@ -38,8 +38,8 @@ loop-less c = search rules
 
 loop-again : tie.Need-loop-i-preserved invariant-loop decreases-loop
 loop-again c =
-    let so_far = c.before.before.before.before.loop-i.invariant.1 in
-    let told = rw c.before.before.role_cell.ensures.0 at (sym c.before.has.ensures) in (
+    let so_far = c.loop-i.invariant.1 in
+    let told = rw c.role_cell.ensures.0 at (sym c.has.ensures) in (
       omega arith,
       ⊎_elim (λ w. w.found-is ∙ w.with-found.ensures ∙ defined_more _ _ _ _ so_far (told ∙ w.if-has.true))
           (λ w. w.found-is ∙ defined-not _ _ _ _ so_far (told ∙ w.if-has.false)) c.if-has.branch-raw,
@@ -47,8 +47,8 @@ loop-again c =
 
 returns : tie.Need-returns invariant-loop decreases-loop
 returns c =
-    let all : c.before.loop-i.i ≡ c.before.before.before.args.n = omega arith in
-    rw all at c.before.loop-i.invariant.1
+    let all : c.loop-i.i ≡ c.args.n = omega arith in
+    rw all at c.loop-i.invariant.1
 
 pub at_places_spec : {M : Type 1} → statement M
 at_places_spec =

@@ -10,13 +10,13 @@ has-requires : tie.Need-has-requires
 has-requires c κs = search rules
 
 returns : tie.Need-returns-then-not-has
-returns c = sym (and-is-off _ (failed c.before.has.ensures c.if-not-has.true))
+returns c = sym (and-is-off _ (failed c.has.ensures c.if-not-has.true))
 
 has-requires-2 : tie.Need-has-requires-2
 has-requires-2 c κs = search rules
 
 returns-2 : tie.Need-returns
-returns-2 c = ap not c.has-2.ensures ∙ and-on (passed c.before.before.has.ensures c.before.if-not-has.false)
+returns-2 c = ap not c.has-2.ensures ∙ and-on (passed c.has.ensures c.if-not-has.false)
 
 pub is_new_spec : {M : Type 1} → statement M
 is_new_spec = tie.close (tie.spec has-requires returns has-requires-2 returns-2)

@@ -29,7 +29,7 @@ loop-holds : tie.Need-loop-i-init invariant-loop decreases-loop
 loop-holds c =
     let begun = c.before.before in
     let at = begun.before.before.before.before.before.before in
-    rows_none _ _ begun.before.begin.ensures (begun.arcs-1.given ∙ blank-full _ at.requires.1.1)
+    rows_none _ _ begun.begin.ensures (begun.arcs-1.given ∙ blank-full _ at.requires.1.1)
 
 has-requires : tie.Need-has-requires invariant-loop decreases-loop
 has-requires c κs = search rules
@@ -57,7 +57,7 @@ loop-again c =
     let m = at.loop-i.invariant in
     ⊎_elim
     (λ w. rw w.arcs-is (rows_more m (omega arith) wf indexed w.role_cell.ensures.0 w.make.ensures.0 w.make.ensures.1 w.arcs-then-has-1.given))
-    (λ w. rw w.arcs-is (rows-not m (omega arith) (sym c.before.has.ensures ∙ w.if-has.false)))
+    (λ w. rw w.arcs-is (rows-not m (omega arith) (sym c.has.ensures ∙ w.if-has.false)))
     c.if-has.branch-raw
 
 same_length : tie.Need-shape_of-arcs invariant-loop decreases-loop
@@ -66,7 +66,7 @@ same_length c =
     at.loop-i.invariant.full ∙ sym (blank-full _ (start at).requires.1.1)
 
 returns : tie.Need-returns invariant-loop decreases-loop
-returns c = let m = c.before.loop-i.invariant in (m.whole, rows_all m (omega arith))
+returns c = let m = c.loop-i.invariant in (m.whole, rows_all m (omega arith))
 
 pub make_arcs_spec : {M : Type 1} → statement M
 make_arcs_spec =

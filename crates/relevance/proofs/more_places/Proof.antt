@@ -31,7 +31,7 @@ is-new-requires c κs = search rules
 
 with-roles-requires : tie.Need-with_roles-more-requires invariant-loop decreases-loop
 with-roles-requires c κs =
-    let pre = c.before.before.before.before.before.before.before.before.requires in
+    let pre = c.requires in
     (pre.0, (pre.1.0, omega arith))
 
 add-i : tie.Need-overflow_add-i invariant-loop decreases-loop
@@ -42,10 +42,10 @@ loop-less c = search rules
 
 loop-again : tie.Need-loop-i-preserved invariant-loop decreases-loop
 loop-again c =
-    let round = c.before.before.before.before.loop-i.invariant.1 in
-    let closed = c.before.before.before.before.before.before.before.before.requires.1.1 in
-    let place = c.before.before.role_cell.ensures.0 in
-    let told = c.before.is_new.ensures in (
+    let round = c.loop-i.invariant.1 in
+    let closed = c.requires.1.1 in
+    let place = c.role_cell.ensures.0 in
+    let told = c.is_new.ensures in (
       omega arith,
       ⊎_elim (λ w. round_with _ _ _ _ _ _ round w.more-is w.with_roles-more.ensures)
           (λ w. round-old _ _ _ _ _ _ round w.more-is _ (omega arith) closed place told w.if-is_new.false) c.if-is_new.branch-raw,
@@ -53,8 +53,8 @@ loop-again c =
 
 returns : tie.Need-returns invariant-loop decreases-loop
 returns c =
-    let all : c.before.loop-i.i ≡ credentials c.before.before.before.before.before.args.table.now = omega arith in
-    rw all at c.before.loop-i.invariant.1
+    let all : c.loop-i.i ≡ credentials c.args.table.now = omega arith in
+    rw all at c.loop-i.invariant.1
 
 pub more_places_spec : {M : Type 1} → statement M
 more_places_spec =

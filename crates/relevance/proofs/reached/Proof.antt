@@ -29,23 +29,23 @@ with-requires : tie.Need-with-places-requires invariant-loop decreases-loop
 with-requires c κs = search rules
 
 loop-holds : tie.Need-loop-places-init invariant-loop decreases-loop
-loop-holds c = (c.with-places.type-inv, (with-has 0 _ _ c.with-places.ensures c.before.goal_role.ensures.0, round-first _ _ _))
+loop-holds c = (c.with-places.type-inv, (with-has 0 _ _ c.with-places.ensures c.goal_role.ensures.0, round-first _ _ _))
 
 more-places-requires : tie.Need-more_places-more-requires invariant-loop decreases-loop
 more-places-requires c κs = search rules
 
 loop-less : tie.Need-loop-places-smaller invariant-loop decreases-loop
-loop-less c = round-less _ _ _ _ _ _ c.before.before.loop-places.invariant.1.1 c.before.loop-places-test.true (omega arith)
+loop-less c = round-less _ _ _ _ _ _ c.loop-places.invariant.1.1 c.loop-places-test.true (omega arith)
 
 loop-again : tie.Need-loop-places-preserved invariant-loop decreases-loop
 loop-again c =
-    let inv = c.before.before.loop-places.invariant.1 in
+    let inv = c.loop-places.invariant.1 in
     let more = c.more_places-more.ensures in
     (c.more_places-more.type-inv, (part-member _ _ _ more.grows inv.0, more))
 
 returns : tie.Need-returns invariant-loop decreases-loop
 returns c =
-    let inv = c.before.loop-places.invariant.1 in
+    let inv = c.loop-places.invariant.1 in
     (inv.0, rw (← c.loop-places-test.false) at inv.1)
 
 pub reached_spec : {M : Type 1} → statement M

@@ -15,9 +15,9 @@ at-places-requires c κs = search rules
 
 returns : tie.Need-returns
 returns c =
-    let found = c.before.reached.ensures in
-    let count = c.before.before.credentials.ensures.same in
-    let pre = c.before.before.before.before.before.requires in
+    let found = c.reached.ensures in
+    let count = c.credentials.ensures.same in
+    let pre = c.requires in
     relevant-found _ _ _ pre.0 pre.1.0 pre.1.1 _ _ _ found.0 found.1 count c.at_places.ensures
 
 pub relevant_spec : {M : Type 1} → statement M

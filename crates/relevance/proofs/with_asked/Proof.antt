@@ -31,14 +31,14 @@ loop-less c = search rules
 
 loop-again : tie.Need-loop-k-preserved invariant-loop decreases-loop
 loop-again c =
-    let loop = c.before.before.before.loop-k in
-    let cell = c.before.asked_cell.ensures.0 in
+    let loop = c.loop-k in
+    let cell = c.asked_cell.ensures.0 in
     (omega arith, asked-more _ _ _ c.with-more.ensures _ _ loop.k _ cell loop.invariant.1)
 
 returns : tie.Need-returns invariant-loop decreases-loop
 returns c =
-    let all : c.before.loop-k.k ≡ 4 = omega arith in
-    rw all at c.before.loop-k.invariant.1
+    let all : c.loop-k.k ≡ 4 = omega arith in
+    rw all at c.loop-k.invariant.1
 
 pub with_asked_spec : {M : Type 1} → statement M
 with_asked_spec =

@@ -39,16 +39,16 @@ loop-less c = search rules
 
 loop-again : tie.Need-loop-j-preserved invariant-loop decreases-loop
 loop-again c =
-    let inv = c.before.before.before.loop-j.invariant.1 in (
+    let inv = c.loop-j.invariant.1 in (
       omega arith,
       ⊎_elim (λ w. linked-more _ _ _ (w.more-is ∙ w.with-more.ensures) _ _ _ _ _ w.link_cell.ensures.0 inv)
-          (λ w. linked-not _ _ _ _ _ _ _ w.more-is (sym c.before.is_person.ensures ∙ w.if-is_person.false) inv) c.if-is_person.branch-raw,
+          (λ w. linked-not _ _ _ _ _ _ _ w.more-is (sym c.is_person.ensures ∙ w.if-is_person.false) inv) c.if-is_person.branch-raw,
     )
 
 returns : tie.Need-returns invariant-loop decreases-loop
 returns c =
-    let all : c.before.loop-j.j ≡ credentials c.before.before.before.before.before.args.table.now = omega arith in
-    rw all at c.before.loop-j.invariant.1
+    let all : c.loop-j.j ≡ credentials c.args.table.now = omega arith in
+    rw all at c.loop-j.invariant.1
 
 pub with_links_spec : {M : Type 1} → statement M
 with_links_spec =

@@ -12,21 +12,21 @@ credential-requires : tie.Need-credential-credential-requires
 credential-requires c κs = search rules
 
 returns : tie.Need-returns-then-kind-eq-SIMPLE_MEMBERSHIP
-returns c = roles-none _ _ _ _ c.before.credential-credential.ensures _ c.if-kind-eq-SIMPLE_MEMBERSHIP.true
+returns c = roles-none _ _ _ _ c.credential-credential.ensures _ c.if-kind-eq-SIMPLE_MEMBERSHIP.true
 
 with-asked-requires : tie.Need-with_asked-more-requires
 with-asked-requires c κs = search rules
 
 returns-2 : tie.Need-returns-then-kind-ne-LINKING_CONTAINMENT
 returns-2 c =
-    let read = c.before.before.before.credential-credential.ensures in
-    roles-asked _ _ _ _ read _ _ c.if-kind-ne-LINKING_CONTAINMENT.true c.before.with_asked-more.ensures
+    let read = c.credential-credential.ensures in
+    roles-asked _ _ _ _ read _ _ c.if-kind-ne-LINKING_CONTAINMENT.true c.with_asked-more.ensures
 
 with-links-requires : tie.Need-with_links-requires
 with-links-requires c κs = search rules
 
 returns-3 : tie.Need-returns
-returns-3 c = roles-linked _ _ _ _ _ _ c.before.before.with_asked-more.ensures c.with_links.ensures
+returns-3 c = roles-linked _ _ _ _ _ _ c.with_asked-more.ensures c.with_links.ensures
 
 pub with_roles_spec : {M : Type 1} → statement M
 with_roles_spec =

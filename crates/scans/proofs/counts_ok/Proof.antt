@@ -22,22 +22,22 @@ shared-slice-read-result c = search rules
 returns : tie.Need-returns-then-table-le-MOST_AUTOMATA
 unfolding counts_ok
 returns c =
-    let if2 = c.before.before.before.if-table-le-MOST_CELLS in
-    let if1 = c.before.before.before.before.before.if-table-le-MOST_CREDENTIALS in
-    and-on (le-leb _ _ c.before.if-table-le-MOST_AUTOMATA.true) ∙ and-on (le-leb _ _ if2.true) ∙ and-on (le-leb _ _
+    let if2 = c.if-table-le-MOST_CELLS in
+    let if1 = c.if-table-le-MOST_CREDENTIALS in
+    and-on (le-leb _ _ c.if-table-le-MOST_AUTOMATA.true) ∙ and-on (le-leb _ _ if2.true) ∙ and-on (le-leb _ _
     if1.true)
 
 returns-2 : tie.Need-returns-else-table-le-MOST_AUTOMATA
 unfolding counts_ok
 returns-2 c =
-    let if2 = c.before.before.if-table-le-MOST_CELLS in
-    let if1 = c.before.before.before.before.if-table-le-MOST_CREDENTIALS in
+    let if2 = c.if-table-le-MOST_CELLS in
+    let if1 = c.if-table-le-MOST_CREDENTIALS in
     and-off _ (lt-leb _ _ c.if-table-le-MOST_AUTOMATA.false) ∙ and-on (le-leb _ _ if2.true) ∙ and-on (le-leb _ _ if1.true)
 
 returns-3 : tie.Need-returns-else-table-le-MOST_CELLS
 unfolding counts_ok
 returns-3 c =
-    let if1 = c.before.before.if-table-le-MOST_CREDENTIALS in
+    let if1 = c.if-table-le-MOST_CREDENTIALS in
     and-off _ (lt-leb _ _ c.if-table-le-MOST_CELLS.false) ∙ and-on (le-leb _ _ if1.true)
 
 returns-4 : tie.Need-returns-else-table-le-MOST_CREDENTIALS

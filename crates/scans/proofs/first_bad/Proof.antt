@@ -34,20 +34,20 @@ is-good-requires c κs = search rules
 
 returns : tie.Need-returns-then-not-is_good invariant-loop decreases-loop
 returns c =
-    let loop = c.before.before.before.loop-i in
-    bad-next _ _ _ loop.invariant.1 (omega arith) (failed c.before.is_good.ensures c.if-not-is_good.true)
+    let loop = c.loop-i in
+    bad-next _ _ _ loop.invariant.1 (omega arith) (failed c.is_good.ensures c.if-not-is_good.true)
 
 loop-less : tie.Need-loop-i-smaller invariant-loop decreases-loop
 loop-less c = search rules
 
 loop-again : tie.Need-loop-i-preserved invariant-loop decreases-loop
 loop-again c =
-    let loop = c.before.before.before.loop-i in
-    let here = passed c.before.is_good.ensures c.if-not-is_good.false in
+    let loop = c.loop-i in
+    let here = passed c.is_good.ensures c.if-not-is_good.false in
     (omega arith, λ number. each-passes _ number _ (loop.invariant.1 number) here)
 
 returns-2 : tie.Need-returns invariant-loop decreases-loop
-returns-2 c = bad-none _ _ _ c.before.loop-i.invariant.1 (omega arith)
+returns-2 c = bad-none _ _ _ c.loop-i.invariant.1 (omega arith)
 
 pub first_bad_spec : {M : Type 1} → statement M
 first_bad_spec =

@@ -42,8 +42,8 @@ cells-requires c κs = search rules
 
 returns : tie.Need-returns-then-cells-eq0 invariant-loop decreases-loop invariant-credentials decreases-credentials
 returns c =
-    let pre = c.before.before.before.requires in
-    no_cells _ pre.1.0 (sym c.before.cells.ensures.same ∙ c.if-cells-eq0.true)
+    let pre = c.requires in
+    no_cells _ pre.1.0 (sym c.cells.ensures.same ∙ c.if-cells-eq0.true)
 
 credentials-requires : tie.Need-credentials-n-requires invariant-loop decreases-loop invariant-credentials decreases-credentials
 credentials-requires c κs = search rules
@@ -63,14 +63,14 @@ credentials-less c = search rules
 
 credentials-again : tie.Need-credentials-preserved-then-c-ne-INTERSECTION_CONTAINMENT invariant-loop decreases-loop invariant-credentials decreases-credentials
 credentials-again c =
-    let credentials = c.before.before.before.before.credentials in
-    let other = no-chain _ _ c.before.before.credential-c.ensures c.if-c-ne-INTERSECTION_CONTAINMENT.true in
+    let credentials = c.credentials in
+    let other = no-chain _ _ c.credential-c.ensures c.if-c-ne-INTERSECTION_CONTAINMENT.true in
     (omega arith, λ number. each-passes _ number _ (credentials.invariant.1 number) other)
 
 loop-holds : tie.Need-loop-j-init invariant-loop decreases-loop invariant-credentials decreases-credentials
 loop-holds c =
-    let pre = c.before.before.before.before.before.before.before.before.before.requires in
-    let read = c.before.before.credential-c.ensures in
+    let pre = c.requires in
+    let read = c.credential-c.ensures in
     let four = c.if-c-ne-INTERSECTION_CONTAINMENT.false in
     (chain-of-kind-4 _ _ read four, walk-starts _ _ (first-inside _ pre.1.0 _ (omega arith) read four))
 
@@ -93,8 +93,8 @@ loop-again c =
     let at = c.before.before.before.before in
     let walked = at.loop-j.invariant.1 in
     let inside = next-inside _ (start at).requires.1.1 at.loop-j.j (omega (arith, walked.inside)) in
-    let on = walk-goes-on _ _ _ _ walked inside c.before.before.before.loop-j-test.true (omega arith) in
-    (at.loop-j.invariant.0, rw (c.cell-j.ensures, c.before.wide.ensures.0) on)
+    let on = walk-goes-on _ _ _ _ walked inside c.loop-j-test.true (omega arith) in
+    (at.loop-j.invariant.0, rw (c.cell-j.ensures, c.wide.ensures.0) on)
 
 credentials-less-2 : tie.Need-credentials-smaller invariant-loop decreases-loop invariant-credentials decreases-credentials
 credentials-less-2 c = search rules
@@ -102,22 +102,22 @@ credentials-less-2 c = search rules
 credentials-again-2 : tie.Need-credentials-preserved invariant-loop decreases-loop invariant-credentials decreases-credentials
 credentials-again-2 c =
     let at = c.before.before in
-    let whole = long-enough _ _ _ _ at.loop-j.invariant.1 c.before.loop-j-test.false c.if-met-lt-LEAST_PARTS.false in
+    let whole = long-enough _ _ _ _ at.loop-j.invariant.1 c.loop-j-test.false c.if-met-lt-LEAST_PARTS.false in
     (omega arith, λ number. each-passes _ number _ ((outer at).credentials.invariant.1 number) (at.loop-j.invariant.0 ∙ whole))
 
 returns-2 : tie.Need-returns-then-i-n invariant-loop decreases-loop invariant-credentials decreases-credentials
-returns-2 c = bad-none _ _ _ c.before.credentials.invariant.1 (omega arith)
+returns-2 c = bad-none _ _ _ c.credentials.invariant.1 (omega arith)
 
 returns-3 : tie.Need-returns-then-met-gt-MOST_PARTS invariant-loop decreases-loop invariant-credentials decreases-credentials
 returns-3 c =
     let at = c.before.before in
-    let long = too_long _ _ _ _ at.loop-j.invariant.1 c.before.loop-j-test.true c.if-met-gt-MOST_PARTS.true in
+    let long = too_long _ _ _ _ at.loop-j.invariant.1 c.loop-j-test.true c.if-met-gt-MOST_PARTS.true in
     bad-next _ _ _ (outer at).credentials.invariant.1 (omega arith) (at.loop-j.invariant.0 ∙ long)
 
 returns-4 : tie.Need-returns-then-met-lt-LEAST_PARTS invariant-loop decreases-loop invariant-credentials decreases-credentials
 returns-4 c =
     let at = c.before.before in
-    let short = too_short _ _ _ _ at.loop-j.invariant.1 c.before.loop-j-test.false c.if-met-lt-LEAST_PARTS.true in
+    let short = too_short _ _ _ _ at.loop-j.invariant.1 c.loop-j-test.false c.if-met-lt-LEAST_PARTS.true in
     bad-next _ _ _ (outer at).credentials.invariant.1 (omega arith) (at.loop-j.invariant.0 ∙ short)
 
 pub first_bad_chain_spec : {M : Type 1} → statement M

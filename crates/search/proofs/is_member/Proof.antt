@@ -25,8 +25,8 @@ prepared at = prepared-by at.requires.0 at.requires.1.0 (no-arcs _ [] refl)
 returns : tie.Need-returns-then-credentials-person
 returns c =
     let start = c.before.before.before.before.before.before in
-    goal-unnamed (prepared start) c.before.before.goal_person-person.ensures.0 _ _ _ start.requires.1.1
-    (omega (arith, c.if-credentials-person.true, c.before.credentials.ensures.same))
+    goal-unnamed (prepared start) c.goal_person-person.ensures.0 _ _ _ start.requires.1.1
+    (omega (arith, c.if-credentials-person.true, c.credentials.ensures.same))
 
 goal-role-requires : tie.Need-goal_role-place-requires
 goal-role-requires c κs = search rules
@@ -38,21 +38,21 @@ wide-requires c κs = search rules
 abbrev from : tie.After-wide-levels → tie.Start
 from at = at.before.before.before.before.before.before.before.before
 
-there : (at : tie.After-wide-levels) → at.before.before.before.before.goal_person-person.result < credentials (from at).args.table.now
-there at = omega (arith, at.before.before.if-credentials-person.false, at.before.before.before.credentials.ensures.same)
+there : (at : tie.After-wide-levels) → at.goal_person-person.result < credentials (from at).args.table.now
+there at = omega (arith, at.if-credentials-person.false, at.credentials.ensures.same)
 
 may-be-proved-requires : tie.Need-may_be_proved-requires
 may-be-proved-requires c κs =
     let pre = (from c).requires in (
       pre.0.0,
-      ((pre.1.1.room, pre.1.1.few), (below-most pre.0.0 _ (there c), c.before.goal_role-place.ensures.1)),
+      ((pre.1.1.room, pre.1.1.few), (below-most pre.0.0 _ (there c), c.goal_role-place.ensures.1)),
     )
 
 returns-2 : tie.Need-returns
 returns-2 c =
     let at = c.before in
-    goal-listed (prepared (from at)) at.before.before.before.before.goal_person-person.ensures.0 (there at)
-    at.before.goal_role-place.ensures.0 _ _ at.wide-levels.ensures.0 (from at).requires.1.1 c.may_be_proved.ensures
+    goal-listed (prepared (from at)) at.goal_person-person.ensures.0 (there at)
+    at.goal_role-place.ensures.0 _ _ at.wide-levels.ensures.0 (from at).requires.1.1 c.may_be_proved.ensures
 
 pub is_member_spec : {M : Type 1} → statement M
 is_member_spec =

@@ -28,9 +28,9 @@ none-requires c κs = search rules
 
 returns : tie.Need-returns-then-credentials-person
 returns c =
-    let pre = c.before.before.before.before.before.before.before.before.requires in
-    tells-nothing _ _ _ _ _ _ c.none.ensures (λ X. goal-unnamed pre.0 c.before.before.before.goal_person-person.ensures.0 _ _ X pre.1.0
-    (omega (arith, c.before.if-credentials-person.true, c.before.before.credentials.ensures.same)))
+    let pre = c.requires in
+    tells-nothing _ _ _ _ _ _ c.none.ensures (λ X. goal-unnamed pre.0 c.goal_person-person.ensures.0 _ _ X pre.1.0
+    (omega (arith, c.if-credentials-person.true, c.credentials.ensures.same)))
 
 goal-role-requires : tie.Need-goal_role-place-requires
 goal-role-requires c κs = search rules
@@ -42,15 +42,15 @@ wide-requires c κs = search rules
 abbrev from : tie.After-wide-levels → tie.Start
 from at = at.before.before.before.before.before.before.before.before.before
 
-there : (at : tie.After-wide-levels) → at.before.before.before.before.goal_person-person.result < credentials (from at).args.table.now
-there at = omega (arith, at.before.before.if-credentials-person.false, at.before.before.before.credentials.ensures.same)
+there : (at : tie.After-wide-levels) → at.goal_person-person.result < credentials (from at).args.table.now
+there at = omega (arith, at.if-credentials-person.false, at.credentials.ensures.same)
 
 may-be-proved-requires : tie.Need-may_be_proved-requires
 may-be-proved-requires c κs =
     let at = c in
     let pre = (from at).requires in (
       pre.0.well_formed,
-      ((pre.1.0.room, pre.1.0.few), (below-most pre.0.well_formed _ (there at), at.before.goal_role-place.ensures.1)),
+      ((pre.1.0.room, pre.1.0.few), (below-most pre.0.well_formed _ (there at), at.goal_role-place.ensures.1)),
     )
 
 none-requires-2 : tie.Need-none-requires-then-not-may_be_proved
@@ -59,10 +59,10 @@ none-requires-2 c κs = search rules
 returns-2 : tie.Need-returns-then-not-may_be_proved
 returns-2 c =
     let at = c.before.before.before in
-    let off = c.before.if-not-may_be_proved.true in
+    let off = c.if-not-may_be_proved.true in
     tells-nothing _ _ _ _ _ _ c.none-then-not-may_be_proved.ensures
-    (λ X. goal-missing (from at).requires.0 at.before.before.before.before.goal_person-person.ensures.0 (there at)
-    at.before.goal_role-place.ensures.0 _ _ at.wide-levels.ensures.0 (from at).requires.1.0 c.before.before.may_be_proved.ensures _ X off)
+    (λ X. goal-missing (from at).requires.0 at.goal_person-person.ensures.0 (there at)
+    at.goal_role-place.ensures.0 _ _ at.wide-levels.ensures.0 (from at).requires.1.0 c.may_be_proved.ensures _ X off)
 
 is-small-requires : tie.Need-is_small-requires
 is-small-requires c κs = search rules
@@ -73,13 +73,13 @@ slice-aggregate-from-start c = search rules
 -- the goal may be sought with a memory that has nothing yet, whatever its length
 seekable : (at : tie.After-wide-levels) (memory : List ℕ) → SlotIn memory 0 → Blank memory → let args = (from at).args in
     Searchable args.table.now args.index.now args.arcs.now args.rows.now args.terms.allowed at.wide-levels.result args.terms.last
-    × (Stands args.table.now at.before.before.before.before.goal_person-person.result at.before.goal_role-place.result
+    × (Stands args.table.now at.goal_person-person.result at.goal_role-place.result
     × Remembered args.table.now args.terms.allowed args.terms.constraints args.terms.owed memory)
 seekable at memory room blank =
-    let who = at.before.before.before.before.goal_person-person.ensures.0 in (
+    let who = at.goal_person-person.ensures.0 in (
       goal-searched (from at).requires.0 at.wide-levels.ensures.0 (from at).requires.1.0,
       (
-        goal-stands (from at).requires.0 who (there at) at.before.goal_role-place.ensures.0,
+        goal-stands (from at).requires.0 who (there at) at.goal_role-place.ensures.0,
         remembered-none _ _ _ _ (from at).requires.1.1 memory room blank,
       ),
     )
@@ -90,8 +90,8 @@ from-start-requires c κs = seekable c.before.before.before.before.before _ (ome
 returns-3 : tie.Need-returns-then-is_small
 returns-3 c =
     let at = c.before.before.before.before.before.before.before in
-    goal-told (from at).requires.0 at.before.before.before.before.goal_person-person.ensures.0 (there at)
-    at.before.goal_role-place.ensures.0 _ _ _ _ at.wide-levels.ensures.0 c.before.from_start.ensures
+    goal-told (from at).requires.0 at.goal_person-person.ensures.0 (there at)
+    at.goal_role-place.ensures.0 _ _ _ _ at.wide-levels.ensures.0 c.from_start.ensures
 
 slice-aggregate-from-start-2 : tie.Need-slice_bounds-from_start-end-2
 slice-aggregate-from-start-2 c = search rules
@@ -102,8 +102,8 @@ from-start-requires-2 c κs = seekable c.before.before.before.before.before _ (o
 returns-4 : tie.Need-returns
 returns-4 c =
     let at = c.before.before.before.before.before.before.before in
-    goal-told (from at).requires.0 at.before.before.before.before.goal_person-person.ensures.0 (there at)
-    at.before.goal_role-place.ensures.0 _ _ _ _ at.wide-levels.ensures.0 c.before.from_start-2.ensures
+    goal-told (from at).requires.0 at.goal_person-person.ensures.0 (there at)
+    at.goal_role-place.ensures.0 _ _ _ _ at.wide-levels.ensures.0 c.from_start-2.ensures
 
 pub query_search_spec : {M : Type 1} → statement M
 query_search_spec =

@@ -17,7 +17,7 @@ has-16-requires : tie.Need-has_16-requires
 has-16-requires c κs = search rules
 
 returns-2 : tie.Need-returns
-returns-2 c = among-some _ _ c.before.before.if-automaton-eq0.false (rw c.before.wide.ensures.0 at c.has_16.ensures)
+returns-2 c = among-some _ _ c.if-automaton-eq0.false (rw c.wide.ensures.0 at c.has_16.ensures)
 
 pub is_among_spec : {M : Type 1} → statement M
 is_among_spec = tie.close (tie.spec returns wide-requires sub-has-16 has-16-requires returns-2)

@@ -11,18 +11,18 @@ has-16-requires : tie.Need-has_16-requires
 has-16-requires c κs = search rules
 
 returns : tie.Need-returns-then-not-has_16
-returns c = lacking-unasked _ _ _ _ (failed c.before.has_16.ensures c.if-not-has_16.true)
+returns c = lacking-unasked _ _ _ _ (failed c.has_16.ensures c.if-not-has_16.true)
 
 with-16-requires : tie.Need-with_16-requires
 with-16-requires c κs = search rules
 
 covers-requires : tie.Need-covers-requires
 covers-requires c κs =
-    rw c.with_16.ensures (or_lt 8 _ _ c.before.before.before.requires.0 (pow-lt {j = 8} c.before.before.before.requires.1))
+    rw c.with_16.ensures (or_lt 8 _ _ c.requires.0 (pow-lt {j = 8} c.requires.1))
 
 returns-2 : tie.Need-returns
 returns-2 c =
-    lacking-told _ _ _ _ (passed c.before.before.before.has_16.ensures c.before.before.if-not-has_16.false) (rw c.before.with_16.ensures at c.covers.ensures)
+    lacking-told _ _ _ _ (passed c.has_16.ensures c.if-not-has_16.false) (rw c.with_16.ensures at c.covers.ensures)
 
 pub is_lacking_spec : {M : Type 1} → statement M
 is_lacking_spec =

@@ -35,8 +35,8 @@ loop-less c = search rules
 loop-again : tie.Need-loop-j-preserved invariant-loop decreases-loop
 unfolding lacking_of
 loop-again c =
-    let so_far = c.before.before.before.loop-j.invariant.1 in
-    let told = sym c.before.is_lacking.ensures in (
+    let so_far = c.loop-j.invariant.1 in
+    let told = sym c.is_lacking.ensures in (
       omega arith,
       ⊎_elim (λ w. w.lost-is ∙ w.with_16-lost.ensures ∙ set_more _ _ _ so_far (told ∙ w.if-is_lacking.true))
           (λ w. w.lost-is ∙ set-not _ _ _ so_far (told ∙ w.if-is_lacking.false)) c.if-is_lacking.branch-raw,
@@ -44,8 +44,8 @@ loop-again c =
 
 returns : tie.Need-returns invariant-loop decreases-loop
 returns c =
-    let all : c.before.loop-j.j ≡ c.before.before.args.k = omega arith in
-    rw all at c.before.loop-j.invariant.1
+    let all : c.loop-j.j ≡ c.args.k = omega arith in
+    rw all at c.loop-j.invariant.1
 
 pub lacking_spec : {M : Type 1} → statement M
 lacking_spec =

@@ -37,7 +37,7 @@ credential-requires c κs = search rules
 
 is-among-requires : tie.Need-is_among-requires invariant-loop decreases-loop
 is-among-requires c κs =
-    automaton-few _ c.before.before.before.before.before.before.before.requires _ (record { first = omega arith; last = omega (arith, c.before.before.before.loop-i-test.true, c.before.before.before.before.before.credentials-n.ensures.same) })
+    automaton-few _ c.requires _ (record { first = omega arith; last = omega (arith, c.loop-i-test.true, c.credentials-n.ensures.same) })
     _ c.credential-credential.ensures
 
 with-requires : tie.Need-with-kept-requires invariant-loop decreases-loop
@@ -51,20 +51,20 @@ loop-less c = search rules
 
 loop-again : tie.Need-loop-i-preserved invariant-loop decreases-loop
 loop-again c =
-    let so_far = c.before.before.before.loop-i.invariant.1 in
-    let told = sym c.before.has.ensures in (
+    let so_far = c.loop-i.invariant.1 in
+    let told = sym c.has.ensures in (
       omega arith,
       three_ways
-          (λ w. w.5 ∙ w.4.ensures ∙ without_more _ _ _ _ _ so_far (told ∙ w.0.taken) _ w.1.ensures w.2.ensures w.3.taken)
-          (λ w. w.4 ∙ without-bearer _ _ _ _ _ so_far (told ∙ w.0.taken) _ w.1.ensures w.2.ensures w.3.left)
+          (λ w. w.5 ∙ w.4.ensures ∙ without_more _ _ _ _ _ so_far (told ∙ w.0.true) _ w.1.ensures w.2.ensures w.3.true)
+          (λ w. w.4 ∙ without-bearer _ _ _ _ _ so_far (told ∙ w.0.true) _ w.1.ensures w.2.ensures w.3.false)
           (λ w. w.kept-is ∙ without-outside _ _ _ _ _ so_far (told ∙ w.if-has.false)) c.if-has.branch-raw,
     )
 
 returns : tie.Need-returns invariant-loop decreases-loop
 unfolding without_all
 returns c =
-    let all : c.before.loop-i.i ≡ credentials c.before.before.before.before.args.table.now = omega arith in
-    rw all at c.before.loop-i.invariant.1
+    let all : c.loop-i.i ≡ credentials c.args.table.now = omega arith in
+    rw all at c.loop-i.invariant.1
 
 pub without_spec : {M : Type 1} → statement M
 without_spec =

@@ -20,8 +20,8 @@ without-requires c κs = search rules
 
 returns : tie.Need-returns
 returns c =
-    let k = c.before.before.args.k in
-    rw (one_bit 16 (k - 1) (omega (arith, c.before.before.requires))) at c.without.ensures
+    let k = c.args.k in
+    rw (one_bit 16 (k - 1) (omega (arith, c.requires))) at c.without.ensures
 
 pub without_one_spec : {M : Type 1} → statement M
 without_one_spec =

@@ -6,7 +6,6 @@ use native.Mathlib.Omega.{arith}
 use lib.ListN.{length, length-set}
 use lib.Seq.{set_out}
 use borrow.Author.Rules.{rules}
-use borrow.Author.Tests.{ltb-false, ltb-true}
 use Rattle.sorted.proofs.Placing.{Placing, placing-ends, placing-moves, placing-starts}
 use Rattle.sorted.proofs.Inserting.{placed-inserted}
 use Rattle.sorted.proofs.insert.Statement.{statement}
@@ -54,11 +53,11 @@ loop-less c = search rules
 
 loop-again : tie.Need-loop-place-preserved invariant-loop decreases-loop
 loop-again c =
-    let known = c.before.before.before.before.before.before.loop-place.invariant in
-    let some = c.before.before.before.before.before.loop-place-test.true in
+    let known = c.loop-place.invariant in
+    let some = c.loop-place-test.true in
     let up = ⊎_elim (λ w. w.numbers-is) (λ w. w.numbers-is ∙ sym (set_out _ _ _ (omega (arith, w.if-place-cells.false, known.size))))
-    c.before.if-place-cells.branch-raw in
-    placing-moves _ _ _ _ _ _ known some (ltb-true _ _ c.before.before.if-number-numbers.true) up
+    c.if-place-cells.branch-raw in
+    placing-moves _ _ _ _ _ _ known some c.if-number-numbers.true up
 
 mul-numbers-3 : tie.Need-offset_bounds-numbers-place-then-place-cells-2-2 invariant-loop decreases-loop
 mul-numbers-3 c = search rules
@@ -71,14 +70,14 @@ add-found c = search rules
 
 same_length : tie.Need-shape_of-numbers invariant-loop decreases-loop
 same_length c =
-    let size = c.before.before.loop-place.invariant.size in
+    let size = c.loop-place.invariant.size in
     ⊎_elim (λ w. ap length w.numbers-is ∙ simp length-set size) (λ w. ap length w.numbers-is ∙ size) c.if-place-cells-2.branch-raw
 
 returns : tie.Need-returns invariant-loop decreases-loop
 returns c =
-    let known = c.before.before.loop-place.invariant in
+    let known = c.loop-place.invariant in
     placed-inserted _ _ _ _ _ (placing-ends _ _ _ _ _ _ known
-    (λ some. ⊎_elim (λ w. ltb-false _ _ w.3.left) (λ w. absurd (omega (arith, w.left))) c.before.loop-place-test.branch-raw)
+    (λ some. ⊎_elim (λ w. w.if-number-numbers.false) (λ w. absurd (omega (arith, w.loop-place-test.false))) c.loop-place-test.branch-raw)
     (⊎_elim (λ w. w.numbers-is) (λ w. w.numbers-is ∙ sym (set_out _ _ _ (omega (arith, w.if-place-cells-2.false, known.size)))) c.if-place-cells-2.branch-raw)) refl
 
 pub insert_spec : {M : Type 1} → statement M

@@ -13,7 +13,7 @@ slice-aggregate-judge-by : tie.Need-slice_bounds-judge_by-end
 slice-aggregate-judge-by c = search rules
 
 judge-by-requires : tie.Need-judge_by-requires
-judge-by-requires c κs = let pre = c.before.before.before.before.requires in (pre.0, (pre.1, no-arcs _ _ refl))
+judge-by-requires c κs = let pre = c.requires in (pre.0, (pre.1, no-arcs _ _ refl))
 
 returns : tie.Need-returns-then-rec-lt-LONG
 returns c = search rules

@@ -16,17 +16,17 @@ abbrev start : tie.After-empty → tie.Start
 start at = at.before.before.before.before.before.before.before
 
 abbrev levels : tie.After-empty → ℕ
-levels at = at.before.before.wide-levels.result
+levels at = at.wide-levels.result
 
 begins : (at : tie.After-empty) → let from = (start at).args in
-    let asked = at.before.before.before.goal_of-goal.result in
-    Begins from.table.now from.query (levels at) (above at.empty.result) asked at.before.start-start.result
+    let asked = at.goal_of-goal.result in
+    Begins from.table.now from.query (levels at) (above at.empty.result) asked at.start-start.result
 begins at =
     record {
-      all-levels = at.before.before.wide-levels.ensures.0;
+      all-levels = at.wide-levels.ensures.0;
       nothing_above = at.empty.ensures.1.1;
-      asked = at.before.before.before.goal_of-goal.ensures;
-      starting = at.before.start-start.ensures;
+      asked = at.goal_of-goal.ensures;
+      starting = at.start-start.ensures;
     }
 
 levels-fit : (at : tie.After-empty) → at.empty.result.len + levels at ≤ most_depth
@@ -69,14 +69,14 @@ returns : tie.Need-returns-then-refusal-ne0
 returns c =
     let read = c.before.before.before.before.before in
     let at = begun read in
-    let number = c.before.reason_of.ensures in
+    let number = c.reason_of.ensures in
     rw number at c.refused.ensures
-    ∙ verdict-stops (start at).pre.0 (begins at) read.read-rest.ensures.0 c.before.before.if-refusal-ne0.true
+    ∙ verdict-stops (start at).pre.0 (begins at) read.read-rest.ensures.0 c.if-refusal-ne0.true
 
 add-refused : tie.Need-overflow_add-nodes
 add-refused c =
     let read = c.before.before.before.before in
-    omega (arith, read.read-rest.ensures.0.room c.before.if-refusal-ne0.false, (start (begun read)).well-formed.1.1)
+    omega (arith, read.read-rest.ensures.0.room c.if-refusal-ne0.false, (start (begun read)).well-formed.1.1)
 
 refused-requires-2 : tie.Need-refused-requires-then-rest-ne0
 refused-requires-2 c κs = search rules
@@ -90,7 +90,7 @@ returns-2 c =
     let read = c.before.before.before.before.before in
     let at = begun read in
     let left_over = verdict-leftover (start at).pre.0 (begins at) read.read-rest.ensures.0 in
-    c.refused-then-rest-ne0.ensures ∙ left_over c.before.before.if-refusal-ne0.false c.before.if-rest-ne0.true
+    c.refused-then-rest-ne0.ensures ∙ left_over c.if-refusal-ne0.false c.if-rest-ne0.true
 
 judge-words-requires : tie.Need-judge_words-requires
 judge-words-requires c κs = search rules
@@ -103,7 +103,7 @@ returns-3 c =
     let read = c.before.before.before.before.before in
     let at = begun read in
     c.judge_words.ensures
-    ∙ verdict-words (start at).pre.0 (begins at) read.read-rest.ensures.0 c.before.before.if-refusal-ne0.false c.before.if-rest-ne0.false
+    ∙ verdict-words (start at).pre.0 (begins at) read.read-rest.ensures.0 c.if-refusal-ne0.false c.if-rest-ne0.false
 
 pub judge_by_spec : {M : Type 1} → statement M
 judge_by_spec =

@@ -18,7 +18,7 @@ enum_told c = search rules
 judge-requires : tie.Need-judge-requires
 unfolding query_told
 judge-requires c κs =
-    let check-request = c.before.before.check_request in
+    let check-request = c.check_request in
     let both = request-accepted _ _ (sym check-request.ensures ∙ ap query_told c.in-Valid.is) in
     (both.0, both.1)
 
@@ -28,14 +28,14 @@ enum-known-why c = search rules
 returns : tie.Need-returns-in-Valid
 unfolding verdict query_told
 returns c =
-    let check-request = c.before.before.before.check_request in
-    c.judge.ensures ∙ then-on (sym check-request.ensures ∙ ap query_told c.before.in-Valid.is)
+    let check-request = c.check_request in
+    c.judge.ensures ∙ then-on (sym check-request.ensures ∙ ap query_told c.in-Valid.is)
 
 returns-2 : tie.Need-returns-in-Refused
 unfolding verdict verdict_told query_told told
 returns-2 c =
-    let check-request = c.before.before.before.check_request in
-    refused-then _ (ap query_told (sym c.before.in-Refused.is) ∙ check-request.ensures)
+    let check-request = c.check_request in
+    refused-then _ (ap query_told (sym c.in-Refused.is) ∙ check-request.ensures)
 
 pub verify_spec : {M : Type 1} → statement M
 verify_spec =

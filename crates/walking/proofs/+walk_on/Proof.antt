@@ -110,7 +110,7 @@ module _ (t : ℕ) where
   walk-entered : (at : walk-place walk-lts.After-with-deeper t) → let from = (walk_from at).args in
       Entered from.table.now from.terms.allowed from.terms.constraints from.terms.owed from.levels
       from.above
-      at.with-deeper.result from.states at.before.stepped-below.result.states (in_family from.wanted) from.person
+      at.with-deeper.result from.states at.stepped-below.result.states (in_family from.wanted) from.person
       from.place
   walk-entered at =
       let pre = (walk_from at).pre.1 in
@@ -120,7 +120,7 @@ module _ (t : ℕ) where
         there = pre.1.0.1;
         wanted = family-wants pre.1.1.0;
         suited = pre.1.1.1.1.0;
-        moved = steps _ _ _ _ at.before.stepped-below.ensures;
+        moved = steps _ _ _ _ at.stepped-below.ensures;
         deeper-is = at.with-deeper.ensures;
       }
 
@@ -137,12 +137,12 @@ module _ (t : ℕ) where
 
 walk-stepped-requires : walk-needs walk-lts.Need-stepped-below-requires
 walk-stepped-requires t c κs =
-    let pre = c.before.before.before.before.before.before.before.requires.1 in
+    let pre = c.requires.1 in
     (pre.0.well_formed, (pre.0.moving, pre.1.0.1))
 
 walk-with-requires : walk-needs walk-lts.Need-with-deeper-requires
 walk-with-requires t c κs =
-    let pre = c.before.before.before.before.before.before.before.before.requires.1 in
+    let pre = c.requires.1 in
     let wf = pre.0.well_formed in
     (below-most wf _ pre.1.0.0.there, below-most wf _ pre.1.0.1)
 
@@ -173,24 +173,24 @@ walk-accepting-requires t c κs =
     (searched.well_formed, searched.moving)
 
 walk-same-length : walk-needs walk-lts.Need-shape_of-memory-then-node-eq0
-walk-same-length t c = c.before.before.before.before.before.before.before.before.before.memory-1.given
+walk-same-length t c = c.memory-1.given
 
 walk-same-length-2 : walk-needs walk-lts.Need-shape_of-rec-then-node-eq0
-walk-same-length-2 t c = c.before.before.before.before.before.before.put.ensures.size
+walk-same-length-2 t c = c.put.ensures.size
 
 walk-returns : walk-needs walk-lts.Need-returns-then-node-eq0
 walk-returns t c =
     let put = c.before.before.before.before.before.before in
     let (chosen, remembered) = (walk-chose t put).choose-node.ensures in
-    let told = node-ends (walk-entered t (walk-with t put)) chosen put.put.ensures _ c.before.before.if-node-eq0.true
-    c.before.accepting.ensures in
+    let told = node-ends (walk-entered t (walk-with t put)) chosen put.put.ensures _ c.if-node-eq0.true
+    c.accepting.ensures in
     (record { walked = told.0; meets = told.1 }, remembered)
 
 walk-same-length-3 : walk-needs walk-lts.Need-shape_of-memory-then-most-next
-walk-same-length-3 t c = c.before.before.before.before.before.before.before.before.memory-1.given
+walk-same-length-3 t c = c.memory-1.given
 
 walk-same-length-4 : walk-needs walk-lts.Need-shape_of-rec-then-most-next
-walk-same-length-4 t c = c.before.before.before.before.before.put.ensures.size
+walk-same-length-4 t c = c.put.ensures.size
 
 walk-returns-2 : walk-needs walk-lts.Need-returns-then-most-next
 walk-returns-2 t c =
@@ -219,8 +219,8 @@ walk-walk-asked-requires t c κs =
             (
               remembered,
               (
-                chosen-suits entered chosen c.before.before.before.if-node-eq0.false,
-                (omega (arith, c.before.before.if-most-next.false), pre.1.1.1.1.1.1.1),
+                chosen-suits entered chosen c.if-node-eq0.false,
+                (omega (arith, c.if-most-next.false), pre.1.1.1.1.1.1.1),
               ),
             ),
           ),
@@ -231,7 +231,7 @@ walk-walk-asked-requires t c κs =
 walk-same-length-5 : walk-needs walk-lts.Need-shape_of-memory
 walk-same-length-5 t c =
     let chosen = (walk_put t c.before.before.before.before).before.before.before in
-    c.before.before.before.memory-2-1.given ∙ chosen.memory.given
+    c.memory-2-1.given ∙ chosen.memory.given
 
 walk-same-length-6 : walk-needs walk-lts.Need-shape_of-rec
 walk-same-length-6 t c =
@@ -263,11 +263,11 @@ module _ (t : ℕ) where
   walk-asked-near : (at : walk-asked-place walk-asked-lts.After-wanted_here-here t) → (walk-asked-loop at).loop-k.k < 4
   walk-asked-near at =
       let pre = (walk-asked-from (walk-asked-loop at)).pre.1 in
-      omega (arith, at.before.before.loop-k-test.taken, pre.1.0.fits.few)
+      omega (arith, at.loop-k-test.true, pre.1.0.fits.few)
 
 walk-asked-loop-holds : walk-asked-needs walk-asked-lts.Need-loop-k-init
 walk-asked-loop-holds t c =
-    let pre = c.before.before.before.before.before.before.before.before.requires.1 in
+    let pre = c.requires.1 in
     (omega arith, pre.1.1.1.1.1.0, passed_none _ _ _ _ _ _ _ _ _ _ _ _ pre.1.1.1.1.0, refl, pre.1.1.1.0)
 
 walk-asked-add-wanted-here : walk-asked-needs walk-asked-lts.Need-overflow_add-k
@@ -280,7 +280,7 @@ walk-asked-wanted-here-requires t c κs =
     let at = c.before.before.before in
     let pre = (walk-asked-from t at).requires.1 in
     let (_, _, passed, _, remembered) = at.loop-k.invariant in
-    (pre.0, (pre.1.0, (pre.1.1.0, (remembered, (passed.few, omega (arith, c.before.loop-k-test.true))))))
+    (pre.0, (pre.1.0, (pre.1.1.0, (remembered, (passed.few, omega (arith, c.loop-k-test.true))))))
 
 walk-asked-mul-walk : walk-asked-needs walk-asked-lts.Need-offset_bounds-persons-k
 walk-asked-mul-walk t c = record { fits = omega (arith, walk-asked-near t c.before.before) }
@@ -301,7 +301,7 @@ walk-asked-walk-requires t c κs =
     let pre = (walk-asked-from t at).pre in
     let wf = pre.1.0.well_formed in
     let wanted = family-wants pre.1.1.1.0 in
-    let next = told.before.before.loop-k-test.true in
+    let next = told.loop-k-test.true in
     let (_, room, passed, _, _) = at.loop-k.inv in
     let (alike, remembered) = told.wanted_here-here.ensures in (
       omega (arith, pre.0),
@@ -331,34 +331,34 @@ walk-asked-loop-again t c =
     let told = walk-asked-told t walk in
     let at = walk-asked-loop t told in
     let pre = (walk-asked-from t at).pre.1 in
-    let next = told.before.before.loop-k-test.taken in
+    let next = told.loop-k-test.true in
     let (walks, remembered) = walk.walk-walked.ensures in
-    let room = c.before.if-most-next.false in (
+    let room = c.if-most-next.false in (
       omega (arith, next),
       omega (arith, room),
       asked-next pre.0.well_formed _ _ _ _ _ _ _ (family-wants pre.1.1.0) _ _ next at.loop-k.inv.2 _
           told.wanted-here.ensures.0 at.loop-k.inv.1 walks.walked _ (walks.meets (omega (arith, room))),
-      c.before.before.before.before.before.memory-in-loop-k-1.given ∙ walk.before.before.before.before.memory-1.given
+      c.memory-in-loop-k-1.given ∙ walk.memory-1.given
           ∙ at.loop-k.inv.3,
       remembered,
     )
 
 walk-asked-same-length : walk-asked-needs walk-asked-lts.Need-shape_of-memory-after-loop-k
-walk-asked-same-length t c = c.before.before.loop-k.invariant.3
+walk-asked-same-length t c = c.loop-k.invariant.3
 
 walk-asked-same-length-2 : walk-asked-needs walk-asked-lts.Need-shape_of-rec-after-loop-k
-walk-asked-same-length-2 t c = c.before.before.loop-k.invariant.2.walked.size
+walk-asked-same-length-2 t c = c.loop-k.invariant.2.walked.size
 
 walk-asked-returns : walk-asked-needs walk-asked-lts.Need-returns-after-loop-k
 walk-asked-returns t c =
-    let (_, _, passed, _, remembered) = c.before.before.loop-k.invariant in
+    let (_, _, passed, _, remembered) = c.loop-k.invariant in
     let told = asked-last _ _ _ _ _ _ _ _ _ _ _ (omega (arith, c.loop-k-test.false)) passed in
     (record { walked = told.0; meets = λ room. told.1 }, remembered)
 
 walk-asked-same-length-3 : walk-asked-needs walk-asked-lts.Need-shape_of-memory-then-most-next
 walk-asked-same-length-3 t c =
     let walk = c.before.before.before.before.before in
-    c.before.before.before.before.memory-in-loop-k-1.given ∙ walk.before.before.before.before.memory-1.given
+    c.memory-in-loop-k-1.given ∙ walk.memory-1.given
     ∙ (walk-asked-loop t (walk-asked-told t walk)).loop-k.inv.3
 
 walk-asked-same-length-4 : walk-asked-needs walk-asked-lts.Need-shape_of-rec-then-most-next
@@ -372,7 +372,7 @@ walk-asked-returns-2 t c =
     let told = walk-asked-told t walk in
     let at = walk-asked-loop t told in
     let pre = (walk-asked-from t at).pre.1 in
-    let next = told.before.before.loop-k-test.taken in
+    let next = told.loop-k-test.true in
     let (walks, remembered) = walk.walk-walked.ensures in (
       record {
         walked =

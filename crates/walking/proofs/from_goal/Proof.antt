@@ -36,10 +36,10 @@ walk-requires : tie.Need-walk-walked-requires
 walk-requires c κs =
     let at = c.before.before.before in
     let pre = (asked at).requires in
-    let who = at.before.before.before.goal_person.ensures.0 in
-    let place = at.before.before.goal_role.ensures.0 in
-    let only = at.before.before.before.before.only.ensures in
-    let levels = at.before.wide.ensures.0 in
+    let who = at.goal_person.ensures.0 in
+    let place = at.goal_role.ensures.0 in
+    let only = at.only.ensures in
+    let levels = at.wide.ensures.0 in
     let remembered = pre.1.1.0 in
     let few = remembered.few in
     let proved = pre.1.1.1.0 in (
@@ -51,7 +51,7 @@ walk-requires c κs =
           (
             remembered,
             (
-              rw c.before.before.nothing.ensures
+              rw c.nothing.ensures
                   (begins-suits pre.0 pre.1.0 _ _ few proved who place _ only _ _ levels at.start.ensures),
               (omega arith, pre.1.1.1.1),
             ),
@@ -72,11 +72,11 @@ returns c =
     let (walked, remembered) = walk.walk-walked.ensures in
     let at = walk.before.before.before.before in
     let pre = (asked at).requires in
-    let who = at.before.before.before.goal_person.ensures.0 in
-    let place = at.before.before.goal_role.ensures.0 in (
+    let who = at.goal_person.ensures.0 in
+    let place = at.goal_role.ensures.0 in (
       begins-walked pre.0 pre.1.0 _ _ pre.1.1.0.few pre.1.1.1.0 who place _
-          at.before.before.before.before.only.ensures _ _ at.before.wide.ensures.0 at.start.ensures _ _ _ _
-          (rw walk.before.before.before.nothing.ensures at walked.walked),
+          at.only.ensures _ _ at.wide.ensures.0 at.start.ensures _ _ _ _
+          (rw walk.nothing.ensures at walked.walked),
       remembered,
     )
 

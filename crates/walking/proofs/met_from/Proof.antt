@@ -49,7 +49,7 @@ array-read-goal-search : tie.Need-bounds-persons-k invariant-loop decreases-loop
 array-read-goal-search c = omega (
   arith,
   c.loop-k-test.true,
-  c.before.loop-k.invariant.1,
+  c.loop-k.invariant.1,
   (start c.before.before).pre.1.0.fits.few,
 )
 
@@ -60,7 +60,7 @@ array-read-goal-search-2 : tie.Need-bounds-places-k invariant-loop decreases-loo
 array-read-goal-search-2 c = omega (
   arith,
   c.loop-k-test.true,
-  c.before.loop-k.invariant.1,
+  c.loop-k.invariant.1,
   (start c.before.before).pre.1.0.fits.few,
 )
 
@@ -69,7 +69,7 @@ goal-search-requires c κs =
     let at = c.before.before in
     let pre = (start at.before).pre in
     let (_, few, _, _, remembered) = at.loop-k.invariant in
-    (pre.0, (asked-stands _ pre.1.0.stands _ (omega (arith, c.before.loop-k-test.true, few)), remembered))
+    (pre.0, (asked-stands _ pre.1.0.stands _ (omega (arith, c.loop-k-test.true, few)), remembered))
 
 joined-requires : tie.Need-joined-met-requires invariant-loop decreases-loop
 joined-requires c κs = search rules
@@ -81,7 +81,7 @@ loop-again : tie.Need-loop-k-preserved invariant-loop decreases-loop
 loop-again c =
     let sought = c.before.before.before in
     let (one, remembered) = sought.goal_search-answer.ensures in
-    let test = sought.before.before.loop-k-test.true in
+    let test = sought.loop-k-test.true in
     let at = sought.before.before.before in
     let (_, few, behind, same, _) = at.loop-k.invariant in
     let there = child-there (start at.before).pre.1.0 in (
@@ -89,17 +89,17 @@ loop-again c =
       omega (arith, few),
       later-next _ _ _ _ _ _ _ _ _ _ (omega (arith, test)) few (there _ (omega (arith, test, few))) c.joined-met.ensures
           (judged-told (wide (start at.before)) one) behind,
-      c.before.before.memory-1.given ∙ same,
+      c.memory-1.given ∙ same,
       remembered,
     )
 
 same_length : tie.Need-shape_of-memory invariant-loop decreases-loop
-same_length c = c.before.loop-k.invariant.3
+same_length c = c.loop-k.invariant.3
 
 returns : tie.Need-returns invariant-loop decreases-loop
 returns c =
-    let (from, _, told, _, remembered) = c.before.loop-k.invariant in
-    let last : c.before.loop-k.k ≡ (start c.before.before).args.from = omega (arith, c.loop-k-test.false, from) in
+    let (from, _, told, _, remembered) = c.loop-k.invariant in
+    let last : c.loop-k.k ≡ (start c.before.before).args.from = omega (arith, c.loop-k-test.false, from) in
     (rw last at told, remembered)
 
 pub met_from_spec : {M : Type 1} → statement M

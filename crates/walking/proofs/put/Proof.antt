@@ -23,7 +23,7 @@ mul-rec-2 c = search rules
 
 slice-write-rec-2 : tie.Need-bounds-rec-at-then-at-rec
 slice-write-rec-2 c =
-    let from = c.before.args in
+    let from = c.args in
     omega (arith, c.if-at-rec.true, length-set from.rec.now from.at from.credential)
 
 same_length : tie.Need-shape_of-rec

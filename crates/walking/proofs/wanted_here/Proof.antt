@@ -35,7 +35,7 @@ returns-2 c =
     let only = c.before.before.before in
     let (_, (children, (wanted, (remembered, (owed, from))))) = (start only.before.before).requires in (
       here-all _ _ _ (family-wants wanted) _ owed _ _ only.only-now.ensures (children-nothing children _ from)
-          (sym c.before.before.has.ensures ∙ c.before.if-has.true) _ c.left_by.ensures,
+          (sym c.has.ensures ∙ c.if-has.true) _ c.left_by.ensures,
       remembered,
     )
 
@@ -61,7 +61,7 @@ returns-3 c =
     let only = behind.before.before.before.before in
     let (_, (_, (wanted, (_, (owed, _))))) = (start only.before.before).requires in (
       here-left _ _ _ (family-wants wanted) _ owed _ _ only.only-now.ensures _ _ (λ X. refl) _ _ _ told
-          c.before.joined.ensures c.left_by-2.ensures,
+          c.joined.ensures c.left_by-2.ensures,
       remembered,
     )
 

@@ -18,21 +18,21 @@ shr-if1 c = search rules
 
 returns : tie.Need-returns-then-set-credentials-ne0
 returns c =
-    let pre = c.before.before.before.before.before.requires in
-    sym (beyond-unlisted _ pre.well_formed _ pre.valid _ _ c.before.credentials.ensures.same c.if-set-credentials-ne0.true)
+    let pre = c.requires in
+    sym (beyond-unlisted _ pre.well_formed _ pre.valid _ _ c.credentials.ensures.same c.if-set-credentials-ne0.true)
 
 admits-requires : tie.Need-admits-requires
 admits-requires c κs = search rules
 
 returns-2 : tie.Need-returns-then-not-admits
-returns-2 c = sym (least-not _ _ (failed c.before.admits.ensures c.if-not-admits.true))
+returns-2 c = sym (least-not _ _ (failed c.admits.ensures c.if-not-admits.true))
 
 is-minimal-requires : tie.Need-is_minimal-requires
 is-minimal-requires c κs =
     let at = c.before.before.before in
     let start = at.before.before.before.before in
-    let few = below_all start.args.table.now _ _ at.credentials.ensures.same c.before.before.if-set-credentials-ne0.false in
-    (start.requires, (few, passed c.before.admits.ensures c.if-not-admits.false))
+    let few = below_all start.args.table.now _ _ at.credentials.ensures.same c.if-set-credentials-ne0.false in
+    (start.requires, (few, passed c.admits.ensures c.if-not-admits.false))
 
 returns-3 : tie.Need-returns
 returns-3 c = search rules

@@ -18,8 +18,8 @@ enum_told c = search rules
 write-checked-requires : tie.Need-write_checked-requires
 unfolding query_told
 write-checked-requires c κs =
-    let told = ap query_told c.before.in-Valid.is in
-    let both = request-accepted _ _ (sym c.before.before.before.check_request.ensures ∙ told) in
+    let told = ap query_told c.in-Valid.is in
+    let both = request-accepted _ _ (sym c.check_request.ensures ∙ told) in
     (both.0, both.1)
 
 enum-known-why : tie.Need-enum_known-why
@@ -32,15 +32,15 @@ returns : tie.Need-returns-in-Valid
 unfolding query_told
 returns c =
     let at = c.before.before.before in
-    let told = ap query_told at.before.in-Valid.is in
-    let accepts = sym at.before.before.before.check_request.ensures ∙ told in
-    written-past _ _ _ _ accepts c.before.before.write_checked.ensures
+    let told = ap query_told at.in-Valid.is in
+    let accepts = sym at.check_request.ensures ∙ told in
+    written-past _ _ _ _ accepts c.write_checked.ensures
 
 returns-2 : tie.Need-returns-in-Refused
 unfolding query_told written_told told
 returns-2 c =
-    let why = ap query_told (sym c.before.in-Refused.is) in
-    written-stopped _ _ _ _ (why ∙ c.before.before.before.check_request.ensures)
+    let why = ap query_told (sym c.in-Refused.is) in
+    written-stopped _ _ _ _ (why ∙ c.check_request.ensures)
 
 pub write_spec : {M : Type 1} → statement M
 write_spec =

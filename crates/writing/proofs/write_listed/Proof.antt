@@ -25,8 +25,8 @@ slice-aggregate-fill c = search rules
 
 fill-requires : tie.Need-fill-last-requires
 fill-requires c κs =
-    let pre = c.before.before.before.before.before.before.requires in
-    let wide = c.before.wide.ensures.0 in (
+    let pre = c.requires in
+    let wide = c.wide.ensures.0 in (
       pre.0.well_formed,
       (
         pre.0.indexed,
@@ -61,20 +61,20 @@ asked at = at.before.before.before.before.before.before.before.before.before.bef
 
 -- the automata of the set by their marks
 settled : (at : Ready) → let from = (asked at).args in
-    Settled from.table.now from.set (bit_xor at.before.automata_of-borne.result at.marked-owed.result) at.marked-owed.result
-settled at = settled-by _ (asked at).requires.0.well_formed _ at.before.automata_of-borne.ensures at.marked-owed.ensures
+    Settled from.table.now from.set (bit_xor at.automata_of-borne.result at.marked-owed.result) at.marked-owed.result
+settled at = settled-by _ (asked at).requires.0.well_formed _ at.automata_of-borne.ensures at.marked-owed.ensures
 
 -- the members of the set, as they have been found
 filled : (at : Ready) → let from = (asked at).args in
-    let fill = at.before.before.before.fill-last in
+    let fill = at.fill-last in
     Members from.table.now from.set from.query.depth fill.result fill.new.1.1.1.1.0
 filled at =
     let fill = at.before.before.before in
-    rw fill.before.before.wide.ensures.0 at fill.fill-last.ensures
+    rw fill.wide.ensures.0 at fill.fill-last.ensures
 
 -- a cleared memory, of any length
 cleared : (at : Ready) (memory : List ℕ) → SlotIn memory 0 → Blank memory → let from = (asked at).args in
-    Remembered from.table.now from.set (bit_xor at.before.automata_of-borne.result at.marked-owed.result) at.marked-owed.result
+    Remembered from.table.now from.set (bit_xor at.automata_of-borne.result at.marked-owed.result) at.marked-owed.result
     memory
 cleared at = remembered-none _ _ _ _ (owed-fits (asked at).requires.0.well_formed (settled at))
 

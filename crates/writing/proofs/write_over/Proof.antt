@@ -17,13 +17,13 @@ refused-requires c κs = search rules
 returns : tie.Need-returns-then-not-is_listed
 unfolding number_of
 returns c =
-    let off = failed c.before.before.is_listed.ensures c.before.if-not-is_listed.true in
+    let off = failed c.is_listed.ensures c.if-not-is_listed.true in
     tells-instead _ _ _ _ c.refused.ensures refl (tells-unlisted _ _ _ _ off)
 
 write-listed-requires : tie.Need-write_listed-requires
 write-listed-requires c κs = (
-  c.before.before.before.before.before.before.before.requires,
-  passed c.before.before.is_listed.ensures c.before.if-not-is_listed.false,
+  c.requires,
+  passed c.is_listed.ensures c.if-not-is_listed.false,
 )
 
 same_length : tie.Need-shape_of-rec

@@ -62,7 +62,7 @@ returns c =
     let pre = (asked at).requires.1 in
     let counted = first.from_goal-len.ensures.0 in
     tells-instead _ _ _ _ c.refused.ensures (passed-by counted (cells at))
-    (counted-longer _ pre.1.1.0 _ pre.0 refl counted c.before.if-cells-len.true)
+    (counted-longer _ pre.1.1.0 _ pre.0 refl counted c.if-cells-len.true)
 
 from-goal-requires-2 : tie.Need-from_goal-requires
 from-goal-requires-2 c κs =
@@ -84,7 +84,7 @@ returns-2 c =
     let at = first.before in
     let pre = (asked at).requires.1 in
     let counted = first.from_goal-len.ensures.0 in
-    counted-written _ pre.1.1.0 _ pre.0 refl counted second.before.before.before.if-cells-len.false
+    counted-written _ pre.1.1.0 _ pre.0 refl counted second.if-cells-len.false
     (rw (passed-by counted (cells at)) at second.from_goal.ensures.0)
 
 pub write_settled_spec : {M : Type 1} → statement M

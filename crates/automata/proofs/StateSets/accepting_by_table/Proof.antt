@@ -49,16 +49,16 @@ loop-less c = search rules
 
 loop-again : tie.Need-loop-k-preserved invariant-loop decreases-loop
 loop-again c =
-    let (in-range, so_far) = c.before.before.before.before.before.loop-k.invariant in
-    let read = c.before.before.before.automaton-automaton.ensures in
-    let accepting = c.before.before.states-accepting.ensures in
-    let self = c.before.before.before.before.before.before.before.before.args.t1 in
+    let (in-range, so_far) = c.loop-k.invariant in
+    let read = c.automaton-automaton.ensures in
+    let accepting = c.states-accepting.ensures in
+    let self = c.args.t1 in
     let mask = ⊎_elim (λ w. w.mask-is ∙ w.with_16-mask.ensures ∙ accepting-more _ self _ so_far read (rw accepting at w.if-self-k-ne0.true))
     (λ w. w.mask-is ∙ accepting-same _ self _ so_far read (rw accepting at w.if-self-k-ne0.false)) c.if-self-k-ne0.branch-raw in
     (omega arith, mask)
 
 returns : tie.Need-returns invariant-loop decreases-loop
-returns c = c.before.loop-k.invariant.1 ∙ accepting-all _ _ _ (omega arith)
+returns c = c.loop-k.invariant.1 ∙ accepting-all _ _ _ (omega arith)
 
 pub accepting_by_table_spec : {M : Type 1} → statement M
 accepting_by_table_spec =

@@ -23,7 +23,7 @@ wide at = at.before.before
 
 in-range : (at : tie.After-edge-edge invariant-loop decreases-loop) → let e = at.edge-edge.result in
     Numbered most_automata e.automaton × ((e.from ≤ last_state) × (e.to ≤ last_state))
-in-range at = edge-there _ (loop at).before.before.before.requires _ (omega arith) at.edge-edge.ensures
+in-range at = edge-there _ (loop at).requires _ (omega arith) at.edge-edge.ensures
 
 edges-requires : tie.Need-edges-e-requires invariant-loop decreases-loop
 edges-requires c κs = search rules
@@ -89,7 +89,7 @@ loop-again-2 c =
     (omega arith, moving-past _ _ _ _ _ (loop at).loop-k.inv.1 at.edge-edge.ensures own number gives c.if-to-ne0.false)
 
 returns : tie.Need-returns invariant-loop decreases-loop
-returns c = moving-all _ _ _ _ _ (omega arith) c.before.loop-k.invariant.1
+returns c = moving-all _ _ _ _ _ (omega arith) c.loop-k.invariant.1
 
 pub by_edges_spec : {M : Type 1} → statement M
 by_edges_spec =

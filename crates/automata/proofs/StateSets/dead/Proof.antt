@@ -43,15 +43,15 @@ loop-less c = search rules
 
 loop-again : tie.Need-loop-k-preserved invariant-loop decreases-loop
 loop-again c =
-    let (in-range, so_far) = c.before.before.before.loop-k.invariant in
-    let self = c.before.before.before.before.before.before.args.t1 in
+    let (in-range, so_far) = c.loop-k.invariant in
+    let self = c.args.t1 in
     let mask = ⊎_elim (λ w. w.mask-is ∙ w.with_16-mask.ensures ∙ set_more (is_empty self) _ _ so_far (eq-eqb _ 0 w.if-self-k-eq0.true))
     (λ w. w.mask-is ∙ set-not (is_empty self) _ _ so_far (ne_eqb _ 0 w.if-self-k-eq0.false)) c.if-self-k-eq0.branch-raw in
     (omega arith, mask)
 
 returns : tie.Need-returns invariant-loop decreases-loop
 unfolding dead_set
-returns c = c.before.loop-k.invariant.1 ∙ ap (set_of _) (omega arith)
+returns c = c.loop-k.invariant.1 ∙ ap (set_of _) (omega arith)
 
 pub dead_spec : {M : Type 1} → statement M
 dead_spec =

@@ -43,11 +43,11 @@ loop-less c = search rules
 
 loop-again : tie.Need-loop-k-preserved invariant-loop decreases-loop
 loop-again c =
-    let (in-range, so_far) = c.before.before.before.loop-k.invariant in
-    (omega arith, written-more _ _ so_far (omega arith) (rw (c.states.ensures, c.before.automaton-automaton.ensures)))
+    let (in-range, so_far) = c.loop-k.invariant in
+    (omega arith, written-more _ _ so_far (omega arith) (rw (c.states.ensures, c.automaton-automaton.ensures)))
 
 returns : tie.Need-returns invariant-loop decreases-loop
-returns c = started-all _ _ _ (omega arith) c.before.loop-k.invariant.1
+returns c = started-all _ _ _ (omega arith) c.loop-k.invariant.1
 
 pub start_spec : {M : Type 1} → statement M
 start_spec =

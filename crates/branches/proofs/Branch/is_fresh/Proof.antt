@@ -22,12 +22,12 @@ loop-holds c = (omega arith, refl)
 
 mul-other : tie.Need-offset_bounds-self-i invariant-loop decreases-loop
 mul-other c =
-    let pre = c.before.before.requires in
+    let pre = c.requires in
     omega (arith, pre.fits)
 
 element-copy-out-other : tie.Need-bounds-self-i invariant-loop decreases-loop
 element-copy-out-other c =
-    let pre = c.before.before.requires in
+    let pre = c.requires in
     omega (arith, pre.fits)
 
 same-goal-requires : tie.Need-same_goal-requires invariant-loop decreases-loop
@@ -36,8 +36,8 @@ same-goal-requires c κs = search rules
 returns : tie.Need-returns-then-same_goal invariant-loop decreases-loop
 unfolding above
 returns c =
-    let loop = c.before.before.before.before.loop-i in
-    sym (fresh-not _ _ loop.i _ (omega arith) (sym c.before.same_goal.ensures ∙ c.if-same_goal.true))
+    let loop = c.loop-i in
+    sym (fresh-not _ _ loop.i _ (omega arith) (sym c.same_goal.ensures ∙ c.if-same_goal.true))
 
 add-i : tie.Need-overflow_add-i invariant-loop decreases-loop
 add-i c = search rules
@@ -47,14 +47,14 @@ loop-less c = search rules
 
 loop-again : tie.Need-loop-i-preserved invariant-loop decreases-loop
 loop-again c =
-    let loop = c.before.before.before.before.loop-i in
-    (omega arith, fresh-next _ _ _ loop.invariant.1 (sym c.before.same_goal.ensures ∙ c.if-same_goal.false))
+    let loop = c.loop-i in
+    (omega arith, fresh-next _ _ _ loop.invariant.1 (sym c.same_goal.ensures ∙ c.if-same_goal.false))
 
 returns-2 : tie.Need-returns invariant-loop decreases-loop
 unfolding above
 returns-2 c =
-    let args = c.before.before.args in
-    let all : c.before.loop-i.i ≡ args.t1.len = omega arith in sym (rw all at c.before.loop-i.invariant.1)
+    let args = c.args in
+    let all : c.loop-i.i ≡ args.t1.len = omega arith in sym (rw all at c.loop-i.invariant.1)
 
 pub is_fresh_spec : {M : Type 1} → statement M
 is_fresh_spec =

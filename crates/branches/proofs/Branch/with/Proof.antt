@@ -16,7 +16,7 @@ add-t5 c = search rules
 
 returns : tie.Need-returns
 returns c =
-    let pre = c.before.requires in
+    let pre = c.requires in
     (room-with _ _ pre.0 pre.1, (refl, above-with _ _ pre.0 pre.1))
 
 pub with_spec : {M : Type 1} → statement M

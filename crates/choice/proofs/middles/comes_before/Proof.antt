@@ -25,7 +25,7 @@ credential-requires-2 c κs = search rules
 
 returns-2 : tie.Need-returns
 returns-2 c =
-    before-told _ _ _ (omega arith) _ _ c.before.before.before.credential-one.ensures c.before.before.credential-other.ensures
+    before-told _ _ _ (omega arith) _ _ c.credential-one.ensures c.credential-other.ensures
 
 pub comes_before_spec : {M : Type 1} → statement M
 comes_before_spec =

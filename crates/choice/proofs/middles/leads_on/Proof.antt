@@ -16,7 +16,7 @@ asked-cell-requires c κs = search rules
 goal-search-requires : tie.Need-goal_search-one-requires
 goal-search-requires c κs =
     let cell = c.before in
-    let pre = cell.before.before.before.before.before.before.requires in
+    let pre = cell.requires in
     let middle = pre.1.1.0 in
     let stands = first-stands pre.0 pre.1.0.0 pre.1.0.1 middle.0 middle.1 cell.asked_cell.ensures.0 in
     (pre.0, (stands, pre.1.1.1.1))
@@ -44,7 +44,7 @@ returns c =
     let middle = pre.1.1.0 in
     let (judged, remembered) = at.goal_search-one.ensures in (
       leads-none pre.0 pre.1.0.0 pre.1.0.1 middle.0 middle.1 _ _ _ pre.1.1.1.0
-          at.before.before.asked_cell.ensures.0 (judged-told (wide (asked at)) judged) c.before.is_none.ensures c.if-is_none.true,
+          at.asked_cell.ensures.0 (judged-told (wide (asked at)) judged) c.is_none.ensures c.if-is_none.true,
       remembered,
     )
 
@@ -80,8 +80,8 @@ returns-2 c =
     let middle = pre.1.1.0 in
     let (judged, remembered) = second.goal_search-two.ensures in (
       leads-told pre.0 pre.1.0.0 pre.1.0.1 middle.0 middle.1 _ _ _ pre.1.1.1.0
-          at.before.before.asked_cell.ensures.0 (judged-told (wide (asked at)) at.goal_search-one.ensures.0)
-          second.before.before.link_cell.ensures.0 _ (judged-told (wide (asked at)) judged) c.before.joined-both.ensures c.meets.ensures,
+          at.asked_cell.ensures.0 (judged-told (wide (asked at)) at.goal_search-one.ensures.0)
+          second.link_cell.ensures.0 _ (judged-told (wide (asked at)) judged) c.joined-both.ensures c.meets.ensures,
       remembered,
     )
 

@@ -29,7 +29,7 @@ row-of-requires c κs = search rules
 
 listed-middles-requires : tie.Need-listed_middles-left-requires invariant-loop decreases-loop
 listed-middles-requires c κs =
-    let pre = c.before.before.before.before.before.before.requires in (
+    let pre = c.requires in (
       pre.0.well_formed,
       (
         pre.0.indexed,
@@ -47,7 +47,7 @@ asked at = at.before.before.before.before.before.before.before
 loop-holds : tie.Need-loop-left-init invariant-loop decreases-loop
 loop-holds c =
     let pre = (asked c).requires in (
-      left-first pre.0 pre.1.0.0 pre.1.0.1 _ _ _ _ _ _ _ c.before.row_of-row.ensures c.listed_middles-left.ensures,
+      left-first pre.0 pre.1.0.0 pre.1.0.1 _ _ _ _ _ _ _ c.row_of-row.ensures c.listed_middles-left.ensures,
       (refl, pre.1.1.1.0),
     )
 
@@ -61,14 +61,14 @@ least-named-requires : tie.Need-least_named-j-requires invariant-loop decreases-
 least-named-requires c κs =
     let pre = (asked c.before.before).pre in
     let some = some-leads _ _ _ _ _ pre.1.0.1 pre.1.1.1.1 in
-    let left = c.before.loop-left.invariant.0 in
+    let left = c.loop-left.invariant.0 in
     (pre.0.well_formed, (left.few, left-some _ _ _ left some))
 
 leads-on-requires : tie.Need-leads_on-requires invariant-loop decreases-loop
 leads-on-requires c κs =
     let at = c.before.before.before in
     let pre = (asked at.before).pre in
-    let named = c.before.least_named-j.ensures in
+    let named = c.least_named-j.ensures in
     let (left, (same, remembered)) = at.loop-left.invariant in
     (pre.0, (pre.1.0, ((named.there, left.people _ named.member), (pre.1.1.0, remembered))))
 
@@ -83,13 +83,13 @@ near at =
 
 same_length : tie.Need-shape_of-memory-then-leads_on invariant-loop decreases-loop
 same_length c =
-    c.before.before.memory-1.given ∙ c.before.before.before.before.before.before.before.loop-left.invariant.1.0
+    c.memory-1.given ∙ c.loop-left.invariant.1.0
 
 returns : tie.Need-returns-then-leads_on invariant-loop decreases-loop
 returns c =
     let named = c.before.before.before.before.before in
-    let (leading, remembered) = c.before.before.before.leads_on.ensures in (
-      least-leads _ _ _ named.before.before.loop-left.invariant.0 _ named.least_named-j.ensures (sym leading ∙ c.if-leads_on.true),
+    let (leading, remembered) = c.leads_on.ensures in (
+      least-leads _ _ _ named.loop-left.invariant.0 _ named.least_named-j.ensures (sym leading ∙ c.if-leads_on.true),
       remembered,
     )
 
@@ -102,22 +102,22 @@ shl-left c = omega (arith, near c.before.before.before.before.before)
 loop-less : tie.Need-loop-left-smaller invariant-loop decreases-loop
 loop-less c =
     let named = c.before.before.before.before.before in
-    left_less _ _ _ named.before.before.loop-left.invariant.0 _ named.least_named-j.ensures _ (one_bit 32 _ (near named))
+    left_less _ _ _ named.loop-left.invariant.0 _ named.least_named-j.ensures _ (one_bit 32 _ (near named))
 
 loop-again : tie.Need-loop-left-preserved invariant-loop decreases-loop
 loop-again c =
     let named = c.before.before.before.before.before in
-    let (leading, remembered) = c.before.before.before.leads_on.ensures in (
-      left-next _ _ _ named.before.before.loop-left.invariant.0 _ named.least_named-j.ensures (sym leading ∙ c.if-leads_on.false) _
+    let (leading, remembered) = c.leads_on.ensures in (
+      left-next _ _ _ named.loop-left.invariant.0 _ named.least_named-j.ensures (sym leading ∙ c.if-leads_on.false) _
           (one_bit 32 _ (near named)),
-      (c.before.before.memory-1.given ∙ c.before.before.before.before.before.before.before.loop-left.invariant.1.0, remembered),
+      (c.memory-1.given ∙ c.loop-left.invariant.1.0, remembered),
     )
 
 least-named-requires-2 : tie.Need-least_named-requires invariant-loop decreases-loop
 least-named-requires-2 c κs =
     let pre = (asked c.before.before).pre in
     let some = some-leads _ _ _ _ _ pre.1.0.1 pre.1.1.1.1 in
-    let left = c.before.loop-left.invariant.0 in
+    let left = c.loop-left.invariant.0 in
     (pre.0.well_formed, (left.few, left-some _ _ _ left some))
 
 same-length-2 : tie.Need-shape_of-memory invariant-loop decreases-loop
@@ -129,7 +129,7 @@ returns-2 c =
     let pre = (asked at.before).pre in
     let some = some-leads _ _ _ _ _ pre.1.0.1 pre.1.1.1.1 in
     let (left, (same, remembered)) = at.loop-left.invariant in
-    (only-leads _ _ _ left _ c.least_named.ensures some c.before.loop-left-test.false, remembered)
+    (only-leads _ _ _ left _ c.least_named.ensures some c.loop-left-test.false, remembered)
 
 pub least_middle_spec : {M : Type 1} → statement M
 least_middle_spec =

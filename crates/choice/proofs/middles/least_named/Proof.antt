@@ -37,20 +37,20 @@ loop-again : tie.Need-loop-j-preserved invariant-loop decreases-loop
 loop-again c =
     let loop = c.before.before.before in
     let so_far = loop.loop-j.invariant.1 in
-    let has = sym c.before.has.ensures in
-    let there : loop.loop-j.j < credentials loop.before.before.before.args.table.now =
-    omega (arith, c.before.before.loop-j-test.true, loop.before.credentials-n.ensures.same) in (
+    let has = sym c.has.ensures in
+    let there : loop.loop-j.j < credentials loop.args.table.now =
+    omega (arith, c.loop-j-test.true, loop.credentials-n.ensures.same) in (
       omega arith,
-      ⊎_elim (λ w. rw w.3 (named_here _ _ _ _ so_far there (has ∙ w.0.taken) (sym w.1.ensures ∙ w.2.taken)))
-          (⊎_elim (λ w. rw w.3 (named-kept _ _ _ _ so_far (sym w.1.ensures ∙ w.2.left)))
-          (λ w. rw w.1 (named-out _ _ _ _ so_far (has ∙ w.0.left)))) c.if-has.branch-raw,
+      ⊎_elim (λ w. rw w.3 (named_here _ _ _ _ so_far there (has ∙ w.0.true) (sym w.1.ensures ∙ w.2.true)))
+          (⊎_elim (λ w. rw w.3 (named-kept _ _ _ _ so_far (sym w.1.ensures ∙ w.2.false)))
+          (λ w. rw w.1 (named-out _ _ _ _ so_far (has ∙ w.0.false)))) c.if-has.branch-raw,
     )
 
 returns : tie.Need-returns invariant-loop decreases-loop
 returns c =
-    let loop = c.before.loop-j in
-    let pre = c.before.before.before.before.requires in
-    let all = c.before.before.credentials-n.ensures.same in
+    let loop = c.loop-j in
+    let pre = c.requires in
+    let all = c.credentials-n.ensures.same in
     named-all _ _ _ _ (omega (arith, loop.invariant.0, c.loop-j-test.false, all)) loop.invariant.1 pre.1.0 pre.1.1
 
 pub least_named_spec : {M : Type 1} → statement M

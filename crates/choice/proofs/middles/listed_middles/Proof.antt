@@ -37,8 +37,8 @@ is-middle-requires c κs =
     let start = loop.before.before.before.before.before.before in
     let pre = start.requires in
     let there : loop.loop-j.j < credentials start.args.table.now =
-    omega (arith, c.before.loop-j-test.true, loop.before.before.credentials-n.ensures.same) in
-    let first = loop.before.asked_cell-first.ensures.1 in
+    omega (arith, c.loop-j-test.true, loop.credentials-n.ensures.same) in
+    let first = loop.asked_cell-first.ensures.1 in
     (pre.0, (pre.1.0, (pre.1.1.0, ((pre.1.1.1.0, there), (first, c.link_cell-second.ensures.1)))))
 
 with-requires : tie.Need-with-found-requires invariant-loop decreases-loop
@@ -53,9 +53,9 @@ loop-less c = search rules
 loop-again : tie.Need-loop-j-preserved invariant-loop decreases-loop
 loop-again c =
     let at = c.before in
-    let loop = at.before.before.before.loop-j in
-    let first = at.before.before.before.before.asked_cell-first.ensures.0 in
-    let second = at.before.link_cell-second.ensures.0 in
+    let loop = at.loop-j in
+    let first = at.asked_cell-first.ensures.0 in
+    let second = at.link_cell-second.ensures.0 in
     let told = at.is_middle.ensures in (
       omega arith,
       ⊎_elim (λ w. w.found-is ∙ w.with-found.ensures ∙ listed_more _ _ _ _ _ _ _ _ _ _ loop.invariant.1 first second told w.if-is_middle.true)
@@ -64,9 +64,9 @@ loop-again c =
 
 returns : tie.Need-returns invariant-loop decreases-loop
 returns c =
-    let loop = c.before.loop-j in
-    let all : loop.j ≡ c.before.before.before.credentials-n.result = omega arith in
-    loop.invariant.1 ∙ ap (listed_middles _ _ _ _ _ _) (all ∙ c.before.before.before.credentials-n.ensures.same)
+    let loop = c.loop-j in
+    let all : loop.j ≡ c.credentials-n.result = omega arith in
+    loop.invariant.1 ∙ ap (listed_middles _ _ _ _ _ _) (all ∙ c.credentials-n.ensures.same)
 
 pub listed_middles_spec : {M : Type 1} → statement M
 listed_middles_spec =

@@ -13,11 +13,11 @@ not-applying-requires : tie.Need-not_applying-requires
 not-applying-requires c κs = search rules
 
 returns : tie.Need-returns-then-middle-ne0
-returns c = answer-is c.not_applying.ensures (when-off _ (ne_eqb _ 0 c.before.if-middle-ne0.true))
+returns c = answer-is c.not_applying.ensures (when-off _ (ne_eqb _ 0 c.if-middle-ne0.true))
 
 returns-2 : tie.Need-returns
 unfolding given pick
-returns-2 c = (record { fits = omega arith; size = refl }, when-on _ (eq-eqb _ 0 c.before.if-middle-ne0.false))
+returns-2 c = (record { fits = omega arith; size = refl }, when-on _ (eq-eqb _ 0 c.if-middle-ne0.false))
 
 pub containment_spec : {M : Type 1} → statement M
 containment_spec = tie.close (tie.spec not-applying-requires returns returns-2)

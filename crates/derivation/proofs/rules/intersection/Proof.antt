@@ -21,7 +21,7 @@ not-applying-requires : tie.Need-not_applying-requires invariant-loop decreases-
 not-applying-requires c κs = search rules
 
 returns : tie.Need-returns-then-middle-ne0 invariant-loop decreases-loop
-returns c = answer-is c.not_applying.ensures (when-off _ (ne_eqb _ 0 c.before.if-middle-ne0.true))
+returns c = answer-is c.not_applying.ensures (when-off _ (ne_eqb _ 0 c.if-middle-ne0.true))
 
 loop-holds : tie.Need-loop-i-init invariant-loop decreases-loop
 loop-holds c = (omega arith, asked-none _ _ _ refl)
@@ -31,7 +31,7 @@ mul-role c = search rules
 
 element-copy-out-role : tie.Need-bounds-chain-i invariant-loop decreases-loop
 element-copy-out-role c =
-    let pre = c.before.before.before.before.requires in
+    let pre = c.requires in
     omega (arith, pre.0)
 
 mul-goals : tie.Need-offset_bounds-goals-i invariant-loop decreases-loop
@@ -39,7 +39,7 @@ mul-goals c = search rules
 
 array-set-from-goals : tie.Need-bounds-goals-i invariant-loop decreases-loop
 array-set-from-goals c =
-    let pre = c.before.before.before.before.before.requires in
+    let pre = c.requires in
     omega (arith, pre.0)
 
 add-i : tie.Need-overflow_add-i invariant-loop decreases-loop
@@ -50,17 +50,17 @@ loop-less c = search rules
 
 loop-again : tie.Need-loop-i-preserved invariant-loop decreases-loop
 loop-again c =
-    let loop = c.before.before.before.loop-i in
-    let pre = c.before.before.before.before.before.requires in
+    let loop = c.loop-i in
+    let pre = c.requires in
     (omega arith, asked-more _ _ _ _ _ loop.invariant.1 (omega (arith, pre.0)) (omega (arith, pre.0, pre.1)))
 
 returns-2 : tie.Need-returns invariant-loop decreases-loop
 unfolding given pick
 returns-2 c =
-    let loop = c.before.loop-i in
+    let loop = c.loop-i in
     let start = c.before.before.before in
     let all = asked-all _ _ _ loop.i start.args.t1.len (omega arith) loop.invariant.1 in
-    let none = eq-eqb _ 0 c.before.before.if-middle-ne0.false in
+    let none = eq-eqb _ 0 c.if-middle-ne0.false in
     (record { fits = start.requires.0; size = loop.invariant.1.size }, ap some all ∙ when-on _ none)
 
 pub intersection_spec : {M : Type 1} → statement M

@@ -14,20 +14,20 @@ not-applying-requires : tie.Need-not_applying-requires
 not-applying-requires c κs = search rules
 
 returns : tie.Need-returns-then-c-goal
-returns c = answer-is c.not_applying.ensures (when-off _ (and-is-off _ (ne_eqb _ _ c.before.if-c-goal.true)))
+returns c = answer-is c.not_applying.ensures (when-off _ (and-is-off _ (ne_eqb _ _ c.if-c-goal.true)))
 
 not-applying-requires-2 : tie.Need-not_applying-requires-then-middle-ne0
 not-applying-requires-2 c κs = search rules
 
 returns-2 : tie.Need-returns-then-middle-ne0
 returns-2 c =
-    let both = and_is (eq-eqb _ _ c.before.before.if-c-goal.false) (ne_eqb _ 0 c.before.if-middle-ne0.true) in
+    let both = and_is (eq-eqb _ _ c.if-c-goal.false) (ne_eqb _ 0 c.if-middle-ne0.true) in
     answer-is c.not_applying-then-middle-ne0.ensures (when-off _ both)
 
 returns-3 : tie.Need-returns
 unfolding given pick
 returns-3 c =
-    let both = and_is (eq-eqb _ _ c.before.if-c-goal.false) (eq-eqb _ 0 c.if-middle-ne0.false) in
+    let both = and_is (eq-eqb _ _ c.if-c-goal.false) (eq-eqb _ 0 c.if-middle-ne0.false) in
     (record { fits = omega arith; size = refl }, when-on _ both)
 
 pub membership_spec : {M : Type 1} → statement M

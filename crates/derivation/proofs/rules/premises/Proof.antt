@@ -20,13 +20,13 @@ abbrev start : tie.After-credential-credential → tie.Start
 start at = at.before.before.before.before.before
 
 may : (at : tie.After-credential-credential) → usable (start at).args.table.now (start at).args.c ≡ true
-may at = passed at.before.before.before.usable.ensures at.before.before.if-not-usable.false
+may at = passed at.usable.ensures at.if-not-usable.false
 
 there : (at : tie.After-credential-credential) → Numbered (credentials (start at).args.table.now) (start at).args.c
 there at = usable-numbered _ _ (may at)
 
 found : (at : tie.After-credential-credential) → at.credential-credential.result ≡ credential (start at).args.table.now (start at).args.c
-found at = at.credential-credential.ensures ∙ ap (credential _) at.before.wide.ensures.0
+found at = at.credential-credential.ensures ∙ ap (credential _) at.wide.ensures.0
 
 -- where its role is the goal's, what it asks are the premises
 own : (at : tie.Else-not-same) → let read = at.before.before in
@@ -35,7 +35,7 @@ own : (at : tie.Else-not-same) → let read = at.before.before in
     ≡ premises from.table.now from.goal from.c from.middle
 own at =
     let read = at.before.before in
-    own-role _ _ _ _ (may read) _ (found read) (passed at.before.same.ensures at.if-not-same.false)
+    own-role _ _ _ _ (may read) _ (found read) (passed at.same.ensures at.if-not-same.false)
 
 usable-requires : tie.Need-usable-requires
 usable-requires c κs = search rules
@@ -45,14 +45,14 @@ not-applying-requires c κs = search rules
 
 returns : tie.Need-returns-then-not-usable
 returns c =
-    answer-is c.not_applying.ensures (not-usable _ _ _ _ (failed c.before.before.usable.ensures c.before.if-not-usable.true))
+    answer-is c.not_applying.ensures (not-usable _ _ _ _ (failed c.usable.ensures c.if-not-usable.true))
 
 wide-requires : tie.Need-wide-requires
 wide-requires c κs = search rules
 
 credential-requires : tie.Need-credential-credential-requires
 credential-requires c κs =
-    let may = passed c.before.before.usable.ensures c.before.if-not-usable.false in
+    let may = passed c.usable.ensures c.if-not-usable.false in
     let there = usable-numbered _ _ may in
     search rules
 
@@ -65,7 +65,7 @@ not-applying-requires-2 c κs = search rules
 returns-2 : tie.Need-returns-then-not-same
 returns-2 c =
     let read = c.before.before.before in
-    let other = failed c.before.before.same.ensures c.before.if-not-same.true in
+    let other = failed c.same.ensures c.if-not-same.true in
     answer-is c.not_applying-then-not-same.ensures (other-role _ _ _ _ (may read) _ (found read) other)
 
 membership-requires : tie.Need-membership-requires
@@ -90,25 +90,25 @@ not-applying-requires-3 : tie.Need-not_applying-requires-in_default
 not-applying-requires-3 c κs = search rules
 
 returns-3 : tie.Need-returns-in-1
-returns-3 c = answer-is c.membership.ensures (asks-1 _ _ _ _ c.before.in-1.is ∙ own c.before.before)
+returns-3 c = answer-is c.membership.ensures (asks-1 _ _ _ _ c.in-1.is ∙ own c.before.before)
 
 returns-4 : tie.Need-returns-in-2
-returns-4 c = answer-is c.containment.ensures (asks-2 _ _ _ _ c.before.in-2.is ∙ own c.before.before)
+returns-4 c = answer-is c.containment.ensures (asks-2 _ _ _ _ c.in-2.is ∙ own c.before.before)
 
 returns-5 : tie.Need-returns-in-3
-returns-5 c = answer-is c.linking.ensures (asks-3 _ _ _ _ c.before.in-3.is ∙ own c.before.before)
+returns-5 c = answer-is c.linking.ensures (asks-3 _ _ _ _ c.in-3.is ∙ own c.before.before)
 
 returns-6 : tie.Need-returns-in-4
 returns-6 c =
     let args = (start c.before.before.before.before.before).args in
-    let chain = c.before.chain.ensures.roles in
+    let chain = c.chain.ensures.roles in
     let parts = ap (λ (roles : List Role). intersection_asks args.goal roles args.middle) chain in
-    let asked = asks-4 _ _ _ _ c.before.before.in-4.is in
+    let asked = asks-4 _ _ _ _ c.in-4.is in
     answer-is c.intersection.ensures (parts ∙ asked ∙ own c.before.before.before)
 
 returns-7 : tie.Need-returns-in_default
 returns-7 c =
-    let no = c.before.in_default.rest in
+    let no = c.in_default.in_default-own.rest in
     let nothing = asks_none _ _ _ _ no.0.0.0.1 no.0.0.1 no.0.1 no.1 in
     answer-is c.not_applying-in_default.ensures (nothing ∙ own c.before.before)
 

@@ -16,7 +16,7 @@ credentials-requires : tie.Need-credentials-requires
 credentials-requires c κs = search rules
 
 returns : tie.Need-returns-then-c-ne0
-returns c = ap₂ leb c.before.wide.ensures.0 c.credentials.ensures.same ∙ usable-under _ _ c.before.before.if-c-ne0.true
+returns c = ap₂ leb c.wide.ensures.0 c.credentials.ensures.same ∙ usable-under _ _ c.if-c-ne0.true
 
 returns-2 : tie.Need-returns-else-c-ne0
 returns-2 c = ap not (eq-eqb _ 0 c.if-c-ne0.false) ∙ zero-unusable _ _ c.if-c-ne0.false

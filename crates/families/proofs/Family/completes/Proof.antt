@@ -22,12 +22,12 @@ loop-holds : tie.Need-loop-more-init invariant-loop decreases-loop
 loop-holds c = sought-none _ _ _ c.next-more.ensures
 
 has-requires : tie.Need-has-requires invariant-loop decreases-loop
-has-requires c κs = or_lt 8 _ _ c.before.before.before.requires c.loop-more-test.true
+has-requires c κs = or_lt 8 _ _ c.requires c.loop-more-test.true
 
 returns : tie.Need-returns-then-has invariant-loop decreases-loop
 unfolding completes
 returns c =
-    sym (sought-here _ _ _ c.before.before.before.loop-more.invariant (omega arith) (sym c.before.has.ensures ∙ c.if-has.true))
+    sym (sought-here _ _ _ c.loop-more.invariant (omega arith) (sym c.has.ensures ∙ c.if-has.true))
 
 add-next : tie.Need-overflow_add-more invariant-loop decreases-loop
 add-next c = search rules
@@ -40,12 +40,12 @@ loop-less c = omega (arith, c.next-more-in-loop-more.ensures.later)
 
 loop-again : tie.Need-loop-more-preserved invariant-loop decreases-loop
 loop-again c =
-    sought-next _ _ _ _ c.before.before.before.before.loop-more.invariant c.next-more-in-loop-more.ensures
-    (sym c.before.before.has.ensures ∙ c.before.if-has.false)
+    sought-next _ _ _ _ c.loop-more.invariant c.next-more-in-loop-more.ensures
+    (sym c.has.ensures ∙ c.if-has.false)
 
 returns-2 : tie.Need-returns invariant-loop decreases-loop
 unfolding completes
-returns-2 c = sym (sought-all _ _ _ c.before.loop-more.invariant (omega arith))
+returns-2 c = sym (sought-all _ _ _ c.loop-more.invariant (omega arith))
 
 pub completes_spec : {M : Type 1} → statement M
 completes_spec =

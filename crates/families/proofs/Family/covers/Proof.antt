@@ -8,7 +8,7 @@ is-none-requires : tie.Need-is_none-requires
 is-none-requires c κs = search rules
 
 returns : tie.Need-returns-then-set-eq0
-returns c = rw c.before.if-set-eq0.true (covers-empty _ c.is_none.ensures)
+returns c = rw c.if-set-eq0.true (covers-empty _ c.is_none.ensures)
 
 raised-requires : tie.Need-raised-requires
 raised-requires c κs = search rules
@@ -17,7 +17,7 @@ meets-requires : tie.Need-meets-requires
 meets-requires c κs = search rules
 
 returns-2 : tie.Need-returns
-returns-2 c = covers-raised _ _ _ c.before.raised.ensures c.meets.ensures
+returns-2 c = covers-raised _ _ _ c.raised.ensures c.meets.ensures
 
 pub covers_spec : {M : Type 1} → statement M
 covers_spec =

@@ -41,10 +41,10 @@ loop-less : tie.Need-loop-j-smaller invariant-loop decreases-loop
 loop-less c = search rules
 
 loop-again : tie.Need-loop-j-preserved invariant-loop decreases-loop
-loop-again c = (omega arith, within-next _ _ _ c.before.before.before.before.loop-j.invariant.1 c.if-word-other.false)
+loop-again c = (omega arith, within-next _ _ _ c.loop-j.invariant.1 c.if-word-other.false)
 
 returns-2 : tie.Need-returns invariant-loop decreases-loop
-returns-2 c = within_all _ _ _ c.before.loop-j.invariant.1 (omega arith)
+returns-2 c = within_all _ _ _ c.loop-j.invariant.1 (omega arith)
 
 pub is_part_spec : {M : Type 1} → statement M
 is_part_spec =

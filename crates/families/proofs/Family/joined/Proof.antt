@@ -21,7 +21,7 @@ next-requires : tie.Need-next-set-requires invariant-loop decreases-loop
 next-requires c κs = search rules
 
 loop-holds : tie.Need-loop-set-init invariant-loop decreases-loop
-loop-holds c = gathered_none _ _ _ _ c.next-set.ensures c.before.none-all.ensures
+loop-holds c = gathered_none _ _ _ _ c.next-set.ensures c.none-all.ensures
 
 raised-requires : tie.Need-raised-requires invariant-loop decreases-loop
 raised-requires c κs = search rules
@@ -40,12 +40,12 @@ loop-less c = omega (arith, c.next-set-in-loop-set.ensures.later)
 
 loop-again : tie.Need-loop-set-preserved invariant-loop decreases-loop
 loop-again c =
-    gathered_next _ _ _ _ _ _ c.before.before.before.before.loop-set.invariant (omega arith) c.next-set-in-loop-set.ensures
-    (or-made _ _ _ _ c.before.before.raised.ensures c.before.or-all.ensures)
+    gathered_next _ _ _ _ _ _ c.loop-set.invariant (omega arith) c.next-set-in-loop-set.ensures
+    (or-made _ _ _ _ c.raised.ensures c.or-all.ensures)
 
 returns : tie.Need-returns invariant-loop decreases-loop
 unfolding joins
-returns c = gathered-all _ _ _ _ c.before.loop-set.invariant (omega arith)
+returns c = gathered-all _ _ _ _ c.loop-set.invariant (omega arith)
 
 pub joined_spec : {M : Type 1} → statement M
 joined_spec =

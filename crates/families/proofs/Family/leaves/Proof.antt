@@ -13,7 +13,7 @@ completes-requires c κs = search rules
 
 returns : tie.Need-returns-then-set-most
 unfolding leaves part
-returns c = c.completes.ensures ∙ and-on (eq-eqb _ _ c.before.if-set-most.true)
+returns c = c.completes.ensures ∙ and-on (eq-eqb _ _ c.if-set-most.true)
 
 returns-2 : tie.Need-returns-else-set-most
 unfolding leaves part

@@ -35,15 +35,15 @@ loop-less c = search rules
 
 loop-again : tie.Need-loop-set-preserved invariant-loop decreases-loop
 loop-again c =
-    let told = sym c.before.leaves.ensures in
-    let so_far = c.before.before.before.loop-set.invariant.1 in (
+    let told = sym c.leaves.ensures in
+    let so_far = c.loop-set.invariant.1 in (
       omega arith,
       ⊎_elim (λ w. rw w.left-is (taken-one _ _ _ so_far _ (told ∙ w.if-leaves.true) w.with-left.ensures))
           (λ w. rw w.left-is (taken_not _ _ _ so_far (told ∙ w.if-leaves.false))) c.if-leaves.branch-raw,
     )
 
 returns : tie.Need-returns invariant-loop decreases-loop
-returns c = left-all _ _ _ _ _ c.before.loop-set.invariant.1 (omega arith)
+returns c = left-all _ _ _ _ _ c.loop-set.invariant.1 (omega arith)
 
 pub left_by_spec : {M : Type 1} → statement M
 left_by_spec =

@@ -42,10 +42,10 @@ loop-less : tie.Need-loop-j-smaller invariant-loop decreases-loop
 loop-less c = search rules
 
 loop-again : tie.Need-loop-j-preserved invariant-loop decreases-loop
-loop-again c = (omega arith, meets-not _ _ _ c.before.before.before.before.loop-j.invariant.1 c.if-self-j-ne0.false)
+loop-again c = (omega arith, meets-not _ _ _ c.loop-j.invariant.1 c.if-self-j-ne0.false)
 
 returns-2 : tie.Need-returns invariant-loop decreases-loop
-returns-2 c = sym (any-all (common _ _) _ _ (omega arith) c.before.loop-j.invariant.1)
+returns-2 c = sym (any-all (common _ _) _ _ (omega arith) c.loop-j.invariant.1)
 
 pub meets_spec : {M : Type 1} → statement M
 meets_spec =

@@ -33,7 +33,7 @@ shr-rest : tie.Need-overflow_shr-rest invariant-loop decreases-loop
 shr-rest c = search rules
 
 returns : tie.Need-returns-then-rest-eq1 invariant-loop decreases-loop
-returns c = next_here _ _ _ _ c.before.before.before.loop-set.invariant (omega arith) refl c.if-rest-eq1.true
+returns c = next_here _ _ _ _ c.loop-set.invariant (omega arith) refl c.if-rest-eq1.true
 
 add-set : tie.Need-overflow_add-set invariant-loop decreases-loop
 add-set c = search rules
@@ -48,16 +48,16 @@ loop-less : tie.Need-loop-set-smaller-then-rest-eq0 invariant-loop decreases-loo
 loop-less c = search rules
 
 loop-again : tie.Need-loop-set-preserved-then-rest-eq0 invariant-loop decreases-loop
-loop-again c = passed-word _ _ _ _ c.before.before.before.before.loop-set.invariant (omega arith) refl c.if-rest-eq0.true
+loop-again c = passed-word _ _ _ _ c.loop-set.invariant (omega arith) refl c.if-rest-eq0.true
 
 loop-less-2 : tie.Need-loop-set-smaller invariant-loop decreases-loop
 loop-less-2 c = search rules
 
 loop-again-2 : tie.Need-loop-set-preserved invariant-loop decreases-loop
-loop-again-2 c = passed-one _ _ _ _ c.before.before.before.before.loop-set.invariant (omega arith) refl c.before.if-rest-eq1.false
+loop-again-2 c = passed-one _ _ _ _ c.loop-set.invariant (omega arith) refl c.if-rest-eq1.false
 
 returns-2 : tie.Need-returns invariant-loop decreases-loop
-returns-2 c = next-none _ _ _ c.before.loop-set.invariant (omega arith)
+returns-2 c = next-none _ _ _ c.loop-set.invariant (omega arith)
 
 pub next_spec : {M : Type 1} → statement M
 next_spec =

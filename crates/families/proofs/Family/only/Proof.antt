@@ -11,7 +11,7 @@ with-requires : tie.Need-with-requires
 with-requires c κs = search rules
 
 returns : tie.Need-returns
-returns c = only_one _ _ _ c.before.none.ensures c.with.ensures
+returns c = only_one _ _ _ c.none.ensures c.with.ensures
 
 pub only_spec : {M : Type 1} → statement M
 only_spec = tie.close (tie.spec none-requires with-requires returns)

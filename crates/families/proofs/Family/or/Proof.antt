@@ -44,10 +44,10 @@ loop-less : tie.Need-loop-j-smaller invariant-loop decreases-loop
 loop-less c = search rules
 
 loop-again : tie.Need-loop-j-preserved invariant-loop decreases-loop
-loop-again c = (omega arith, made-next _ _ _ _ c.before.before.before.loop-j.invariant.1 (omega arith) (or_word _ _ _))
+loop-again c = (omega arith, made-next _ _ _ _ c.loop-j.invariant.1 (omega arith) (or_word _ _ _))
 
 returns : tie.Need-returns invariant-loop decreases-loop
-returns c = made_all _ _ _ c.before.loop-j.invariant.1 (omega arith)
+returns c = made_all _ _ _ c.loop-j.invariant.1 (omega arith)
 
 pub or_spec : {M : Type 1} → statement M
 or_spec =

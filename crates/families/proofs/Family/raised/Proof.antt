@@ -19,15 +19,11 @@ cast-high c = search rules
 loop-holds : tie.Need-loop-j-init invariant-loop decreases-loop
 loop-holds c = (omega arith, raised-none _ _)
 
--- the word in hand goes to one of the eight
-inside : (at : tie.In-loop-j invariant-loop decreases-loop) → goes_to at.before.before.args.set at.before.loop-j.j < family_words
-inside at = goes-inside _ _ at.before.before.requires at.loop-j-test.true
-
 mul_words : tie.Need-offset_bounds-words-at invariant-loop decreases-loop
-mul_words c = record { fits = omega (arith, inside c) }
+mul_words c = record { fits = omega (arith, goes-inside _ _ c.requires c.loop-j-test.true) }
 
 array-read-words : tie.Need-bounds-words-at invariant-loop decreases-loop
-array-read-words c = omega (arith, inside c, c.before.loop-j.invariant.1.room)
+array-read-words c = omega (arith, goes-inside _ _ c.requires c.loop-j-test.true, c.loop-j.invariant.1.room)
 
 mul-spread : tie.Need-offset_bounds-self-j invariant-loop decreases-loop
 mul-spread c = search rules
@@ -39,10 +35,10 @@ spread-requires : tie.Need-spread-requires invariant-loop decreases-loop
 spread-requires c κs = search rules
 
 mul-words-2 : tie.Need-offset_bounds-words-at-in-loop-j invariant-loop decreases-loop
-mul-words-2 c = record { fits = omega (arith, inside c.before.before) }
+mul-words-2 c = record { fits = omega (arith, goes-inside _ _ c.requires c.loop-j-test.true) }
 
 array-write-words : tie.Need-bounds-words-at-in-loop-j invariant-loop decreases-loop
-array-write-words c = omega (arith, inside c.before.before, c.before.before.before.loop-j.invariant.1.room)
+array-write-words c = omega (arith, goes-inside _ _ c.requires c.loop-j-test.true, c.loop-j.invariant.1.room)
 
 add-j : tie.Need-overflow_add-j invariant-loop decreases-loop
 add-j c = search rules
@@ -53,10 +49,10 @@ loop-less c = search rules
 loop-again : tie.Need-loop-j-preserved invariant-loop decreases-loop
 loop-again c =
     let at = c.before.before.before in
-    (omega arith, raised-next _ _ _ _ _ at.before.requires (omega arith) at.loop-j.invariant.1 c.spread.ensures)
+    (omega arith, raised-next _ _ _ _ _ at.requires (omega arith) at.loop-j.invariant.1 c.spread.ensures)
 
 returns : tie.Need-returns invariant-loop decreases-loop
-returns c = raised_all _ _ _ _ c.before.loop-j.invariant.1 (omega arith)
+returns c = raised_all _ _ _ _ c.loop-j.invariant.1 (omega arith)
 
 pub raised_spec : {M : Type 1} → statement M
 raised_spec =

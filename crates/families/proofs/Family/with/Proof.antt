@@ -27,7 +27,7 @@ array-write-words : tie.Need-bounds-words-at-2
 array-write-words c = search rules
 
 returns : tie.Need-returns
-returns c = one_more _ _ c.before.before.requires (search rules) _ c.with.ensures
+returns c = one_more _ _ c.requires (search rules) _ c.with.ensures
 
 pub with_spec : {M : Type 1} → statement M
 with_spec =

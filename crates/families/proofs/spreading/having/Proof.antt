@@ -25,7 +25,7 @@ returns-4 c = having-is _ 3 _ c.in-3.is refl
 
 returns-5 : tie.Need-returns-in_default
 unfolding set_of in_set pick
-returns-5 c = having-is c.before.args.i 4 _ (omega arith) refl
+returns-5 c = having-is c.args.i 4 _ (omega arith) refl
 
 pub having_spec : {M : Type 1} → statement M
 having_spec = tie.close (tie.spec returns returns-2 returns-3 returns-4 returns-5)

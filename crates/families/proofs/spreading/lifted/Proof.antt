@@ -19,11 +19,11 @@ shl-result c = search rules
 
 shl-result-2 : tie.Need-overflow_shl-result-2
 shl-result-2 c =
-    let i = c.before.args.i in
-    rw (one_bit 32 i (omega arith)) (pow-lt {i = i} {j = word_bits} c.before.requires)
+    let i = c.args.i in
+    rw (one_bit 32 i (omega arith)) (pow-lt {i = i} {j = word_bits} c.requires)
 
 returns : tie.Need-returns
-returns c = rw (one_bit 32 c.before.args.i (omega arith)) (lifted-spread _ _ _ c.having.ensures)
+returns c = rw (one_bit 32 c.args.i (omega arith)) (lifted-spread _ _ _ c.having.ensures)
 
 pub lifted_spec : {M : Type 1} → statement M
 lifted_spec = tie.close (tie.spec having-requires cast-result shl-result shl-result-2 returns)

@@ -32,15 +32,15 @@ loop-less c = search rules
 
 loop-again : tie.Need-loop-i-preserved invariant-loop decreases-loop
 loop-again c =
-    let so_far = c.before.before.before.loop-i.invariant.1 in
-    let told = sym c.before.has_16.ensures in (
+    let so_far = c.loop-i.invariant.1 in
+    let told = sym c.has_16.ensures in (
       omega arith,
       ⊎_elim (λ w. rw w.all-is (spread-more _ _ _ _ so_far _ (told ∙ w.if-has_16.true) w.lifted-all.ensures))
           (λ w. rw w.all-is (spread-not _ _ _ _ so_far (told ∙ w.if-has_16.false))) c.if-has_16.branch-raw,
     )
 
 returns : tie.Need-returns invariant-loop decreases-loop
-returns c = spread-all _ _ _ _ c.before.before.requires (omega arith) c.before.loop-i.invariant.1
+returns c = spread-all _ _ _ _ c.requires (omega arith) c.loop-i.invariant.1
 
 pub spread_spec : {M : Type 1} → statement M
 spread_spec =

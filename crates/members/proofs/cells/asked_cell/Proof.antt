@@ -19,10 +19,10 @@ shared-slice-read-result : tie.Need-bounds-index-i
 shared-slice-read-result c = search rules
 
 cast-result : tie.Need-overflow_cast-result
-cast-result c = omega (arith, c.before.requires.0.small (asked_cell c.before.args.i c.before.args.k))
+cast-result c = omega (arith, c.requires.0.small (asked_cell c.args.i c.args.k))
 
 returns : tie.Need-returns
-returns c = (refl, c.before.requires.0.small (asked_cell c.before.args.i c.before.args.k))
+returns c = (refl, c.requires.0.small (asked_cell c.args.i c.args.k))
 
 pub asked_cell_spec : {M : Type 1} → statement M
 asked_cell_spec =

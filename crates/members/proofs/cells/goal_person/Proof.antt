@@ -10,10 +10,10 @@ shared-slice-read-result : tie.Need-bounds-index-501
 shared-slice-read-result c = search rules
 
 cast-result : tie.Need-overflow_cast-result
-cast-result c = omega (arith, c.before.requires.small goal_person)
+cast-result c = omega (arith, c.requires.small goal_person)
 
 returns : tie.Need-returns
-returns c = (refl, c.before.requires.small goal_person)
+returns c = (refl, c.requires.small goal_person)
 
 pub goal_person_spec : {M : Type 1} → statement M
 goal_person_spec = tie.close (tie.spec shared-slice-read-result cast-result returns)

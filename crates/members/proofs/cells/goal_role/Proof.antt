@@ -10,10 +10,10 @@ shared-slice-read-result : tie.Need-bounds-index-500
 shared-slice-read-result c = search rules
 
 cast-result : tie.Need-overflow_cast-result
-cast-result c = omega (arith, c.before.requires.small goal_role)
+cast-result c = omega (arith, c.requires.small goal_role)
 
 returns : tie.Need-returns
-returns c = (refl, c.before.requires.small goal_role)
+returns c = (refl, c.requires.small goal_role)
 
 pub goal_role_spec : {M : Type 1} → statement M
 goal_role_spec = tie.close (tie.spec shared-slice-read-result cast-result returns)

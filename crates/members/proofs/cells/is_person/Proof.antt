@@ -12,16 +12,16 @@ credential-requires : tie.Need-credential-credential-requires
 credential-requires c κs = search rules
 
 returns : tie.Need-returns-then-credential-ne-SIMPLE_MEMBERSHIP
-returns c = no-person _ _ _ c.before.before.credential-credential.ensures c.if-credential-ne-SIMPLE_MEMBERSHIP.true
+returns c = no-person _ _ _ c.credential-credential.ensures c.if-credential-ne-SIMPLE_MEMBERSHIP.true
 
 asked-cell-requires : tie.Need-asked_cell-requires
 asked-cell-requires c κs = search rules
 
 returns-2 : tie.Need-returns
 returns-2 c =
-    let credential = c.before.before.before.credential-credential in
-    let pre = c.before.before.before.before.before.before.requires in
-    person-here _ _ _ credential.ensures _ pre.1.0 pre.1.1 c.before.if-credential-ne-SIMPLE_MEMBERSHIP.false _ c.asked_cell.ensures.0
+    let credential = c.credential-credential in
+    let pre = c.requires in
+    person-here _ _ _ credential.ensures _ pre.1.0 pre.1.1 c.if-credential-ne-SIMPLE_MEMBERSHIP.false _ c.asked_cell.ensures.0
 
 pub is_person_spec : {M : Type 1} → statement M
 is_person_spec =

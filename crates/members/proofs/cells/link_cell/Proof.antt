@@ -19,10 +19,10 @@ shared-slice-read-result : tie.Need-bounds-index-i
 shared-slice-read-result c = search rules
 
 cast-result : tie.Need-overflow_cast-result
-cast-result c = omega (arith, c.before.requires.0.small (link_cell c.before.args.i c.before.args.j))
+cast-result c = omega (arith, c.requires.0.small (link_cell c.args.i c.args.j))
 
 returns : tie.Need-returns
-returns c = (refl, c.before.requires.0.small (link_cell c.before.args.i c.before.args.j))
+returns c = (refl, c.requires.0.small (link_cell c.args.i c.args.j))
 
 pub link_cell_spec : {M : Type 1} → statement M
 link_cell_spec =

@@ -13,10 +13,10 @@ shared-slice-read-result : tie.Need-bounds-index-i
 shared-slice-read-result c = search rules
 
 cast-result : tie.Need-overflow_cast-result
-cast-result c = omega (arith, c.before.requires.0.small (role_cell c.before.args.i))
+cast-result c = omega (arith, c.requires.0.small (role_cell c.args.i))
 
 returns : tie.Need-returns
-returns c = (refl, c.before.requires.0.small (role_cell c.before.args.i))
+returns c = (refl, c.requires.0.small (role_cell c.args.i))
 
 pub role_cell_spec : {M : Type 1} → statement M
 role_cell_spec = tie.close (tie.spec mul-result shared-slice-read-result cast-result returns)

@@ -10,7 +10,7 @@ enum_told c = search rules
 
 credential-requires : tie.Need-credential-requires
 unfolding records
-credential-requires c κs = let pre = c.before.before.before.requires in (pre.0, rw c.in-Credentials.is at pre.1)
+credential-requires c κs = let pre = c.requires in (pre.0, rw c.in-Credentials.is at pre.1)
 
 cells-requires : tie.Need-cells-requires
 cells-requires c κs = search rules
@@ -26,7 +26,7 @@ enum-told-2 c = search rules
 
 cell-requires : tie.Need-cell-requires
 unfolding records
-cell-requires c κs = let pre = c.before.before.before.requires in (pre.0, rw c.in-Cells.is at pre.1)
+cell-requires c κs = let pre = c.requires in (pre.0, rw c.in-Cells.is at pre.1)
 
 cells-requires-2 : tie.Need-cells-requires-in-Cells
 cells-requires-2 c κs = search rules
@@ -39,7 +39,7 @@ enum-told-3 c = search rules
 
 edge-requires : tie.Need-edge-requires
 unfolding records
-edge-requires c κs = let pre = c.before.before.before.requires in (pre.0, rw c.in-Edges.is at pre.1)
+edge-requires c κs = let pre = c.requires in (pre.0, rw c.in-Edges.is at pre.1)
 
 automata-requires-2 : tie.Need-automata-requires-in-Edges
 automata-requires-2 c κs = search rules
@@ -52,7 +52,7 @@ enum-told-4 c = search rules
 
 automaton-requires : tie.Need-automaton-requires
 unfolding records
-automaton-requires c κs = let pre = c.before.before.before.requires in (pre.0, rw c.in-Marks.is at pre.1)
+automaton-requires c κs = let pre = c.requires in (pre.0, rw c.in-Marks.is at pre.1)
 
 mark-ok-requires : tie.Need-mark_ok-requires
 mark-ok-requires c κs = search rules
@@ -60,25 +60,25 @@ mark-ok-requires c κs = search rules
 returns : tie.Need-returns-in-Credentials
 unfolding good good_credential_to
 returns c =
-    let read = c.before.before.before.credential.ensures in
-    let row = c.before.before.before.before.in-Credentials.is in
-    rw (row, ← read, ← c.before.before.cells.ensures.same, ← c.before.automata.ensures.same) c.credential_ok.ensures
+    let read = c.credential.ensures in
+    let row = c.in-Credentials.is in
+    rw (row, ← read, ← c.cells.ensures.same, ← c.automata.ensures.same) c.credential_ok.ensures
 
 returns-2 : tie.Need-returns-in-Cells
 unfolding good good_cell_to
 returns-2 c =
-    let row = c.before.before.before.in-Cells.is in
-    rw (row, ← c.before.before.cell.ensures, ← c.before.cells-in-Cells.ensures.same) c.cell_ok.ensures
+    let row = c.in-Cells.is in
+    rw (row, ← c.cell.ensures, ← c.cells-in-Cells.ensures.same) c.cell_ok.ensures
 
 returns-3 : tie.Need-returns-in-Edges
 unfolding good good_edge_to
 returns-3 c =
-    let row = c.before.before.before.in-Edges.is in
-    rw (row, ← c.before.before.edge.ensures, ← c.before.automata-in-Edges.ensures.same) c.edge_ok.ensures
+    let row = c.in-Edges.is in
+    rw (row, ← c.edge.ensures, ← c.automata-in-Edges.ensures.same) c.edge_ok.ensures
 
 returns-4 : tie.Need-returns-in-Marks
 unfolding good good_mark
-returns-4 c = rw (c.before.before.in-Marks.is, ← c.before.automaton.ensures) c.mark_ok.ensures
+returns-4 c = rw (c.in-Marks.is, ← c.automaton.ensures) c.mark_ok.ensures
 
 pub is_good_spec : {M : Type 1} → statement M
 is_good_spec =

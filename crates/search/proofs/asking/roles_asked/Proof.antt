@@ -25,7 +25,7 @@ credential-requires c κs = search rules
 
 parts-asked-requires : tie.Need-parts_asked-len-requires invariant-loop decreases-loop
 parts-asked-requires c κs =
-    let pre = c.before.before.before.requires in
+    let pre = c.requires in
     let read = c.credential.ensures in
     let there = numbered pre.1.1.0 in
     (pre.0, (whole _ pre.0 _ (rw (← add-one _) at there) _ read, λ three. pre.1.1.1 (sym (kind-read _ _ _ read) ∙ three)))
@@ -49,15 +49,15 @@ loop-less : tie.Need-loop-k-smaller invariant-loop decreases-loop
 loop-less c = search rules
 
 loop-again : tie.Need-loop-k-preserved invariant-loop decreases-loop
-loop-again c = (omega arith, cells-next _ _ _ _ c.before.before.loop-k.invariant.1 (omega arith) _ c.asked_cell.ensures.0)
+loop-again c = (omega arith, cells-next _ _ _ _ c.loop-k.invariant.1 (omega arith) _ c.asked_cell.ensures.0)
 
 returns : tie.Need-returns invariant-loop decreases-loop
 returns c =
-    let loop = c.before.loop-k in
-    let pre = c.before.before.before.before.before.before.requires in
+    let loop = c.loop-k in
+    let pre = c.requires in
     let all : loop.k ≡ most_parts = omega arith in
     roles-pairs _ _ _ _ (rw all at loop.invariant.1) _ pre.0 pre.1.1.0 pre.1.1.1 _
-    (as_read _ _ _ c.before.before.before.credential.ensures) _ c.before.before.parts_asked-len.ensures
+    (as_read _ _ _ c.credential.ensures) _ c.parts_asked-len.ensures
 
 pub roles_asked_spec : {M : Type 1} → statement M
 roles_asked_spec =

@@ -244,10 +244,10 @@ asked-search-answered-requires t c κs = search rules
 
 asked-search-returns : asked-search-needs asked-search-lts.Need-returns-then-same-k
 asked-search-returns t c =
-    let start = c.before.before.before.before.before.before.before.before.before.requires.1 in
+    let start = c.requires.1 in
     let (searched, (fits_all, ((there, room), (later, remembered)))) = start in
     let (found-is, blocking-is) = c.answered.ensures in
-    (rw (found-is, blocking-is) (same-judged _ _ _ _ _ _ _ _ _ c.before.before.before.same_later-same.ensures c.before.before.if-same-k.true c.before.before.before.before.before.before.before.before.before.args.t8 later), remembered)
+    (rw (found-is, blocking-is) (same-judged _ _ _ _ _ _ _ _ _ c.same_later-same.ensures c.if-same-k.true c.args.t8 later), remembered)
 
 asked-search-mul-goal-search : asked-search-needs asked-search-lts.Need-offset_bounds-persons-k
 asked-search-mul-goal-search t c = search rules
@@ -263,8 +263,8 @@ asked-search-array-read-goal-search-2 t c = search rules
 
 asked-search-goal-search-requires : asked-search-needs asked-search-lts.Need-goal_search-requires
 asked-search-goal-search-requires t c κs =
-    let (searched, ((fits, stand), ((there, room), (later, remembered)))) = c.before.before.before.before.before.before.before.before.before.before.requires.1 in
-    (omega (arith, c.before.before.before.before.before.before.before.before.before.before.requires.0), (searched, (asked-stands _ stand _ there, remembered)))
+    let (searched, ((fits, stand), ((there, room), (later, remembered)))) = c.requires.1 in
+    (omega (arith, c.requires.0), (searched, (asked-stands _ stand _ there, remembered)))
 
 asked-search-same-length : asked-search-needs asked-search-lts.Need-shape_of-memory
 asked-search-same-length t c = search rules
@@ -307,11 +307,11 @@ definers-search-failed-requires t c κs = search rules
 
 definers-search-returns : definers-search-needs definers-search-lts.Need-returns-then-any_dead
 definers-search-returns t c =
-    let (searched, ((stands, there), remembered)) = c.before.before.before.before.before.before.before.before.before.before.before.requires.1 in
-    let (k, imposed, dead) = meets-common _ _ (sym c.before.before.before.any_dead.ensures ∙ c.before.before.if-any_dead.true) in (
-      sought-moved _ _ _ _ _ _ _ _ c.before.before.before.before.stepped-below.ensures
-          (sought-judged (judged-never c.failed.ensures.0 (c.failed.ensures.1 ∙ c.before.nothing.ensures) (λ X owed b.
-          dead-tried _ _ _ _ _ _ c.before.before.before.before.stepped-below.ensures X (part-le X _ owed) k (imposed-demanded _ X k imposed) dead _ b _))),
+    let (searched, ((stands, there), remembered)) = c.requires.1 in
+    let (k, imposed, dead) = meets-common _ _ (sym c.any_dead.ensures ∙ c.if-any_dead.true) in (
+      sought-moved _ _ _ _ _ _ _ _ c.stepped-below.ensures
+          (sought-judged (judged-never c.failed.ensures.0 (c.failed.ensures.1 ∙ c.nothing.ensures) (λ X owed b.
+          dead-tried _ _ _ _ _ _ c.stepped-below.ensures X (part-le X _ owed) k (imposed-demanded _ X k imposed) dead _ b _))),
       remembered,
     )
 
@@ -329,30 +329,30 @@ definers-search-nothing-requires-2 t c κs = search rules
 
 definers-search-loop-holds : definers-search-needs definers-search-lts.Need-loop-i-init
 definers-search-loop-holds t c =
-    let (searched, ((stands, there), remembered)) = c.before.before.before.before.before.before.before.before.before.before.before.before.before.requires.1 in (
+    let (searched, ((stands, there), remembered)) = c.requires.1 in (
       omega arith,
-      (tried-none searched.indexed stands there _ _ _ _ _ c.before.none-found.ensures c.nothing-blocking.ensures, (refl, remembered)),
+      (tried-none searched.indexed stands there _ _ _ _ _ c.none-found.ensures c.nothing-blocking.ensures, (refl, remembered)),
     )
 
 definers-search-may-use-requires : definers-search-needs definers-search-lts.Need-may_use-requires
 definers-search-may-use-requires t c κs =
-    let (searched, ((stands, there), remembered)) = c.before.before.before.before.before.before.before.before.before.before.before.before.before.before.before.requires.1 in
+    let (searched, ((stands, there), remembered)) = c.requires.1 in
     let few = searched.well_formed.sized.counted.few_credentials in
-    (searched.indexed.placed, omega (arith, c.loop-i-test.true, c.before.before.before.before.credentials-n.ensures.same, few))
+    (searched.indexed.placed, omega (arith, c.loop-i-test.true, c.credentials-n.ensures.same, few))
 
 definers-search-credential-search-requires : definers-search-needs definers-search-lts.Need-credential_search-answer-requires
 definers-search-credential-search-requires t c κs =
-    let (searched, ((stands, there), remembered)) = c.before.before.before.before.before.before.before.before.before.before.before.before.before.before.before.before.before.before.requires.1 in (
-      omega (arith, c.before.before.before.before.before.before.before.before.before.before.before.before.before.before.before.before.before.before.requires.0),
+    let (searched, ((stands, there), remembered)) = c.requires.1 in (
+      omega (arith, c.requires.0),
       (
         searched,
         (
           record {
-            there = omega (arith, c.before.before.before.loop-i-test.true, c.before.before.before.before.before.before.before.credentials-n.ensures.same);
+            there = omega (arith, c.loop-i-test.true, c.credentials-n.ensures.same);
             who = stands.there;
             named = stands.named;
           },
-          c.before.before.before.before.loop-i.invariant.1.1.1,
+          c.loop-i.invariant.1.1.1,
         ),
       ),
     )
@@ -371,19 +371,19 @@ definers-search-answered-requires t c κs = search rules
 
 definers-search-same-length : definers-search-needs definers-search-lts.Need-shape_of-memory-then-is_enough
 definers-search-same-length t c =
-    c.before.before.before.before.before.before.memory-1.given ∙ c.before.before.before.before.before.before.before.before.before.before.before.before.loop-i.invariant.1.1.0
+    c.memory-1.given ∙ c.loop-i.invariant.1.1.0
 
 definers-search-returns-2 : definers-search-needs definers-search-lts.Need-returns-then-is_enough
 definers-search-returns-2 t c =
-    let (searched, ((stands, there), remembered)) = c.before.before.before.before.before.before.before.before.before.before.before.before.before.before.before.before.before.before.before.before.before.before.before.before.before.before.requires.1 in
+    let (searched, ((stands, there), remembered)) = c.requires.1 in
     let (found-is, blocking-is) = c.answered.ensures in
-    let (so_far, before) = c.before.before.before.before.before.before.before.before.before.before.before.before.loop-i.invariant.1 in
-    let (own, now-remembered) = c.before.before.before.before.before.before.before.credential_search-answer.ensures in
-    let finds = tried-finds searched.indexed stands there _ _ _ _ _ _ (omega (arith, c.before.before.before.before.before.before.before.before.before.before.before.loop-i-test.true, c.before.before.before.before.before.before.before.before.before.before.before.before.before.before.before.credentials-n.ensures.same)) c.before.before.before.before.before.before.before.before.before.before.may_use.ensures c.before.before.before.before.before.before.before.before.before.if-may_use.true c.before.before.before.before.or-found.ensures
+    let (so_far, before) = c.loop-i.invariant.1 in
+    let (own, now-remembered) = c.credential_search-answer.ensures in
+    let finds = tried-finds searched.indexed stands there _ _ _ _ _ _ (omega (arith, c.loop-i-test.true, c.credentials-n.ensures.same)) c.may_use.ensures c.if-may_use.true c.or-found.ensures
     so_far.finds own.finds in (
-      rw (found-is, blocking-is) (sought-moved _ _ _ _ _ _ _ _ c.before.before.before.before.before.before.before.before.before.before.before.before.before.before.before.before.before.before.before.stepped-below.ensures
-          (sought-enough _ _ _ _ remembered.few _ _ _ _ c.before.before.before.before.before.before.before.before.before.before.before.before.before.before.before.before.before.before.before.stepped-below.ensures c.before.before.before.before.before.before.before.before.before.before.before.before.before.before.before.before.left_owed-most.ensures c.before.before.before.is_enough.ensures
-          c.before.before.if-is_enough.true finds c.before.nothing-then-is_enough.ensures)),
+      rw (found-is, blocking-is) (sought-moved _ _ _ _ _ _ _ _ c.stepped-below.ensures
+          (sought-enough _ _ _ _ remembered.few _ _ _ _ c.stepped-below.ensures c.left_owed-most.ensures c.is_enough.ensures
+          c.if-is_enough.true finds c.nothing-then-is_enough.ensures)),
       now-remembered,
     )
 
@@ -403,21 +403,21 @@ definers-search-loop-again t c =
     let start = c.before.before.before.before.before.before.before.before.before.before.before.before.before.before.before.before.before in
     let (searched, ((stands, there), remembered)) = start.requires.1 in
     let (so_far, before) = at-loop.loop-i.invariant.1 in
-    let next = c.before.before.loop-i-test.true in
-    let may-use = c.before.may_use.ensures in
+    let next = c.loop-i-test.true in
+    let may-use = c.may_use.ensures in
     let all = at-credentials.credentials-n.ensures.same in (
       omega (arith, next),
       ⊎_elim
           (λ way. (
             rw (way.10, way.11)
-                (tried-next searched.indexed stands there _ _ _ _ _ _ (omega (arith, next, all)) may-use way.0.taken
+                (tried-next searched.indexed stands there _ _ _ _ _ _ (omega (arith, next, all)) may-use way.0.true
                 way.5.ensures way.8.ensures so_far way.2.ensures.0),
             rw way.9 (way.3.given ∙ before.0, way.2.ensures.1),
           ))
           (λ way. (
             rw (way.2, way.3)
                 (tried-unused searched.indexed stands there _ _ _ _ _ _ (omega (arith, next, all)) may-use
-                way.0.left so_far),
+                way.0.false so_far),
             rw way.1 before,
           ))
           c.if-may_use.branch,
@@ -428,15 +428,15 @@ definers-search-answered-requires-2 t c κs = search rules
 
 definers-search-same-length-2 : definers-search-needs definers-search-lts.Need-shape_of-memory
 definers-search-same-length-2 t c =
-    c.before.before.loop-i.invariant.1.1.0
+    c.loop-i.invariant.1.1.0
 
 definers-search-returns-3 : definers-search-needs definers-search-lts.Need-returns
 definers-search-returns-3 t c =
-    let (searched, ((stands, there), remembered)) = c.before.before.before.before.before.before.before.before.before.before.before.before.before.before.before.before.requires.1 in
+    let (searched, ((stands, there), remembered)) = c.requires.1 in
     let (found-is, blocking-is) = c.answered-2.ensures in
-    let (so_far, (same, now-remembered)) = c.before.before.loop-i.invariant.1 in (
-      rw (found-is, blocking-is) (sought-moved _ _ _ _ _ _ _ _ c.before.before.before.before.before.before.before.before.before.stepped-below.ensures
-          (sought-judged (tried-all searched.indexed stands there _ _ _ _ _ _ (omega (arith, c.before.loop-i-test.false, c.before.before.loop-i.invariant.0, c.before.before.before.before.before.credentials-n.ensures.same)) so_far))),
+    let (so_far, (same, now-remembered)) = c.loop-i.invariant.1 in (
+      rw (found-is, blocking-is) (sought-moved _ _ _ _ _ _ _ _ c.stepped-below.ensures
+          (sought-judged (tried-all searched.indexed stands there _ _ _ _ _ _ (omega (arith, c.loop-i-test.false, c.loop-i.invariant.0, c.credentials-n.ensures.same)) so_far))),
       now-remembered,
     )
 
@@ -465,16 +465,16 @@ module _ (t : ℕ) (at : goal-search-place goal-search-lts.After-slot-slot t) wh
   goal-search-start = at.before.before.before.before.before.before.before.before.before.before.before.before
 
   goal-search-inside : SlotIn goal-search-start.args.memory.now at.slot-slot.result
-  goal-search-inside = at.before.slot_count.ensures.inside _ at.slot-slot.ensures
+  goal-search-inside = at.slot_count.ensures.inside _ at.slot-slot.ensures
 
   goal-search-may : let from = goal-search-start.args in Open from.table.now from.levels from.person from.place
   goal-search-may =
       let (searched, (stands, remembered)) = goal-search-start.pre.1 in
-      opened searched stands at.before.before.before.before.before.before.may_be_proved.ensures
-      at.before.before.before.before.before.if-not-may_be_proved.left
+      opened searched stands at.may_be_proved.ensures
+      at.if-not-may_be_proved.false
 
   goal-search-new : let from = goal-search-start.args in pair_above from.above from.person from.place ≡ false
-  goal-search-new = sym at.before.before.before.before.has.ensures ∙ at.before.before.before.if-has.left
+  goal-search-new = sym at.has.ensures ∙ at.if-has.false
 
 -- the credentials that define its role have been tried
 abbrev goal-search-slot : (t : ℕ) → goal-search-place goal-search-lts.After-definers_search-answer t → goal-search-place goal-search-lts.After-slot-slot t
@@ -491,16 +491,16 @@ goal-search-failed-requires t c κs = search rules
 
 goal-search-returns : goal-search-needs goal-search-lts.Need-returns-then-not-may_be_proved
 goal-search-returns t c =
-    let (searched, (stands, remembered)) = c.before.before.before.before.before.before.before.before.before.requires.1 in (
-      judged-never c.failed.ensures.0 (c.failed.ensures.1 ∙ c.before.nothing.ensures) (λ X owed b.
-          goal-unlisted _ _ _ _ _ _ _ _ stands searched (failed c.before.before.before.may_be_proved.ensures c.before.before.if-not-may_be_proved.true) X b),
+    let (searched, (stands, remembered)) = c.requires.1 in (
+      judged-never c.failed.ensures.0 (c.failed.ensures.1 ∙ c.nothing.ensures) (λ X owed b.
+          goal-unlisted _ _ _ _ _ _ _ _ stands searched (failed c.may_be_proved.ensures c.if-not-may_be_proved.true) X b),
       remembered,
     )
 
 goal-search-has-requires : goal-search-needs goal-search-lts.Need-has-requires
 goal-search-has-requires t c κs =
-    let (searched, (stands, remembered)) = c.before.before.before.before.before.before.before.requires.1 in
-    let may = opened searched stands c.before.may_be_proved.ensures c.if-not-may_be_proved.false in
+    let (searched, (stands, remembered)) = c.requires.1 in
+    let may = opened searched stands c.may_be_proved.ensures c.if-not-may_be_proved.false in
     (may.few-persons, may.few-places)
 
 goal-search-nothing-requires-2 : goal-search-needs goal-search-lts.Need-nothing-itself-requires
@@ -508,8 +508,8 @@ goal-search-nothing-requires-2 t c κs = search rules
 
 goal-search-with-requires : goal-search-needs goal-search-lts.Need-with-requires
 goal-search-with-requires t c κs =
-    let (searched, (stands, remembered)) = c.before.before.before.before.before.before.before.before.before.before.requires.1 in
-    let may = opened searched stands c.before.before.before.before.may_be_proved.ensures c.before.before.before.if-not-may_be_proved.false in
+    let (searched, (stands, remembered)) = c.requires.1 in
+    let may = opened searched stands c.may_be_proved.ensures c.if-not-may_be_proved.false in
     (may.few-persons, may.few-places)
 
 goal-search-failed-requires-2 : goal-search-needs goal-search-lts.Need-failed-requires-then-has
@@ -517,10 +517,10 @@ goal-search-failed-requires-2 t c κs = search rules
 
 goal-search-returns-2 : goal-search-needs goal-search-lts.Need-returns-then-has
 goal-search-returns-2 t c =
-    let (searched, (stands, remembered)) = c.before.before.before.before.before.before.before.before.before.before.before.before.requires.1 in
-    let may = opened searched stands c.before.before.before.before.before.before.may_be_proved.ensures c.before.before.before.before.before.if-not-may_be_proved.false in
-    let again = goal-again _ _ _ _ _ _ _ _ stands may _ (sym c.before.before.before.before.has.ensures ∙ c.before.before.before.if-has.true) in
-    let blocking-is = c.failed-then-has.ensures.1 ∙ rw c.before.before.nothing-itself.ensures at c.before.with.ensures in (
+    let (searched, (stands, remembered)) = c.requires.1 in
+    let may = opened searched stands c.may_be_proved.ensures c.if-not-may_be_proved.false in
+    let again = goal-again _ _ _ _ _ _ _ _ stands may _ (sym c.has.ensures ∙ c.if-has.true) in
+    let blocking-is = c.failed-then-has.ensures.1 ∙ rw c.nothing-itself.ensures at c.with.ensures in (
       rw blocking-is (judged-failed c.failed-then-has.ensures.0 (again 0).0 (λ X owed. (again X).1)),
       remembered,
     )
@@ -530,8 +530,8 @@ goal-search-slot-count-requires t c κs = search rules
 
 goal-search-slot-requires : goal-search-needs goal-search-lts.Need-slot-slot-requires
 goal-search-slot-requires t c κs =
-    let (searched, (stands, remembered)) = c.before.before.before.before.before.before.before.before.before.before.before.requires.1 in
-    let may = opened searched stands c.before.before.before.before.before.may_be_proved.ensures c.before.before.before.before.if-not-may_be_proved.false in
+    let (searched, (stands, remembered)) = c.requires.1 in
+    let may = opened searched stands c.may_be_proved.ensures c.if-not-may_be_proved.false in
     ((may.few-persons, may.few-places), c.slot_count.ensures.all 0 remembered.room)
 
 goal-search-recalled-requires : goal-search-needs goal-search-lts.Need-recalled-known-requires
@@ -550,13 +550,13 @@ goal-search-returns-3 t c =
     let recalled = c.before.before in
     let remembered = (goal-search-start t recalled.before.before).pre.1.1.1 in
     let (covered, bounds) = recalled.recalled-known.ensures.0 _ _ _ remembered in
-    let none = recalled.recalled-known.ensures.1 c.before.if-known.true in (
+    let none = recalled.recalled-known.ensures.1 c.if-known.true in (
       rw c.failed-then-known.ensures.1 (judged-failed c.failed-then-known.ensures.0 covered (λ X owed. bounds X owed (none-covered _ none X))),
       remembered,
     )
 
 goal-search-sub-definers-search : goal-search-needs goal-search-lts.Need-overflow_sub-levels
-goal-search-sub-definers-search t c = omega (arith, (goal-search-may t c.before.before.before).left)
+goal-search-sub-definers-search t c = omega (arith, (goal-search-may t c.before.before.before).false)
 
 goal-search-with-requires-2 : goal-search-needs goal-search-lts.Need-with-requires-2
 goal-search-with-requires-2 t c κs =
@@ -568,7 +568,7 @@ goal-search-definers-search-requires t c κs =
     let slot = c.before.before.before.before.before in
     let (measured, (searched, (stands, remembered))) = (goal-search-start t slot).requires in
     let may = goal-search-may t slot in (
-      omega (arith, measured, may.left),
+      omega (arith, measured, may.false),
       (searched-fewer _ (omega arith) searched, ((stands, may.there), remembered)),
     )
 
@@ -586,12 +586,12 @@ goal-search-returns-4 t c =
     let tried = c.before.before.before.before.before.before in
     let slot = goal-search-slot t tried in
     let (searched, (stands, remembered)) = (goal-search-start t slot).pre.1 in
-    let (covered, bounds) = tried.before.before.before.before.recalled-known.ensures.0 _ _ _ remembered in
+    let (covered, bounds) = tried.recalled-known.ensures.0 _ _ _ remembered in
     let (sought, now-remembered) = tried.definers_search-answer.ensures in
     let (found-is, blocking-is) = c.answered.ensures in (
       rw (found-is, blocking-is)
-          (goal-known _ _ _ _ _ _ _ _ stands (goal-search-may t slot) (goal-search-new t slot) (rw tried.before.before.with-2.ensures at sought)
-          covered bounds c.before.before.is_part.ensures c.before.if-is_part.true),
+          (goal-known _ _ _ _ _ _ _ _ stands (goal-search-may t slot) (goal-search-new t slot) (rw tried.with-2.ensures at sought)
+          covered bounds c.is_part.ensures c.if-is_part.true),
       now-remembered,
     )
 
@@ -605,7 +605,7 @@ goal-search-keep-requires t c κs =
     let tried = c.before.before.before.before.before.before.before in
     let slot = goal-search-slot t tried in
     let may = goal-search-may t slot in (
-      rw c.before.before.before.before.before.before.memory-1.given (goal-search-inside t slot),
+      rw c.memory-1.given (goal-search-inside t slot),
       (may.few-persons, (may.few-places, (goal-search-start t slot).pre.1.0.shallow)),
     )
 
@@ -623,10 +623,10 @@ goal-search-returns-5 t c =
     let stands = start.pre.1.1.0 in
     let (sought, now-remembered) = tried.definers_search-answer.ensures in
     let (found-is, blocking-is) = c.answered-2.ensures in
-    let less = goal-less _ _ _ _ _ _ _ _ stands (goal-search-may t slot) (goal-search-new t slot) (rw tried.before.before.with-2.ensures at sought)
-    (goal-search-wide t start) _ c.before.before.before.before.before.without-less.ensures c.before.before.before.before.before.before.before.is_part.ensures c.before.before.before.before.before.before.if-is_part.false in (
+    let less = goal-less _ _ _ _ _ _ _ _ stands (goal-search-may t slot) (goal-search-new t slot) (rw tried.with-2.ensures at sought)
+    (goal-search-wide t start) _ c.without-less.ensures c.is_part.ensures c.if-is_part.false in (
       rw (found-is, blocking-is) less,
-      remembered-more _ _ _ _ now-remembered c.before.before.before.keep.ensures (goal-search-eight t start) less.bounds,
+      remembered-more _ _ _ _ now-remembered c.keep.ensures (goal-search-eight t start) less.bounds,
     )
 
 -- a place of `link_search`, or a need, where its measure is t; and what it needs, whatever its measure is
@@ -646,16 +646,16 @@ link-search-link-asked-requires t c κs = search rules
 
 link-search-shared-search-requires : link-search-needs link-search-lts.Need-shared_search-requires
 link-search-shared-search-requires t c κs =
-    let (searched, ((first, second), remembered)) = c.before.before.before.before.before.before.before.before.before.requires.1 in
-    let (fits, pairs) = c.before.link_asked-asked.ensures in
-    (omega (arith, c.before.before.before.before.before.before.before.before.before.requires.0), (searched, ((fits, rw pairs (both-stand _ _ first second)), remembered)))
+    let (searched, ((first, second), remembered)) = c.requires.1 in
+    let (fits, pairs) = c.link_asked-asked.ensures in
+    (omega (arith, c.requires.0), (searched, ((fits, rw pairs (both-stand _ _ first second)), remembered)))
 
 link-search-same-length : link-search-needs link-search-lts.Need-shape_of-memory-then-terms-ne0
 link-search-same-length t c = search rules
 
 link-search-returns : link-search-needs link-search-lts.Need-returns-then-terms-ne0
 link-search-returns t c =
-    rw c.before.before.before.before.link_asked-asked.ensures.1 at c.before.before.shared_search.ensures
+    rw c.link_asked-asked.ensures.1 at c.shared_search.ensures
 
 link-search-goal-search-requires : link-search-needs link-search-lts.Need-goal_search-answer-requires
 link-search-goal-search-requires t c κs = search rules
@@ -671,8 +671,8 @@ link-search-same-length-2 t c = search rules
 
 link-search-returns-2 : link-search-needs link-search-lts.Need-returns-then-is_none
 link-search-returns-2 t c =
-    let (judged, now-remembered) = c.before.before.before.before.before.goal_search-answer.ensures in
-    let fails = none-fails judged c.before.before.is_none.ensures c.before.if-is_none.true in (
+    let (judged, now-remembered) = c.goal_search-answer.ensures in
+    let fails = none-fails judged c.is_none.ensures c.if-is_none.true in (
       rw c.failed.ensures.1
           (shared-failed _ _ _ _ _ _ _ 0 (omega arith) c.failed.ensures.0 judged.covered fails),
       now-remembered,
@@ -680,17 +680,17 @@ link-search-returns-2 t c =
 
 link-search-goal-search-requires-2 : link-search-needs link-search-lts.Need-goal_search-requires
 link-search-goal-search-requires-2 t c κs =
-    let (searched, ((first, second), remembered)) = c.before.before.before.before.before.before.before.before.before.before.before.before.before.before.requires.1 in
-    (omega (arith, c.before.before.before.before.before.before.before.before.before.before.before.before.before.before.requires.0), (searched, (second, c.before.before.before.before.before.goal_search-answer.ensures.1)))
+    let (searched, ((first, second), remembered)) = c.requires.1 in
+    (omega (arith, c.requires.0), (searched, (second, c.goal_search-answer.ensures.1)))
 
 link-search-same-length-3 : link-search-needs link-search-lts.Need-shape_of-memory
 link-search-same-length-3 t c = search rules
 
 link-search-returns-3 : link-search-needs link-search-lts.Need-returns
 link-search-returns-3 t c =
-    let unowed = c.before.before.before.before.before.before.before.before.before.before.if-terms-ne0.false in
-    let (judged, now-remembered) = c.before.before.goal_search.ensures in
-    let is = zero-passes unowed c.before.before.before.before.before.before.before.before.goal_search-answer.ensures.0 c.before.before.before.before.before.is_none.ensures c.before.before.before.before.if-is_none.false in
+    let unowed = c.if-terms-ne0.false in
+    let (judged, now-remembered) = c.goal_search.ensures in
+    let is = zero-passes unowed c.goal_search-answer.ensures.0 c.is_none.ensures c.if-is_none.false in
     (second-decides _ _ _ _ _ _ unowed _ _ is judged, now-remembered)
 
 abbrev linked-search-Inv-loop : linked-search-lts.invariant-loop-j
@@ -724,18 +724,18 @@ module _ (t : ℕ) (at : linked-search-place linked-search-lts.After-is_middle t
 
   linked-search-middle : let from = linked-search-start.args in
       Middle from.table.now from.index.now from.arcs.now from.rows.now from.terms.allowed from.levels
-      from.terms.last from.person from.i linked-search-asked.before.row_of-row.result at.before.before.before.loop-j.j
-      linked-search-asked.asked-cell.result at.before.link_cell-second.result at.is_middle.result
+      from.terms.last from.person from.i linked-search-asked.row_of-row.result at.loop-j.j
+      linked-search-asked.asked-cell.result at.link_cell-second.result at.is_middle.result
   linked-search-middle =
       let (searched, (tried, (kind, remembered))) = linked-search-start.pre.1 in
       record {
         searched = searched;
         tried = tried;
         kind = kind;
-        there = omega (arith, at.before.before.loop-j-test.taken, linked-search-asked.before.before.credentials-n.ensures.same);
-        row_is = linked-search-asked.before.row_of-row.ensures;
+        there = omega (arith, at.loop-j-test.true, linked-search-asked.credentials-n.ensures.same);
+        row_is = linked-search-asked.row_of-row.ensures;
         first-is = linked-search-asked.asked-cell.ensures.0;
-        second_is = at.before.link_cell-second.ensures.0;
+        second_is = at.link_cell-second.ensures.0;
         told_is = at.is_middle.ensures;
       }
 
@@ -756,7 +756,7 @@ linked-search-nothing-requires t c κs = search rules
 
 linked-search-loop-holds : linked-search-needs linked-search-lts.Need-loop-j-init
 linked-search-loop-holds t c =
-    (omega arith, (links-none _ c.before.before.before.before.before.before.before.before.before.before.args.index.now _ _ _ _ c.before.before.before.before.before.before.before.before.before.before.args.person c.before.before.before.before.before.before.before.before.before.before.args.i _ c.before.none-found.ensures c.nothing-blocking.ensures, (refl, c.before.before.before.before.before.before.before.before.before.before.requires.1.1.1.1)))
+    (omega arith, (links-none _ c.args.index.now _ _ _ _ c.args.person c.args.i _ c.none-found.ensures c.nothing-blocking.ensures, (refl, c.requires.1.1.1.1)))
 
 linked-search-link-cell-requires : linked-search-needs linked-search-lts.Need-link_cell-second-requires
 linked-search-link-cell-requires t c κs = search rules
@@ -774,7 +774,7 @@ linked-search-is-middle-requires t c κs =
         (
           (searched.members.room, row_fits searched.members at-row-of.row_of-row.ensures),
           (
-            (tried.who, omega (arith, c.before.loop-j-test.true, at-credentials.credentials-n.ensures.same)),
+            (tried.who, omega (arith, c.loop-j-test.true, at-credentials.credentials-n.ensures.same)),
             (at-asked-cell.asked_cell-first.ensures.1, c.link_cell-second.ensures.1),
           ),
         ),
@@ -786,9 +786,9 @@ linked-search-link-search-requires t c κs =
     let at = c.before.before in
     let (measured, (searched, rest)) = (linked-search-start t at).requires in
     let middle = linked-search-middle t at in
-    let on = c.before.if-is_middle.true in (
+    let on = c.if-is_middle.true in (
       omega (arith, measured),
-      (searched, ((stands-first middle on, stands-second middle on), at.before.before.before.loop-j.invariant.1.1.1)),
+      (searched, ((stands-first middle on, stands-second middle on), at.loop-j.invariant.1.1.1)),
     )
 
 linked-search-or-requires : linked-search-needs linked-search-lts.Need-or-found-requires
@@ -805,7 +805,7 @@ linked-search-answered-requires t c κs = search rules
 
 linked-search-same-length : linked-search-needs linked-search-lts.Need-shape_of-memory-then-has
 linked-search-same-length t c =
-    c.before.before.before.before.before.before.memory-1.given ∙ c.before.before.before.before.before.before.before.before.before.before.before.before.before.loop-j.invariant.1.1.0
+    c.memory-1.given ∙ c.loop-j.invariant.1.1.0
 
 linked-search-returns : linked-search-needs linked-search-lts.Need-returns-then-has
 linked-search-returns t c =
@@ -813,13 +813,13 @@ linked-search-returns t c =
     let at-if1 = at-link-search.before.before in
     let at = at-if1.before in
     let (searched, (tried, (kind, remembered))) = (linked-search-start t at).requires.1 in
-    let (so_far, before) = at.before.before.before.loop-j.invariant.1 in
+    let (so_far, before) = at.loop-j.invariant.1 in
     let (one, now-remembered) = at-link-search.link_search-link.ensures in
     let (found-is, blocking-is) = c.answered.ensures in
-    let finds = link-finds (linked-search-middle t at) _ _ _ at-if1.if-is_middle.true c.before.before.before.before.or-found.ensures
+    let finds = link-finds (linked-search-middle t at) _ _ _ at-if1.if-is_middle.true c.or-found.ensures
     so_far.finds one.finds in (
-      rw (found-is, blocking-is) (linked-enough searched tried kind _ _ _ remembered.few finds c.before.before.before.has.ensures
-          c.before.before.if-has.true c.before.nothing.ensures),
+      rw (found-is, blocking-is) (linked-enough searched tried kind _ _ _ remembered.few finds c.has.ensures
+          c.if-has.true c.nothing.ensures),
       now-remembered,
     )
 
@@ -836,15 +836,15 @@ linked-search-loop-again : linked-search-needs linked-search-lts.Need-loop-j-pre
 linked-search-loop-again t c =
     let at = c.before in
     let middle = linked-search-middle t at in
-    let (so_far, before) = at.before.before.before.loop-j.invariant.1 in (
-      omega (arith, at.before.before.loop-j-test.true),
+    let (so_far, before) = at.loop-j.invariant.1 in (
+      omega (arith, at.loop-j-test.true),
       ⊎_elim
           (λ way. (
             rw (way.10, way.11)
-                (link-next middle _ _ _ way.0.taken way.5.ensures way.8.ensures so_far way.2.ensures.0),
+                (link-next middle _ _ _ way.0.true way.5.ensures way.8.ensures so_far way.2.ensures.0),
             rw way.9 (way.3.given ∙ before.0, way.2.ensures.1),
           ))
-          (λ way. (rw (way.2, way.3) (link-skipped middle _ _ _ way.0.left so_far), rw way.1 before))
+          (λ way. (rw (way.2, way.3) (link-skipped middle _ _ _ way.0.false so_far), rw way.1 before))
           c.if-is_middle.branch,
     )
 
@@ -853,7 +853,7 @@ linked-search-answered-requires-2 t c κs = search rules
 
 linked-search-same-length-2 : linked-search-needs linked-search-lts.Need-shape_of-memory
 linked-search-same-length-2 t c =
-    c.before.before.loop-j.invariant.1.1.0
+    c.loop-j.invariant.1.1.0
 
 linked-search-returns-2 : linked-search-needs linked-search-lts.Need-returns
 linked-search-returns-2 t c =
@@ -864,7 +864,7 @@ linked-search-returns-2 t c =
     let (so_far, (same, now-remembered)) = at-loop.loop-j.invariant.1 in
     let (found-is, blocking-is) = c.answered-2.ensures in (
       rw (found-is, blocking-is) (linked-all searched tried kind _ _ _ _ (omega
-          (arith, c.before.loop-j-test.false, at-loop.loop-j.invariant.0, at-credentials.credentials-n.ensures.same)) so_far),
+          (arith, c.loop-j-test.false, at-loop.loop-j.invariant.0, at-credentials.credentials-n.ensures.same)) so_far),
       now-remembered,
     )
 
@@ -899,38 +899,38 @@ parts-search-failed-requires t c κs = search rules
 
 parts-search-returns : parts-search-needs parts-search-lts.Need-returns-then-not-are_listed
 parts-search-returns t c =
-    let (searched, (tried, (kind, remembered))) = c.before.before.before.before.before.before.before.before.before.requires.1 in (
-      judged-never c.failed.ensures.0 (c.failed.ensures.1 ∙ c.before.nothing.ensures) (λ X owed b.
-          parts-unlisted searched tried kind _ _ b _ X c.before.before.before.are_listed.ensures c.before.before.if-not-are_listed.true),
+    let (searched, (tried, (kind, remembered))) = c.requires.1 in (
+      judged-never c.failed.ensures.0 (c.failed.ensures.1 ∙ c.nothing.ensures) (λ X owed b.
+          parts-unlisted searched tried kind _ _ b _ X c.are_listed.ensures c.if-not-are_listed.true),
       remembered,
     )
 
 parts-search-roles-asked-requires : parts-search-needs parts-search-lts.Need-roles_asked-asked-requires
 parts-search-roles-asked-requires t c κs =
-    let (searched, (tried, (kind, remembered))) = c.before.before.before.before.before.before.before.before.before.requires.1 in
+    let (searched, (tried, (kind, remembered))) = c.requires.1 in
     (searched.well_formed, (searched.indexed, (tried.there, two-or-four kind)))
 
 parts-search-shared-search-requires : parts-search-needs parts-search-lts.Need-shared_search-requires
 parts-search-shared-search-requires t c κs =
-    let (searched, (tried, (kind, remembered))) = c.before.before.before.before.before.before.before.before.before.before.before.requires.1 in
-    let (fits, pairs) = c.before.roles_asked-asked.ensures in
+    let (searched, (tried, (kind, remembered))) = c.requires.1 in
+    let (fits, pairs) = c.roles_asked-asked.ensures in
     let few = (roles-few _ searched.well_formed _ (numbered searched tried) kind).1 in
-    (omega (arith, c.before.before.before.before.before.before.before.before.before.before.before.requires.0), (searched, ((fits, rw pairs (roles-stand searched tried kind _ few)), remembered)))
+    (omega (arith, c.requires.0), (searched, ((fits, rw pairs (roles-stand searched tried kind _ few)), remembered)))
 
 parts-search-same-length : parts-search-needs parts-search-lts.Need-shape_of-memory-then-terms-gt0
 parts-search-same-length t c = search rules
 
 parts-search-returns-2 : parts-search-needs parts-search-lts.Need-returns-then-terms-gt0
 parts-search-returns-2 t c =
-    let (searched, (tried, (kind, remembered))) = c.before.before.before.before.before.before.before.before.before.before.before.before.before.before.requires.1 in
-    let (judged, now-remembered) = c.before.before.shared_search.ensures in (
-      judged-same (λ X b. sym (cell-roles searched tried _ _ b _ X kind)) (rw c.before.before.before.before.roles_asked-asked.ensures.1 at judged),
+    let (searched, (tried, (kind, remembered))) = c.requires.1 in
+    let (judged, now-remembered) = c.shared_search.ensures in (
+      judged-same (λ X b. sym (cell-roles searched tried _ _ b _ X kind)) (rw c.roles_asked-asked.ensures.1 at judged),
       now-remembered,
     )
 
 parts-search-loop-holds : parts-search-needs parts-search-lts.Need-loop-k-init
 parts-search-loop-holds t c =
-    (omega arith, (none_below _, (refl, c.before.before.before.before.before.before.before.before.before.requires.1.1.1.1)))
+    (omega arith, (none_below _, (refl, c.requires.1.1.1.1)))
 
 parts-search-is-asked-before-requires : parts-search-needs parts-search-lts.Need-is_asked_before-requires
 parts-search-is-asked-before-requires t c κs = search rules
@@ -940,9 +940,9 @@ parts-search-asked-cell-requires t c κs = search rules
 
 parts-search-goal-search-requires : parts-search-needs parts-search-lts.Need-goal_search-answer-requires
 parts-search-goal-search-requires t c κs =
-    let (searched, (tried, (kind, remembered))) = c.before.before.before.before.before.before.before.before.before.before.before.before.before.before.before.requires.1 in
-    let stands = stands-part searched tried kind _ c.before.before.before.before.loop-k-test.true _ c.before.asked_cell.ensures.0 in
-    (omega (arith, c.before.before.before.before.before.before.before.before.before.before.before.before.before.before.before.requires.0), (searched, (stands, c.before.before.before.before.before.loop-k.invariant.1.1.1)))
+    let (searched, (tried, (kind, remembered))) = c.requires.1 in
+    let stands = stands-part searched tried kind _ c.loop-k-test.true _ c.asked_cell.ensures.0 in
+    (omega (arith, c.requires.0), (searched, (stands, c.loop-k.invariant.1.1.1)))
 
 parts-search-is-none-requires : parts-search-needs parts-search-lts.Need-is_none-requires
 parts-search-is-none-requires t c κs = search rules
@@ -952,16 +952,16 @@ parts-search-failed-requires-2 t c κs = search rules
 
 parts-search-same-length-2 : parts-search-needs parts-search-lts.Need-shape_of-memory-then-is_none
 parts-search-same-length-2 t c =
-    c.before.before.before.before.memory-then-not-is_asked_before-1.given ∙ c.before.before.before.before.before.before.before.before.before.before.before.loop-k.invariant.1.1.0
+    c.memory-then-not-is_asked_before-1.given ∙ c.loop-k.invariant.1.1.0
 
 parts-search-returns-3 : parts-search-needs parts-search-lts.Need-returns-then-is_none
 parts-search-returns-3 t c =
-    let (searched, (tried, (kind, remembered))) = c.before.before.before.before.before.before.before.before.before.before.before.before.before.before.before.before.before.before.before.before.before.requires.1 in
-    let unowed = none-owed c.before.before.before.before.before.before.before.before.before.before.before.before.if-terms-gt0.false in
-    let (judged, now-remembered) = c.before.before.before.before.before.goal_search-answer.ensures in
-    let fails = none-fails judged c.before.before.is_none.ensures c.before.if-is_none.true in (
+    let (searched, (tried, (kind, remembered))) = c.requires.1 in
+    let unowed = none-owed c.if-terms-gt0.false in
+    let (judged, now-remembered) = c.goal_search-answer.ensures in
+    let fails = none-fails judged c.is_none.ensures c.if-is_none.true in (
       rw c.failed-then-is_none.ensures.1 (zero-failed unowed c.failed-then-is_none.ensures.0 judged.covered (λ b wide covers.
-          part-failed searched tried kind _ _ unowed b _ _ _ c.before.before.before.before.before.before.before.before.before.before.loop-k-test.true c.before.before.before.before.before.before.before.asked_cell.ensures.0 (fails b wide covers))),
+          part-failed searched tried kind _ _ unowed b _ _ _ c.loop-k-test.true c.asked_cell.ensures.0 (fails b wide covers))),
       now-remembered,
     )
 
@@ -976,17 +976,17 @@ parts-search-loop-again t c =
     let at-loop = c.before.before.before in
     let start = c.before.before.before.before.before.before.before.before.before.before.before.before.before in
     let (searched, (tried, (kind, remembered))) = start.requires.1 in
-    let unowed = none-owed at-loop.before.if-terms-gt0.false in
+    let unowed = none-owed at-loop.if-terms-gt0.false in
     let (so_far, before) = at-loop.loop-k.invariant.1 in (
-      omega (arith, c.before.before.loop-k-test.true),
+      omega (arith, c.loop-k-test.true),
       ⊎_elim
           (λ way. (
             part-proved searched tried kind _ _ unowed _ _ _ _ way.1.ensures.0
-                (zero-passes unowed way.3.ensures.0 way.6.ensures way.7.left) so_far,
+                (zero-passes unowed way.3.ensures.0 way.6.ensures way.7.false) so_far,
             rw way.8 (way.4.given ∙ before.0, way.3.ensures.1),
           ))
           (λ way. (
-            part-repeated searched tried kind _ _ unowed _ _ _ so_far (passed c.before.is_asked_before.ensures way.0.left),
+            part-repeated searched tried kind _ _ unowed _ _ _ so_far (passed c.is_asked_before.ensures way.0.false),
             rw way.1 before,
           ))
           c.if-not-is_asked_before.branch,
@@ -1000,11 +1000,11 @@ parts-search-same-length-3 t c = search rules
 
 parts-search-returns-4 : parts-search-needs parts-search-lts.Need-returns
 parts-search-returns-4 t c =
-    let (searched, (tried, (kind, remembered))) = c.before.before.before.before.before.before.before.before.before.before.before.before.requires.1 in
-    let unowed = none-owed c.before.before.before.if-terms-gt0.false in
-    let (none-missed, (same, now-remembered)) = c.before.before.loop-k.invariant.1 in (
+    let (searched, (tried, (kind, remembered))) = c.requires.1 in
+    let unowed = none-owed c.if-terms-gt0.false in
+    let (none-missed, (same, now-remembered)) = c.loop-k.invariant.1 in (
       zero-proved unowed c.proved.ensures.0 c.proved.ensures.1
-          (all-proved searched tried kind _ _ unowed _ _ _ (omega (arith, c.before.loop-k-test.false, c.before.before.loop-k.invariant.0)) none-missed),
+          (all-proved searched tried kind _ _ unowed _ _ _ (omega (arith, c.loop-k-test.false, c.loop-k.invariant.0)) none-missed),
       now-remembered,
     )
 
@@ -1043,11 +1043,11 @@ shared-search-nothing-requires t c κs = search rules
 
 shared-search-loop-holds : shared-search-needs shared-search-lts.Need-loop-k-init
 shared-search-loop-holds t c =
-    let (searched, ((fits, stand), remembered)) = c.before.before.before.before.before.before.before.before.requires.1 in (
+    let (searched, ((fits, stand), remembered)) = c.requires.1 in (
       (omega arith, refl),
       (
         (
-          shared-end _ _ _ _ _ _ _ _ _ c.before.only-found.ensures c.nothing-blocking.ensures,
+          shared-end _ _ _ _ _ _ _ _ _ c.only-found.ensures c.nothing-blocking.ensures,
           λ j from there. absurd (omega arith),
         ),
         (refl, remembered),
@@ -1059,10 +1059,10 @@ shared-search-sub-k t c = search rules
 
 shared-search-asked-search-requires : shared-search-needs shared-search-lts.Need-asked_search-answer-requires
 shared-search-asked-search-requires t c κs =
-    let (searched, ((fits, stand), remembered)) = c.before.before.before.before.before.before.before.before.before.before.before.requires.1 in
-    let ((few, room), ((so_far, later), (same, now-remembered))) = c.before.before.loop-k.invariant in
-    let next : suc (c.before.before.loop-k.k - 1) ≡ c.before.before.loop-k.k = omega (arith, c.before.loop-k-test.true) in
-    (omega (arith, c.before.before.before.before.before.before.before.before.before.before.before.requires.0), (searched, ((fits, stand), ((omega (arith, c.before.loop-k-test.true), room), (rw next later, now-remembered)))))
+    let (searched, ((fits, stand), remembered)) = c.requires.1 in
+    let ((few, room), ((so_far, later), (same, now-remembered))) = c.loop-k.invariant in
+    let next : suc (c.loop-k.k - 1) ≡ c.loop-k.k = omega (arith, c.loop-k-test.true) in
+    (omega (arith, c.requires.0), (searched, ((fits, stand), ((omega (arith, c.loop-k-test.true), room), (rw next later, now-remembered)))))
 
 shared-search-is-none-requires : shared-search-needs shared-search-lts.Need-is_none-requires
 shared-search-is-none-requires t c κs = search rules
@@ -1072,31 +1072,31 @@ shared-search-failed-requires t c κs = search rules
 
 shared-search-same-length : shared-search-needs shared-search-lts.Need-shape_of-memory-then-is_none
 shared-search-same-length t c =
-    c.before.before.before.before.before.memory-1.given ∙ c.before.before.before.before.before.before.before.before.before.loop-k.invariant.1.1.0
+    c.memory-1.given ∙ c.loop-k.invariant.1.1.0
 
 shared-search-returns : shared-search-needs shared-search-lts.Need-returns-then-is_none
 shared-search-returns t c =
     let at-asked-search = c.before.before.before.before.before.before in
     let at-loop = c.before.before.before.before.before.before.before.before.before in
-    let (searched, ((fits, stand), remembered)) = c.before.before.before.before.before.before.before.before.before.before.before.before.before.before.before.before.before.before.requires.1 in
+    let (searched, ((fits, stand), remembered)) = c.requires.1 in
     let (judged, now-remembered) = at-asked-search.asked_search-answer.ensures in
-    let fails = none-fails judged c.before.before.is_none.ensures c.before.if-is_none.true in (
+    let fails = none-fails judged c.is_none.ensures c.if-is_none.true in (
       rw c.failed.ensures.1 (asked-failed _ _ _ _ _ _ _ _ (omega
-          (arith, c.before.before.before.before.before.before.before.before.loop-k-test.true, at-loop.loop-k.invariant.0.0)) c.failed.ensures.0 judged.covered fails),
+          (arith, c.loop-k-test.true, at-loop.loop-k.invariant.0.0)) c.failed.ensures.0 judged.covered fails),
       now-remembered,
     )
 
 shared-search-mul-each : shared-search-needs shared-search-lts.Need-offset_bounds-each-k
 shared-search-mul-each t c =
     let at-loop = c.before.before.before.before.before.before.before.before in
-    let few = c.before.before.before.before.before.before.before.before.before.before.before.before.before.before.before.before.before.requires.1.1.0.0.few in
-    omega (arith, c.before.before.before.before.before.before.before.loop-k-test.true, at-loop.loop-k.invariant.0.0, few)
+    let few = c.requires.1.1.0.0.few in
+    omega (arith, c.loop-k-test.true, at-loop.loop-k.invariant.0.0, few)
 
 shared-search-array-set-from-each : shared-search-needs shared-search-lts.Need-bounds-each-k
 shared-search-array-set-from-each t c =
     let at-loop = c.before.before.before.before.before.before.before.before in
-    let few = c.before.before.before.before.before.before.before.before.before.before.before.before.before.before.before.before.before.requires.1.1.0.0.few in
-    omega (arith, c.before.before.before.before.before.before.before.loop-k-test.true, at-loop.loop-k.invariant.0.0, few)
+    let few = c.requires.1.1.0.0.few in
+    omega (arith, c.loop-k-test.true, at-loop.loop-k.invariant.0.0, few)
 
 shared-search-joined-requires : shared-search-needs shared-search-lts.Need-joined-blocking-requires
 shared-search-joined-requires t c κs = search rules
@@ -1113,20 +1113,20 @@ shared-search-loop-less t c = search rules
 shared-search-loop-again : shared-search-needs shared-search-lts.Need-loop-k-preserved
 shared-search-loop-again t c =
     let at-loop = c.before.before.before.before.before.before.before.before.before.before.before in
-    let more = c.before.before.before.before.before.before.before.before.before.before.loop-k-test.true in
-    let (searched, ((fits, stand), remembered)) = c.before.before.before.before.before.before.before.before.before.before.before.before.before.before.before.before.before.before.before.before.requires.1 in
+    let more = c.loop-k-test.true in
+    let (searched, ((fits, stand), remembered)) = c.requires.1 in
     let ((few, room), ((so_far, later), before)) = at-loop.loop-k.invariant in
-    let (one, now-remembered) = c.before.before.before.before.before.before.before.before.asked_search-answer.ensures in
+    let (one, now-remembered) = c.asked_search-answer.ensures in
     let next : suc (at-loop.loop-k.k - 1) ≡ at-loop.loop-k.k = omega (arith, more) in (
       (omega arith, length-set at-loop.loop-k.each _ _ ∙ room),
       (
         (
-          shared-next _ _ _ _ _ _ _ _ _ _ (omega (arith, more)) {blocking' = at-loop.loop-k.blocking} c.before.joined.ensures c.trimmed-found.ensures
-              c.before.before.joined-blocking.ensures one (rw next so_far),
-          later-next _ _ _ _ _ _ c.before.before.before.before.before.before.before.before.before.before.before.before.before.before.before.before.before.before.before.before.args.asked (at-loop.loop-k.k - 1) at-loop.loop-k.each (omega (arith, more, room, fits.few)) c.before.before.joined-blocking.ensures
+          shared-next _ _ _ _ _ _ _ _ _ _ (omega (arith, more)) {blocking' = at-loop.loop-k.blocking} c.joined.ensures c.trimmed-found.ensures
+              c.joined-blocking.ensures one (rw next so_far),
+          later-next _ _ _ _ _ _ c.args.asked (at-loop.loop-k.k - 1) at-loop.loop-k.each (omega (arith, more, room, fits.few)) c.joined-blocking.ensures
               one.covered so_far.covered one (rw next later),
         ),
-        (c.before.before.before.before.before.before.before.memory-1.given ∙ before.0, now-remembered),
+        (c.memory-1.given ∙ before.0, now-remembered),
       ),
     )
 
@@ -1141,7 +1141,7 @@ shared-search-returns-2 t c =
     let at-loop = c.before.before in
     let ((few, room), ((so_far, later), (same, now-remembered))) = at-loop.loop-k.invariant in
     let (found-is, blocking-is) = c.answered.ensures in
-    let none : at-loop.loop-k.k ≡ 0 = omega (arith, c.before.loop-k-test.false) in
+    let none : at-loop.loop-k.k ≡ 0 = omega (arith, c.loop-k-test.false) in
     (rw (found-is, blocking-is) (asked-all _ _ _ _ _ _ _ _ none so_far), now-remembered)
 
 -- a place of `credential_search`, or a need, where its measure is t; and what it needs, whatever its measure is
@@ -1164,7 +1164,7 @@ credential-search-credential-requires t c κs = search rules
 
 credential-search-ends-word-requires : credential-search-needs credential-search-lts.Need-ends_word-requires
 credential-search-ends-word-requires t c κs =
-    let (searched, (tried, remembered)) = c.before.before.before.before.before.before.before.requires.1 in (
+    let (searched, (tried, remembered)) = c.requires.1 in (
       searched.well_formed,
       (searched.moving, (searched.indexed.placed, (below-most searched.well_formed _ tried.there, remembered.few))),
     )
@@ -1177,21 +1177,21 @@ credential-search-answered-requires t c κs = search rules
 
 credential-search-parts-search-requires : credential-search-needs credential-search-lts.Need-parts_search-requires
 credential-search-parts-search-requires t c κs =
-    let (searched, (tried, remembered)) = c.before.before.before.before.before.before.before.before.requires.1 in
-    let kind = kind-read _ _ _ c.before.before.credential-credential.ensures 2 c.before.in-2.is in
-    (omega (arith, c.before.before.before.before.before.before.before.before.requires.0), (searched, (tried, (inl kind, remembered))))
+    let (searched, (tried, remembered)) = c.requires.1 in
+    let kind = kind-read _ _ _ c.credential-credential.ensures 2 c.in-2.is in
+    (omega (arith, c.requires.0), (searched, (tried, (inl kind, remembered))))
 
 credential-search-linked-search-requires : credential-search-needs credential-search-lts.Need-linked_search-requires
 credential-search-linked-search-requires t c κs =
-    let (searched, (tried, remembered)) = c.before.before.before.before.before.before.before.before.requires.1 in
-    let kind = kind-read _ _ _ c.before.before.credential-credential.ensures 3 c.before.in-3.is in
-    (omega (arith, c.before.before.before.before.before.before.before.before.requires.0), (searched, (tried, (kind, remembered))))
+    let (searched, (tried, remembered)) = c.requires.1 in
+    let kind = kind-read _ _ _ c.credential-credential.ensures 3 c.in-3.is in
+    (omega (arith, c.requires.0), (searched, (tried, (kind, remembered))))
 
 credential-search-parts-search-requires-2 : credential-search-needs credential-search-lts.Need-parts_search-requires-in-4
 credential-search-parts-search-requires-2 t c κs =
-    let (searched, (tried, remembered)) = c.before.before.before.before.before.before.before.before.requires.1 in
-    let kind = kind-read _ _ _ c.before.before.credential-credential.ensures 4 c.before.in-4.is in
-    (omega (arith, c.before.before.before.before.before.before.before.before.requires.0), (searched, (tried, (inr kind, remembered))))
+    let (searched, (tried, remembered)) = c.requires.1 in
+    let kind = kind-read _ _ _ c.credential-credential.ensures 4 c.in-4.is in
+    (omega (arith, c.requires.0), (searched, (tried, (inr kind, remembered))))
 
 credential-search-nothing-requires-2 : credential-search-needs credential-search-lts.Need-nothing-requires-in_default
 credential-search-nothing-requires-2 t c κs = search rules
@@ -1201,10 +1201,10 @@ credential-search-failed-requires t c κs = search rules
 
 credential-search-returns : credential-search-needs credential-search-lts.Need-returns-in-1
 credential-search-returns t c =
-    let (searched, (tried, remembered)) = c.before.before.before.before.before.before.before.before.before.before.requires.1 in
-    let kind = kind-read _ _ _ c.before.before.before.before.credential-credential.ensures 1 c.before.before.before.in-1.is in
+    let (searched, (tried, remembered)) = c.requires.1 in
+    let kind = kind-read _ _ _ c.credential-credential.ensures 1 c.in-1.is in
     let (found-is, blocking-is) = c.answered.ensures in (
-      rw (found-is, blocking-is) (word-judged searched tried kind _ _ remembered.few _ c.before.before.ends_word.ensures c.before.nothing.ensures),
+      rw (found-is, blocking-is) (word-judged searched tried kind _ _ remembered.few _ c.ends_word.ensures c.nothing.ensures),
       remembered,
     )
 
@@ -1228,10 +1228,10 @@ credential-search-returns-4 t c = search rules
 
 credential-search-returns-5 : credential-search-needs credential-search-lts.Need-returns-in_default
 credential-search-returns-5 t c =
-    let (searched, (tried, remembered)) = c.before.before.before.before.before.before.before.before.before.requires.1 in
-    let no = c.before.before.in_default.rest in (
-      judged-never c.failed.ensures.0 (c.failed.ensures.1 ∙ c.before.nothing-in_default.ensures) (λ X owed b.
-          sym (kind-other _ _ _ c.before.before.before.credential-credential.ensures _ _ _ no.0.0.0.1 no.0.0.1 no.0.1 no.1)),
+    let (searched, (tried, remembered)) = c.requires.1 in
+    let no = c.in_default.in_default-own.rest in (
+      judged-never c.failed.ensures.0 (c.failed.ensures.1 ∙ c.nothing-in_default.ensures) (λ X owed b.
+          sym (kind-other _ _ _ c.credential-credential.ensures _ _ _ no.0.0.0.1 no.0.0.1 no.0.1 no.1)),
       remembered,
     )
 

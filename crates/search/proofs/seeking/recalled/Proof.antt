@@ -29,13 +29,13 @@ blocking-at-requires c κs = search rules
 returns : tie.Need-returns-then-recalls
 returns c =
     let at = c.before.before in
-    let recalled = at.before.before.recalls.ensures at.before.if-recalls.true in
+    let recalled = at.recalls.ensures at.if-recalls.true in
     let start = at.before.before.before.before in (
       (λ t S A remembered. (
         recalled-covered t S A _ remembered recalled _ c.blocking_at.ensures,
         recalled-bounds t S A _ remembered recalled _ c.blocking_at.ensures start.requires.0 (eight start) _ at.family_at-wanted.ensures,
       )),
-      no-sets _ _ c.before.is_none.ensures,
+      no-sets _ _ c.is_none.ensures,
     )
 
 only-requires : tie.Need-only-requires
@@ -46,7 +46,7 @@ nothing-requires c κs = search rules
 
 returns-2 : tie.Need-returns
 returns-2 c = (
-  (λ t S A remembered. (rw c.nothing.ensures (covers-none _), only-bounds remembered.few _ _ _ c.before.only.ensures)),
+  (λ t S A remembered. (rw c.nothing.ensures (covers-none _), only-bounds remembered.few _ _ _ c.only.ensures)),
   (λ never. absurd (false-true never)),
 )
 

@@ -8,7 +8,7 @@ use Rattle.table.proofs.Role.same.Tie as tie
 returns : tie.Need-returns-then-self-other
 unfolding same_role
 returns c =
-    let if1 = c.before.before.if-self-other in
+    let if1 = c.if-self-other in
     and-on (eq-eqb _ _ if1.true)
 
 returns-2 : tie.Need-returns-else-self-other

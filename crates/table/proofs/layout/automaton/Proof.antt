@@ -21,7 +21,7 @@ automaton-at-requires c κs = search rules
 
 returns : tie.Need-returns
 unfolding automaton
-returns c = rw (← c.before.automata_base.ensures) c.automaton_at.ensures
+returns c = rw (← c.automata_base.ensures) c.automaton_at.ensures
 
 pub automaton_spec : {M : Type 1} → statement M
 automaton_spec =

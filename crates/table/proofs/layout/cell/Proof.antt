@@ -21,7 +21,7 @@ cell-at-requires c κs = search rules
 
 returns : tie.Need-returns
 unfolding cell
-returns c = rw (← c.before.cells_base.ensures) c.cell_at.ensures
+returns c = rw (← c.cells_base.ensures) c.cell_at.ensures
 
 pub cell_spec : {M : Type 1} → statement M
 cell_spec =

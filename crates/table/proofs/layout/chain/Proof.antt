@@ -17,7 +17,7 @@ abbrev decreases-loop : tie.decreases-loop-j
 decreases-loop table first roles₀ len₀ j₀ roles len j = 5 - len
 
 loop-holds : tie.Need-loop-j-init invariant-loop decreases-loop
-loop-holds c = gather-starts _ _ _ refl c.before.requires.1.0.last
+loop-holds c = gather-starts _ _ _ refl c.requires.1.0.last
 
 wide-requires : tie.Need-wide-requires invariant-loop decreases-loop
 wide-requires c κs = search rules
@@ -25,11 +25,11 @@ wide-requires c κs = search rules
 cell-requires : tie.Need-cell-c-requires invariant-loop decreases-loop
 cell-requires c κs = search rules
 
-room : (c : tie.After-cell-c invariant-loop decreases-loop) → c.before.before.before.loop-j.len < most_parts
+room : (c : tie.After-cell-c invariant-loop decreases-loop) → c.loop-j.len < most_parts
 room c =
-    let loop = c.before.before.before.loop-j in
-    let pre = c.before.before.before.before.before.requires in
-    gather-room _ _ _ _ _ loop.invariant pre.1.1 c.before.before.loop-j-test.true
+    let loop = c.loop-j in
+    let pre = c.requires in
+    gather-room _ _ _ _ _ loop.invariant pre.1.1 c.loop-j-test.true
 
 mul-roles : tie.Need-offset_bounds-roles-len invariant-loop decreases-loop
 mul-roles c = omega (arith, room c.before)
@@ -45,16 +45,16 @@ loop-less c = omega (arith, room c.before)
 
 loop-again : tie.Need-loop-j-preserved invariant-loop decreases-loop
 loop-again c =
-    let wide = c.before.before.wide in
-    let loop = c.before.before.before.before.loop-j in
-    let wf = c.before.before.before.before.before.before.requires.0 in
+    let wide = c.wide in
+    let loop = c.loop-j in
+    let wf = c.requires.0 in
     let inside = (wf-cell _ wf loop.j (omega (arith, loop.invariant.walked.inside))).next in
-    rw (c.before.cell-c.ensures, wide.ensures.0)
-    (gather-goes-on _ _ _ _ _ loop.invariant inside c.before.before.before.loop-j-test.true (room c.before))
+    rw (c.cell-c.ensures, wide.ensures.0)
+    (gather-goes-on _ _ _ _ _ loop.invariant inside c.loop-j-test.true (room c.before))
 
 returns : tie.Need-returns invariant-loop decreases-loop
 returns c =
-    let gathered = c.before.loop-j.invariant in
+    let gathered = c.loop-j.invariant in
     let roles = gather-ends _ _ _ _ _ gathered c.loop-j-test.false in
     record { few = gathered.walked.few; room = gathered.room; roles = roles }
 

@@ -21,7 +21,7 @@ edge-at-requires c κs = search rules
 
 returns : tie.Need-returns
 unfolding edge
-returns c = rw (← c.before.edges_base.ensures) c.edge_at.ensures
+returns c = rw (← c.edges_base.ensures) c.edge_at.ensures
 
 pub edge_spec : {M : Type 1} → statement M
 edge_spec =

@@ -13,7 +13,7 @@ has-16-requires c κs = search rules
 
 returns : tie.Need-returns-then-not-has_16
 unfolding ◌or◌
-returns c = rw (failed c.before.has_16.ensures c.if-not-has_16.true)
+returns c = rw (failed c.has_16.ensures c.if-not-has_16.true)
 
 sub-has-16-2 : tie.Need-overflow_sub-k-2
 sub-has-16-2 c = search rules
@@ -23,7 +23,7 @@ has-16-requires-2 c κs = search rules
 
 returns-2 : tie.Need-returns
 unfolding ◌or◌
-returns-2 c = rw (passed c.before.before.has_16.ensures c.before.if-not-has_16.false) c.has_16-2.ensures
+returns-2 c = rw (passed c.has_16.ensures c.if-not-has_16.false) c.has_16-2.ensures
 
 pub is_kept_spec : {M : Type 1} → statement M
 is_kept_spec =

@@ -35,9 +35,9 @@ looped at = at.before.before.before.before
 
 kept : (at : tie.After-is_kept invariant-loop decreases-loop) → at.is_kept.result ≡ test (looped at) ((looped at).loop-k.k + 1)
 kept at =
-    let imposed = (looped at).before.before.automata_of-imposed.ensures in
-    let read = at.before.before.automaton-automaton.ensures in
-    at.is_kept.ensures ∙ kept-flag _ _ _ _ _ _ _ imposed read at.before.demanded.ensures
+    let imposed = (looped at).automata_of-imposed.ensures in
+    let read = at.automaton-automaton.ensures in
+    at.is_kept.ensures ∙ kept-flag _ _ _ _ _ _ _ imposed read at.demanded.ensures
 
 automata-of-requires : tie.Need-automata_of-imposed-requires invariant-loop decreases-loop
 automata-of-requires c κs = search rules
@@ -68,7 +68,7 @@ returns : tie.Need-returns-then-not-is_kept invariant-loop decreases-loop
 unfolding number_of
 returns c =
     let loop = looped c.before.before in
-    let stops = failed (kept c.before.before) c.before.if-not-is_kept.true in
+    let stops = failed (kept c.before.before) c.if-not-is_kept.true in
     let all = automata (start loop).args.table.now in
     c.refused.ensures
     ∙ refused-then _ (each-stops (test loop) 14 loop.loop-k.k all (omega arith) loop.loop-k.inv.1 stops)

@@ -48,7 +48,7 @@ returns c =
     record {
       later = omega arith;
       there = omega arith;
-      person-is = c.before.before.if-self-j.true;
+      person-is = c.if-self-j.true;
       place_is = eqb-true _ _ c.if-self-j-2.true;
     }
 
