@@ -360,7 +360,7 @@ module _ (t : ℕ) where
   admits-found-told : (at : admits-found-start) → let args = at.args in
       covers args.found args.terms.owed
       ≡ provable args.table.now args.query args.terms.allowed args.terms.constraints args.terms.owed
-  admits-found-told at = tells-owed _ at.pre.1.0.prepared.well_formed _ _ _ _ _ at.pre.1.1.tells
+  admits-found-told at = tells-owed _ at.requires.1.0.prepared.well_formed _ _ _ _ _ at.requires.1.1.tells
 
   -- leaving out the credentials of what cannot be met leaves fewer, and admits the same
   admits-found-proved : (c : admits-found-lost) → let args = (admits-found-asked c).args in
@@ -407,14 +407,13 @@ admits-found-lacking-requires t c κs =
     (u.few, few-left u)
 
 admits-found-without-requires : admits-found-needs admits-found-lts.Need-without-fewer-requires
-admits-found-without-requires t c κs = (admits-found-asked t c.before).pre.1.0.prepared.well_formed
+admits-found-without-requires t c κs = (admits-found-asked t c.before).requires.1.0.prepared.well_formed
 
 admits-found-admits-under-requires : admits-found-needs admits-found-lts.Need-admits_under-requires
 admits-found-admits-under-requires t c κs =
-    let lost = c.before.before in
-    let pre = (admits-found-asked t lost).requires in
+    let pre = (admits-found-asked t c).requires in
     let u = pre.1.0 in
-    let fewer = rw (← c.without-fewer.ensures) at (admits-found-less t lost c.if-lost-ne0.true) in
+    let fewer = rw (← c.without-fewer.ensures) at (admits-found-less t c c.if-lost-ne0.true) in
     (omega (arith, pre.0, fewer), (u.prepared, (u.marks-are, (u.there, u.few))))
 
 admits-found-returns-3 : admits-found-needs admits-found-lts.Need-returns-then-lost-ne0
@@ -427,13 +426,12 @@ admits-found-automata-of-requires t c κs = search rules
 
 admits-found-admits-by-requires : admits-found-needs admits-found-lts.Need-admits_by-requires
 admits-found-admits-by-requires t c κs =
-    let pre = (admits-found-asked t c.before.before).pre in
+    let pre = (admits-found-asked t c.before.before).requires in
     (omega (arith, pre.0), (pre.1.0, record { bears = c.automata_of-borne.ensures; tells = pre.1.1.tells }))
 
 admits-found-returns-4 : admits-found-needs admits-found-lts.Need-returns
 admits-found-returns-4 t c =
-    let lost = c.before.before.before in
-    let proved = sym (admits-found-told t (admits-found-asked t lost)) ∙ admits-found-proved t lost in
+    let proved = sym (admits-found-told t (admits-found-asked t c)) ∙ admits-found-proved t c in
     to-proved _ _ _ _ _ _ proved c.admits_by.ensures
 
 -- what `admits_over` needs, whatever its measure is
@@ -567,8 +565,7 @@ imposes-one-returns-2 : imposes-one-needs imposes-one-lts.Need-returns
 imposes-one-returns-2 t c =
     let pre = c.requires.1 in
     let asks = c.imposing-more.ensures in
-    let under = c.before.before.before.before.before in
-    let out = spared-told _ _ _ _ _ _ under.without_one-fewer.ensures under.admits_under.ensures in
+    let out = spared-told _ _ _ _ _ _ c.without_one-fewer.ensures c.admits_under.ensures in
     let over = rw (asks.allowed-is, asks.owed-is) at c.admits_found.ensures in
     over ∙ imposes-met _ _ _ _ _ _ pre.1.0 pre.1.1 asks.every-is (sym out ∙ c.if-admits_under.false)
 
@@ -616,10 +613,9 @@ owes-one-admits-by-requires t c κs =
 owes-one-returns : owes-one-needs owes-one-lts.Need-returns-then-admits_by
 owes-one-returns t c =
     let (known, (is, marked)) = c.requires.1.1 in
-    let told = c.before.before.before in
-    let asks = told.owing-more.ensures in
+    let asks = c.owing-more.ensures in
     let met = rw (asks.allowed-is, asks.every-is) at (sym c.admits_by.ensures ∙ c.if-admits_by.true) in
-    owes-met _ _ _ _ _ _ is marked asks.owed-is (sym (owes-one-told t told) ∙ c.if-covers.true) met
+    owes-met _ _ _ _ _ _ is marked asks.owed-is (sym (owes-one-told t c) ∙ c.if-covers.true) met
 
 owes-one-without-one-requires : owes-one-needs owes-one-lts.Need-without_one-fewer-requires
 owes-one-without-one-requires t c κs =
@@ -639,13 +635,12 @@ owes-one-admits-under-requires t c κs =
 owes-one-returns-2 : owes-one-needs owes-one-lts.Need-returns
 owes-one-returns-2 t c =
     let (known, (is, marked)) = c.requires.1.1 in
-    let told = c.before.before.before in
-    let asks = told.owing-more.ensures in
+    let asks = c.owing-more.ensures in
     spared-told _ _ _ _ _ _ c.without_one-fewer.ensures c.admits_under.ensures
     ∙ ⊎_elim
     (λ way. owes-unmet _ _ _ _ _ _ is marked asks.owed-is
     (rw (asks.allowed-is, asks.every-is) at (sym way.1.ensures ∙ way.2.false)))
-    (λ way. owes-unproved _ _ _ _ _ _ is marked asks.owed-is (sym (owes-one-told t told) ∙ way.false))
+    (λ way. owes-unproved _ _ _ _ _ _ is marked asks.owed-is (sym (owes-one-told t c) ∙ way.false))
     c.if-covers.branch
 
 pub +admit_spec : {M : Type 1} → statement M

@@ -50,15 +50,13 @@ same_length c = search rules
 
 returns-3 : tie.Need-returns-then-asked
 returns-3 c =
-    let at = c.before.before.before in
-    let (wf, (index, there)) = (start at).requires in
-    asked-again wf index there at.if-arcs-eq0.false c.if-asked.true
+    let (wf, (index, there)) = (start c.before.before.before).requires in
+    asked-again wf index there c.if-arcs-eq0.false c.if-asked.true
 
 fill-requires : tie.Need-fill-requires
 fill-requires c κs =
-    let at = c.before.before.before.before in
-    let (wf, (index, there)) = (start at).requires in
-    (wf, (index, (there, (index-whole index.room at.if-arcs-eq0.false, c.if-asked-eq-MADE.false))))
+    let (wf, (index, there)) = (start c.before.before.before.before).requires in
+    (wf, (index, (there, (index-whole index.room c.if-arcs-eq0.false, c.if-asked-eq-MADE.false))))
 
 same-length-2 : tie.Need-shape_of-arcs
 same-length-2 c = search rules

@@ -52,17 +52,16 @@ loop-less c = search rules
 
 loop-again : tie.Need-loop-k-preserved invariant-loop decreases-loop
 loop-again c =
-    let at = c.before.before.before in
-    let so_far = at.loop-k.invariant.1 in
+    let so_far = c.loop-k.invariant.1 in
     let read = c.automaton-automaton.ensures in
-    (omega arith, written-more _ _ so_far (omega (arith, whole at, so_far.size)) (rw (c.states.ensures, read)))
+    (omega arith, written-more _ _ so_far (omega (arith, whole c.before.before.before, so_far.size)) (rw (c.states.ensures, read)))
 
 same_length : tie.Need-shape_of-arcs invariant-loop decreases-loop
 same_length c = c.loop-k.invariant.1.size
 
 returns : tie.Need-returns invariant-loop decreases-loop
 returns c =
-    let pre = (start c.before).pre in
+    let pre = (start c.before).requires in
     begun_all _ _ _ _ pre.0 pre.1 (omega arith) c.loop-k.invariant.1
 
 pub begin_spec : {M : Type 1} → statement M

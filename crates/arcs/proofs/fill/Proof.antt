@@ -26,14 +26,14 @@ abbrev loop : tie.After-edge-edge invariant-loop decreases-loop → tie.At-loop-
 loop at = at.before.before
 
 abbrev matched : tie.After-struct_known-1 invariant-loop decreases-loop → tie.Then-matches invariant-loop decreases-loop
-matched at = at.before.before
+matched at = at.before
 
 abbrev read : tie.After-struct_known-1 invariant-loop decreases-loop → tie.After-edge-edge invariant-loop decreases-loop
 read at = (matched at).before.before
 
 in-range : (at : tie.After-edge-edge invariant-loop decreases-loop) → let e = at.edge-edge.result in
     Numbered most_automata e.automaton × ((e.from ≤ last_state) × (e.to ≤ last_state))
-in-range at = edge-there _ (start (loop at).before).pre.0 _ (omega arith) at.edge-edge.ensures
+in-range at = edge-there _ (start (loop at).before).requires.0 _ (omega arith) at.edge-edge.ensures
 
 clear-requires : tie.Need-clear-requires invariant-loop decreases-loop
 clear-requires c κs = search rules
@@ -65,14 +65,14 @@ shl-find : tie.Need-overflow_shl-edge invariant-loop decreases-loop
 shl-find c = omega (arith, (in-range (read c)).1.1)
 
 find-requires : tie.Need-find-l-requires invariant-loop decreases-loop
-find-requires c κs = making-room (loop (read c)).loop-k.inv.1
+find-requires c κs = making-room (loop (read c)).loop-k.invariant.1
 
 put-requires : tie.Need-put-requires invariant-loop decreases-loop
 put-requires c κs =
     let at = read c.before.before in
     let states = (in-range at).1 in
     let mask = one_bit 16 at.edge-edge.result.to (omega (arith, states.1)) in
-    let m = (loop at).loop-k.inv.1 in
+    let m = (loop at).loop-k.invariant.1 in
     (making-room m, (making-found m _ at.edge-edge.ensures _ mask c.find-l.ensures states.1, in-range at))
 
 loop-less : tie.Need-loop-k-smaller-then-matches invariant-loop decreases-loop
@@ -80,14 +80,13 @@ loop-less c = search rules
 
 loop-again : tie.Need-loop-k-preserved-then-matches invariant-loop decreases-loop
 loop-again c =
-    let found = c.before.before.before.before in
-    let match = matched found.before in
-    let at = read found.before in
+    let match = matched c.before.before.before.before.before in
+    let at = read c.before.before.before.before.before in
     let (own, (from, to)) = in-range at in
     let on = sym match.matches.ensures ∙ match.if1.true in
     let mask = one_bit 16 at.edge-edge.result.to (omega (arith, to)) in (
       omega arith,
-      making-more (loop at).loop-k.inv.1 _ at.edge-edge.ensures _ mask found.find-l.ensures to own on
+      making-more (loop at).loop-k.invariant.1 _ at.edge-edge.ensures _ mask c.find-l.ensures to own on
           c.put.ensures,
     )
 
@@ -96,9 +95,8 @@ loop-less-2 c = search rules
 
 loop-again-2 : tie.Need-loop-k-preserved invariant-loop decreases-loop
 loop-again-2 c =
-    let at = c.before.before in
     let off = sym c.matches.ensures ∙ c.if-matches.false in
-    (omega arith, making-past (loop at).loop-k.invariant.1 _ at.edge-edge.ensures off)
+    (omega arith, making-past (loop c.before.before).loop-k.invariant.1 _ c.edge-edge.ensures off)
 
 add-arcs : tie.Need-overflow_add-arcs invariant-loop decreases-loop
 add-arcs c = search rules
@@ -110,13 +108,12 @@ slice-write-arcs : tie.Need-bounds-arcs-place invariant-loop decreases-loop
 slice-write-arcs c = let room = making-room c.loop-k.invariant.1 in omega (arith, room.0, room.1)
 
 same_length : tie.Need-shape_of-arcs invariant-loop decreases-loop
-same_length c = making-length c.loop-k.invariant.1 _ ∙ sym (start c.before.before).pre.1.1.1.0
+same_length c = making-length c.loop-k.invariant.1 _ ∙ sym (start c.before.before).requires.1.1.1.0
 
 returns : tie.Need-returns invariant-loop decreases-loop
 returns c =
-    let at = c.before.before.before.before in
-    let made = making-all _ at.credential-credential.ensures c.loop-k.invariant.1 (omega arith) in
-    (made.0, made-since at.clear.ensures made.1)
+    let made = making-all _ c.credential-credential.ensures c.loop-k.invariant.1 (omega arith) in
+    (made.0, made-since c.clear.ensures made.1)
 
 pub fill_spec : {M : Type 1} → statement M
 fill_spec =

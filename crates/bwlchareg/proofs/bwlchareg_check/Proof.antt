@@ -23,14 +23,12 @@ refuse-requires c κs = search rules
 returns : tie.Need-returns-in-Accepted
 unfolding table_told
 returns c =
-    let found = c.before.before in
-    told-as table_told c.accept.ensures found.in-Accepted.is found.check_table.ensures
+    told-as table_told c.accept.ensures c.in-Accepted.is c.check_table.ensures
 
 returns-2 : tie.Need-returns-in-Refused
 unfolding table_told
 returns-2 c =
-    let found = c.before.before.before in
-    told-as table_told c.refuse.ensures found.in-Refused.is found.check_table.ensures
+    told-as table_told c.refuse.ensures c.in-Refused.is c.check_table.ensures
 
 pub bwlchareg_check_spec : {M : Type 1} → statement M
 bwlchareg_check_spec =

@@ -40,14 +40,12 @@ refuse-requires c κs = search rules
 returns : tie.Need-returns-in-Valid
 unfolding query_told
 returns c =
-    let found = c.before.before in
-    told-as query_told c.accept.ensures found.in-Valid.is (answer found.before.before)
+    told-as query_told c.accept.ensures c.in-Valid.is (answer c.before.before.before.before)
 
 returns-2 : tie.Need-returns-in-Refused
 unfolding query_told
 returns-2 c =
-    let found = c.before.before.before in
-    told-as query_told c.refuse.ensures found.in-Refused.is (answer found.before.before)
+    told-as query_told c.refuse.ensures c.in-Refused.is (answer c.before.before.before.before.before)
 
 pub bwlchareg_check_query_spec : {M : Type 1} → statement M
 bwlchareg_check_query_spec =

@@ -45,9 +45,8 @@ same_length c = search rules
 returns : tie.Need-returns-in-Listed
 unfolding listing_told
 returns c =
-    let found = c.before.before.before in
-    let (outcome, buffer) = answer found.before.before.before.before in
-    (told-as listing_told c.accept.ensures found.in-Listed.is outcome, buffer)
+    let (outcome, buffer) = answer c.before.before.before.before.before.before.before in
+    (told-as listing_told c.accept.ensures c.in-Listed.is outcome, buffer)
 
 same-length-2 : tie.Need-shape_of-sets-in-Refused
 same-length-2 c = search rules
@@ -55,9 +54,8 @@ same-length-2 c = search rules
 returns-2 : tie.Need-returns-in-Refused
 unfolding listing_told
 returns-2 c =
-    let found = c.before.before.before in
-    let (outcome, buffer) = answer found.before.before.before.before in
-    (told-as listing_told c.refuse.ensures found.in-Refused.is outcome, buffer)
+    let (outcome, buffer) = answer c.before.before.before.before.before.before.before in
+    (told-as listing_told c.refuse.ensures c.in-Refused.is outcome, buffer)
 
 pub bwlchareg_list_spec : {M : Type 1} → statement M
 bwlchareg_list_spec =

@@ -43,14 +43,12 @@ refuse-requires c κs = search rules
 returns : tie.Need-returns-in-Accepted
 unfolding verdict_told
 returns c =
-    let found = c.before.before.before in
-    told-as verdict_told c.accept.ensures found.in-Accepted.is (answer found.before.before)
+    told-as verdict_told c.accept.ensures c.in-Accepted.is (answer c.before.before.before.before.before)
 
 returns-2 : tie.Need-returns-in-Refused
 unfolding verdict_told
 returns-2 c =
-    let found = c.before.before.before in
-    told-as verdict_told c.refuse.ensures found.in-Refused.is (answer found.before.before)
+    told-as verdict_told c.refuse.ensures c.in-Refused.is (answer c.before.before.before.before.before)
 
 pub bwlchareg_verify_spec : {M : Type 1} → statement M
 bwlchareg_verify_spec =

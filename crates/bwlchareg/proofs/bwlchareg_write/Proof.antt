@@ -46,9 +46,8 @@ same_length c = search rules
 returns : tie.Need-returns-in-Length
 unfolding written_told
 returns c =
-    let found = c.before.before.before in
-    let (outcome, buffer) = answer found.before.before.before.before in
-    (told-as written_told c.accept.ensures found.in-Length.is outcome, buffer)
+    let (outcome, buffer) = answer c.before.before.before.before.before.before.before in
+    (told-as written_told c.accept.ensures c.in-Length.is outcome, buffer)
 
 same-length-2 : tie.Need-shape_of-rec-in-Refused
 same-length-2 c = search rules
@@ -56,9 +55,8 @@ same-length-2 c = search rules
 returns-2 : tie.Need-returns-in-Refused
 unfolding written_told
 returns-2 c =
-    let found = c.before.before.before in
-    let (outcome, buffer) = answer found.before.before.before.before in
-    (told-as written_told c.refuse.ensures found.in-Refused.is outcome, buffer)
+    let (outcome, buffer) = answer c.before.before.before.before.before.before.before in
+    (told-as written_told c.refuse.ensures c.in-Refused.is outcome, buffer)
 
 pub bwlchareg_write_spec : {M : Type 1} → statement M
 bwlchareg_write_spec =

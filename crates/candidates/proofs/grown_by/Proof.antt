@@ -51,15 +51,13 @@ admits-requires c κs = search rules
 
 returns-5 : tie.Need-returns-then-admits
 returns-5 c =
-    let at_with = c.before.before.before.before.before.before.before.before in
-    let pre = at_with.requires in
+    let pre = c.requires in
     grown-same pre.1.1.1.0 pre.1.1.1.1.0
 
 returns-6 : tie.Need-returns
 returns-6 c =
-    let at_with = c.before.before.before.before.before.before.before.before in
-    let with = at_with.with-more in
-    let pre = at_with.requires in
+    let with = c.with-more in
+    let pre = c.requires in
     let fails = sym (pre.1.0 _) ∙ sym c.admits.ensures ∙ c.if-admits.false in
     grown-more _ _ _ pre.1.1.1.0 pre.1.1.1.1.1 with.ensures fails
 

@@ -20,10 +20,10 @@ name-ok : (c : tie.Else-not-is_name) → is_name c.args.query.name ≡ true
 name-ok c = passed c.is_name.ensures c.if-not-is_name.false
 
 abbrev owner-asked : tie.Else-not-is_principal-2 → tie.Else-not-is_principal
-owner-asked c = c.before.before
+owner-asked c = c.before.before.before
 
 abbrev name-asked : tie.Else-not-is_name → tie.Else-not-is_principal-2
-name-asked c = c.before.before
+name-asked c = c.before.before.before
 
 is-principal-requires : tie.Need-is_principal-requires
 is-principal-requires c κs = search rules
@@ -45,7 +45,7 @@ bad-field-requires-2 c κs = search rules
 returns-2 : tie.Need-returns-then-not-is_principal-2
 returns-2 c =
     let bad = failed c.is_principal-2.ensures c.if-not-is_principal-2.true in
-    c.bad_field-then-not-is_principal-2.ensures ∙ owner-refused _ (principal-ok c.before.before.before) bad
+    c.bad_field-then-not-is_principal-2.ensures ∙ owner-refused _ (principal-ok c.before.before.before.before) bad
 
 is-name-requires : tie.Need-is_name-requires
 is-name-requires c κs = search rules
@@ -55,9 +55,8 @@ bad-field-requires-3 c κs = search rules
 
 returns-3 : tie.Need-returns-then-not-is_name
 returns-3 c =
-    let at = c.before.before.before in
     let bad = failed c.is_name.ensures c.if-not-is_name.true in
-    c.bad_field-then-not-is_name.ensures ∙ name-refused _ (principal-ok (owner-asked at)) (owner-ok at) bad
+    c.bad_field-then-not-is_name.ensures ∙ name-refused _ (principal-ok (owner-asked c.before.before.before.before)) (owner-ok c.before.before.before.before) bad
 
 cast-within : tie.Need-overflow_cast-within
 cast-within c = search rules
@@ -70,18 +69,16 @@ bad-field-requires-4 c κs = search rules
 
 returns-4 : tie.Need-returns-then-not-within
 returns-4 c =
-    let at = c.before.before.before in
-    let owner = name-asked at in
+    let owner = name-asked c.before.before.before in
     let bad = failed c.within.ensures c.if-not-within.true in
-    c.bad_field-then-not-within.ensures ∙ depth-refused _ (principal-ok (owner-asked owner)) (owner-ok owner) (name-ok at) bad
+    c.bad_field-then-not-within.ensures ∙ depth-refused _ (principal-ok (owner-asked owner)) (owner-ok owner) (name-ok c.before.before.before) bad
 
 returns-5 : tie.Need-returns
 unfolding query_told
 returns-5 c =
-    let at = c.before.before in
-    let owner = name-asked at in
+    let owner = name-asked c.before.before in
     let depth = passed c.within.ensures c.if-not-within.false in
-    query-valid _ (principal-ok (owner-asked owner)) (owner-ok owner) (name-ok at) depth
+    query-valid _ (principal-ok (owner-asked owner)) (owner-ok owner) (name-ok c.before.before) depth
 
 pub check_query_spec : {M : Type 1} → statement M
 check_query_spec =

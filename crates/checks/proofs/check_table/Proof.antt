@@ -193,10 +193,9 @@ add-if4 c = search rules
 returns-5 : tie.Need-returns-then-edges-automata-eq0
 unfolding row_outcome records table_told
 returns-5 c =
-    let at = c.before.before.before in
     let edges = c.edges.ensures in
     let automata = c.automata.ensures in
-    rows_empty _ (omega (arith, c.if-edges-automata-eq0.true, edges.same)) (omega (arith, c.if-edges-automata-eq0.true, automata.same)) ∙ edges-left at
+    rows_empty _ (omega (arith, c.if-edges-automata-eq0.true, edges.same)) (omega (arith, c.if-edges-automata-eq0.true, automata.same)) ∙ edges-left c.before.before.before
 
 first-bad-requires-3 : tie.Need-first_bad-edge-requires
 first-bad-requires-3 c κs = edges-sized (edges-asked c)

@@ -26,26 +26,23 @@ asked at = at.before.before.before.before.before.before.before.before.before.bef
 
 roles-asked-requires : tie.Need-roles_asked-requires
 roles-asked-requires c κs =
-    let at = c.before.before in
-    let pre = (asked at).requires.0 in
-    let there = at.least_credential-i.ensures.0.0 in
-    (pre.well_formed, (pre.indexed, (there, not-linking _ _ _ at.credential-credential.ensures c.if-credential-ne-LINKING_CONTAINMENT.true)))
+    let pre = (asked c.before.before).requires.0 in
+    let there = c.least_credential-i.ensures.0.0 in
+    (pre.well_formed, (pre.indexed, (there, not-linking _ _ _ c.credential-credential.ensures c.if-credential-ne-LINKING_CONTAINMENT.true)))
 
 made-requires : tie.Need-made-requires
 made-requires c κs =
-    let at = c.before.before.before in
-    let there = at.least_credential-i.ensures.0.0 in
-    (below-most (asked at).requires.0.well_formed _ there, c.roles_asked.ensures.0)
+    let there = c.least_credential-i.ensures.0.0 in
+    (below-most (asked c.before.before.before).requires.0.well_formed _ there, c.roles_asked.ensures.0)
 
 same_length : tie.Need-shape_of-memory-then-credential-ne-LINKING_CONTAINMENT
 same_length c = search rules
 
 returns : tie.Need-returns-then-credential-ne-LINKING_CONTAINMENT
 returns c =
-    let at = c.before.before.before.before in
-    let pre = (asked at).requires in
-    let (least, remembered) = at.least_credential-i.ensures in
-    let other = not-linking _ _ _ at.credential-credential.ensures c.if-credential-ne-LINKING_CONTAINMENT.true in (
+    let pre = (asked c.before.before.before.before).requires in
+    let (least, remembered) = c.least_credential-i.ensures in
+    let other = not-linking _ _ _ c.credential-credential.ensures c.if-credential-ne-LINKING_CONTAINMENT.true in (
       chosen_plain pre.0 pre.1.0.0 _ _ _ _ _ least.0 least.1 other _
           (made-unlinked _ c.roles_asked.ensures.1 _ c.made.ensures),
       remembered,
@@ -53,21 +50,19 @@ returns c =
 
 least-middle-requires : tie.Need-least_middle-j-requires
 least-middle-requires c κs =
-    let at = c.before.before.before in
-    let pre = (asked at).requires in
-    let (least, remembered) = at.least_credential-i.ensures in (
+    let pre = (asked c.before.before.before).requires in
+    let (least, remembered) = c.least_credential-i.ensures in (
       pre.0,
       (
-        (tried-at pre.1.0.0 _ least.0, kind-read _ _ _ at.credential-credential.ensures 3 c.if-credential-ne-LINKING_CONTAINMENT.false),
+        (tried-at pre.1.0.0 _ least.0, kind-read _ _ _ c.credential-credential.ensures 3 c.if-credential-ne-LINKING_CONTAINMENT.false),
         (pre.1.1.0, (remembered, least-proved pre.0 pre.1.0.0 _ _ _ _ _ least.0 least.1)),
       ),
     )
 
 linked-requires : tie.Need-linked-requires
 linked-requires c κs =
-    let at = c.before.before.before.before.before.before in
-    let pre = (asked at).requires.0 in
-    let there = at.least_credential-i.ensures.0.0 in
+    let pre = (asked c.before.before.before.before.before.before).requires.0 in
+    let there = c.least_credential-i.ensures.0.0 in
     (pre.well_formed, (pre.indexed.placed, (there, c.least_middle-j.ensures.0.there)))
 
 same-length-2 : tie.Need-shape_of-memory
@@ -75,12 +70,10 @@ same-length-2 c = search rules
 
 returns-2 : tie.Need-returns
 returns-2 c =
-    let second = c.before.before.before in
-    let at = second.before.before.before.before in
-    let pre = (asked at).requires in
-    let least = at.least_credential-i.ensures.0 in
-    let three = kind-read _ _ _ at.credential-credential.ensures 3 second.if-credential-ne-LINKING_CONTAINMENT.false in
-    let (middle, remembered) = second.least_middle-j.ensures in
+    let pre = (asked c.before.before.before.before.before.before.before).requires in
+    let least = c.least_credential-i.ensures.0 in
+    let three = kind-read _ _ _ c.credential-credential.ensures 3 c.if-credential-ne-LINKING_CONTAINMENT.false in
+    let (middle, remembered) = c.least_middle-j.ensures in
     (chosen-with pre.0 pre.1.0.0 _ _ _ _ _ least.0 least.1 three _ middle _ c.linked.ensures, remembered)
 
 pub choose_spec : {M : Type 1} → statement M

@@ -58,10 +58,8 @@ inside at i l = omega (arith, l, at.last_usable-last.ensures.few, at.credentials
 
 credential-search-requires : tie.Need-credential_search-answer-requires invariant-loop decreases-loop
 credential-search-requires c κs =
-    let test = c.before.before.before in
-    let loop = test.before in
-    let pre = (asked loop.before).pre in
-    (pre.0, (tried-at pre.1.0.0 _ (inside loop.before _ test.loop-i-test.true), loop.loop-i.invariant.2.1))
+    let pre = (asked c.before.before.before.before.before).requires in
+    (pre.0, (tried-at pre.1.0.0 _ (inside c.before _ c.loop-i-test.true), c.loop-i.invariant.2.1))
 
 meets-requires : tie.Need-meets-requires invariant-loop decreases-loop
 meets-requires c κs = search rules
@@ -72,16 +70,13 @@ same_length c =
 
 returns : tie.Need-returns-then-meets invariant-loop decreases-loop
 returns c =
-    let asking = c.before.before.before.before in
-    let way = asking.before.before in
-    let loop = way.before.before.before in
-    let pre = (asked loop.before).pre in
-    let there = inside loop.before _ way.loop-i-test.true in
-    let (judged, remembered) = asking.credential_search-answer.ensures in
-    let proved = own-wanted _ _ _ _ _ _ _ _ pre.1.1.0 (judged-told (wide (asked loop.before)) judged) c.meets.ensures in (
-      chosen-here pre.0.indexed pre.1.0.0 pre.1.0.1 _ _ _ _ there loop.loop-i.invariant.1
-          (passes-here pre.0.indexed pre.1.0.0 pre.1.0.1 _ _ _ _ there way.may_use.ensures
-          way.if-may_use.true proved c.if-meets.true),
+    let pre = (asked c.before.before.before.before.before.before.before.before.before.before.before).requires in
+    let there = inside c.before _ c.loop-i-test.true in
+    let (judged, remembered) = c.credential_search-answer.ensures in
+    let proved = own-wanted _ _ _ _ _ _ _ _ pre.1.1.0 (judged-told (wide (asked c.before.before.before.before.before.before.before.before.before.before.before)) judged) c.meets.ensures in (
+      chosen-here pre.0.indexed pre.1.0.0 pre.1.0.1 _ _ _ _ there c.loop-i.invariant.1
+          (passes-here pre.0.indexed pre.1.0.0 pre.1.0.1 _ _ _ _ there c.may_use.ensures
+          c.if-may_use.true proved c.if-meets.true),
       remembered,
     )
 
@@ -93,15 +88,14 @@ loop-less c = search rules
 
 loop-again : tie.Need-loop-i-preserved invariant-loop decreases-loop
 loop-again c =
-    let loop = c.before.before.before in
-    let pre = (asked loop.before).pre in
-    let (_, so_far, remembered) = loop.loop-i.invariant in
+    let pre = (asked c.before.before.before.before).requires in
+    let (_, so_far, remembered) = c.loop-i.invariant in
     let next = c.loop-i-test.true in
-    let there = inside loop.before _ next in
+    let there = inside c.before _ next in
     let may-use = c.may_use.ensures in (
       omega (arith, next),
       ⊎_elim (λ way. next-failed pre.0.indexed pre.1.0.0 pre.1.0.1 _ _ _ _ there may-use way.0.true
-          (own-wanted _ _ _ _ _ _ _ _ pre.1.1.0 (judged-told (wide (asked loop.before)) way.2.ensures.0) way.5.ensures) so_far way.6.false)
+          (own-wanted _ _ _ _ _ _ _ _ pre.1.1.0 (judged-told (wide (asked c.before.before.before.before)) way.2.ensures.0) way.5.ensures) so_far way.6.false)
           (λ way. next-skipped pre.0.indexed pre.1.0.0 pre.1.0.1 _ _ _ _ there may-use so_far way.if-may_use.false)
           c.if-may_use.branch-raw,
       ⊎_elim (λ way. rw way.7 (way.3.given ∙ remembered.0, way.2.ensures.1)) (λ way. rw way.memory-is remembered) c.if-may_use.branch-raw,
@@ -112,11 +106,10 @@ same-length-2 c = search rules
 
 returns-2 : tie.Need-returns invariant-loop decreases-loop
 returns-2 c =
-    let at = c.before.before in
-    let pre = (asked at).requires in
+    let pre = (asked c.before.before).requires in
     let (within, so_far, (same, remembered)) = c.loop-i.invariant in (
-      chosen_last pre.0.indexed pre.1.0.0 pre.1.0.1 _ _ _ _ _ _ at.credentials.ensures.same
-          at.last_usable-last.ensures (omega (arith, c.loop-i-test.false, within)) so_far pre.1.1.1.1,
+      chosen_last pre.0.indexed pre.1.0.0 pre.1.0.1 _ _ _ _ _ _ c.credentials.ensures.same
+          c.last_usable-last.ensures (omega (arith, c.loop-i-test.false, within)) so_far pre.1.1.1.1,
       remembered,
     )
 

@@ -24,11 +24,9 @@ made-requires c κs = search rules
 
 returns : tie.Need-returns
 returns c =
-    let second = c.before.before in
-    let first = second.before in
-    let index = first.args.index in
-    made-linked _ index.now _ _ _ _ first.credential-middle.ensures first.asked_cell-first.ensures.0
-    second.link_cell-second.ensures.0 _ c.link_asked.ensures.1 _ c.made.ensures
+    let index = c.args.index in
+    made-linked _ index.now _ _ _ _ c.credential-middle.ensures c.asked_cell-first.ensures.0
+    c.link_cell-second.ensures.0 _ c.link_asked.ensures.1 _ c.made.ensures
 
 pub linked_spec : {M : Type 1} → statement M
 linked_spec =

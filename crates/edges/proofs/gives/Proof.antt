@@ -23,15 +23,13 @@ matches-requires c κs = search rules
 
 returns-2 : tie.Need-returns-then-matches
 returns-2 c =
-    let at = c.before.before.before in
     let on = sym c.matches.ensures ∙ c.if-matches.true in
-    gives-matching _ _ _ at.requires at.given-to.ensures on
+    gives-matching _ _ _ c.requires c.given-to.ensures on
 
 returns-3 : tie.Need-returns
 returns-3 c =
-    let at = c.before.before.before in
     let off = sym c.matches.ensures ∙ c.if-matches.false in
-    gives_other _ _ _ at.requires at.given-to.ensures off
+    gives_other _ _ _ c.requires c.given-to.ensures off
 
 pub gives_spec : {M : Type 1} → statement M
 gives_spec =

@@ -48,18 +48,16 @@ halted-requires-2 c κs = search rules
 
 returns-2 : tie.Need-returns-then-not-premises
 returns-2 c =
-    let found = c.before.before.before in
-    let unfit = sym found.premises-premises.ensures.1 ∙ given-none _ c.if-not-premises.true in
-    halts-with _ (omega arith) c.halted-then-not-premises.ensures (entry-unfit _ _ _ _ found.if-rec-lt2.false unfit)
+    let unfit = sym c.premises-premises.ensures.1 ∙ given-none _ c.if-not-premises.true in
+    halts-with _ (omega arith) c.halted-then-not-premises.ensures (entry-unfit _ _ _ _ c.if-rec-lt2.false unfit)
 
 halted-requires-3 : tie.Need-halted-requires-then-levels-eq0
 halted-requires-3 c κs = search rules
 
 returns-3 : tie.Need-returns-then-levels-eq0
 returns-3 c =
-    let at = c.before.before in
     let no-level = may_none _ _ _ c.if-levels-eq0.true in
-    halts-with _ (omega arith) c.halted-then-levels-eq0.ensures (entry_closed _ _ _ _ (two at).if-rec-lt2.false (asked at) no-level)
+    halts-with _ (omega arith) c.halted-then-levels-eq0.ensures (entry_closed _ _ _ _ (two c.before.before).if-rec-lt2.false (asked c.before.before) no-level)
 
 is-fresh-requires : tie.Need-is_fresh-requires
 is-fresh-requires c κs = search rules
@@ -69,10 +67,8 @@ halted-requires-4 c κs = search rules
 
 returns-4 : tie.Need-returns-then-not-is_fresh
 returns-4 c =
-    let tested = c.before.before in
-    let at = tested.before.before in
-    let again = may-fresh _ _ _ tested.if-levels-eq0.false ∙ failed tested.is_fresh.ensures c.if-not-is_fresh.true in
-    halts-with _ (omega arith) c.halted-then-not-is_fresh.ensures (entry_closed _ _ _ _ (two at).if-rec-lt2.false (asked at) again)
+    let again = may-fresh _ _ _ c.if-levels-eq0.false ∙ failed c.is_fresh.ensures c.if-not-is_fresh.true in
+    halts-with _ (omega arith) c.halted-then-not-is_fresh.ensures (entry_closed _ _ _ _ (two c.before.before.before.before).if-rec-lt2.false (asked c.before.before.before.before) again)
 
 shared-slice-read-t13 : tie.Need-bounds-rec-0-2
 shared-slice-read-t13 c = search rules
@@ -83,11 +79,8 @@ shared-slice-read-t11 c = search rules
 returns-5 : tie.Need-returns
 unfolding stepped pick
 returns-5 c =
-    let new = c.before.before.before in
-    let tested = new.before in
-    let at = tested.before.before in
-    let free = may-fresh _ _ _ tested.if-levels-eq0.false ∙ passed tested.is_fresh.ensures new.if-not-is_fresh.false in
-    (at.premises-premises.ensures.0, entry-asks _ _ _ _ (two at).if-rec-lt2.false (asked at) free)
+    let free = may-fresh _ _ _ c.if-levels-eq0.false ∙ passed c.is_fresh.ensures c.if-not-is_fresh.false in
+    (c.premises-premises.ensures.0, entry-asks _ _ _ _ (two c.before.before.before.before.before.before).if-rec-lt2.false (asked c.before.before.before.before.before.before) free)
 
 pub enter_spec : {M : Type 1} → statement M
 enter_spec =

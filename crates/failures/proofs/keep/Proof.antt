@@ -53,26 +53,18 @@ put-blocking-requires c κs =
 
 put-family-requires : tie.Need-put_family-requires
 put-family-requires c κs =
-    let blocking = c.before.before.before in
-    let states = blocking.before.before.before.before in
-    let pre = states.requires.0 in
-    rw (blocking.put_blocking.ensures.room, states.put_states.ensures.room) (simp length-set pre)
+    let pre = c.requires.0 in
+    rw (c.put_blocking.ensures.room, c.put_states.ensures.room) (simp length-set pre)
 
 same_length : tie.Need-shape_of-memory
 same_length c =
-    let family = c.before.before in
-    let blocking = family.before.before.before.before in
-    let states = blocking.before.before.before.before in
-    family.put_family.ensures.room ∙ blocking.put_blocking.ensures.room ∙ states.put_states.ensures.room ∙ simp length-set
+    c.put_family.ensures.room ∙ c.put_blocking.ensures.room ∙ c.put_states.ensures.room ∙ simp length-set
 
 returns : tie.Need-returns
 returns c =
-    let family = c.before.before in
-    let blocking = family.before.before.before.before in
-    let states = blocking.before.before.before.before in
-    let pre = states.requires.0 in
-    kept _ _ _ _ _ _ _ _ _ _ _ _ (head-written _ _ _ _ _ pre) states.put_states.ensures
-    blocking.put_blocking.ensures family.put_family.ensures
+    let pre = c.requires.0 in
+    kept _ _ _ _ _ _ _ _ _ _ _ _ (head-written _ _ _ _ _ pre) c.put_states.ensures
+    c.put_blocking.ensures c.put_family.ensures
 
 pub keep_spec : {M : Type 1} → statement M
 keep_spec =

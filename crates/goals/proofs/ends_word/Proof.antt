@@ -14,10 +14,9 @@ none-requires c κs = search rules
 
 returns : tie.Need-returns-then-asked_cell-person
 returns c =
-    let named = c.before.before in
-    let args = named.args in
+    let args = c.args in
     let accepting = accepting_set args.table.now args.states in
-    other-named _ _ named.asked_cell.ensures.0 args.terms.constraints args.terms.owed accepting _
+    other-named _ _ c.asked_cell.ensures.0 args.terms.constraints args.terms.owed accepting _
     c.if-asked_cell-person.true c.none.ensures
 
 accepting-requires : tie.Need-accepting-accepting-requires
@@ -28,24 +27,20 @@ none-requires-2 c κs = search rules
 
 returns-2 : tie.Need-returns-then-terms-accepting
 returns-2 c =
-    let asked = c.before.before.before.before in
-    let named = asked.before.before in
-    let args = named.args in
+    let args = c.args in
     let accepting = accepting_set args.table.now args.states in
-    word-rejected _ _ named.asked_cell.ensures.0 args.terms.constraints args.terms.owed accepting _
-    asked.if-asked_cell-person.false asked.accepting-accepting.ensures c.if-terms-accepting.true c.none-then-terms-accepting.ensures
+    word-rejected _ _ c.asked_cell.ensures.0 args.terms.constraints args.terms.owed accepting _
+    c.if-asked_cell-person.false c.accepting-accepting.ensures c.if-terms-accepting.true c.none-then-terms-accepting.ensures
 
 only-requires : tie.Need-only-requires
 only-requires c κs = and-few _ _ c.requires.1.1.1.1
 
 returns-3 : tie.Need-returns
 returns-3 c =
-    let asked = c.before.before.before.before.before in
-    let named = asked.before.before in
-    let args = named.args in
+    let args = c.args in
     let accepting = accepting_set args.table.now args.states in
-    word-ends _ _ named.asked_cell.ensures.0 args.terms.constraints args.terms.owed accepting _
-    asked.if-asked_cell-person.false asked.accepting-accepting.ensures c.if-terms-accepting.false c.only.ensures
+    word-ends _ _ c.asked_cell.ensures.0 args.terms.constraints args.terms.owed accepting _
+    c.if-asked_cell-person.false c.accepting-accepting.ensures c.if-terms-accepting.false c.only.ensures
 
 pub ends_word_spec : {M : Type 1} → statement M
 ends_word_spec =

@@ -32,9 +32,8 @@ asked-cell-requires-2 c κs = search rules
 
 returns : tie.Need-returns-then-asked_cell-place invariant-loop decreases-loop
 returns c =
-    let loop = c.before.before in
-    let place = loop.asked_cell-place.ensures.0 in
-    asked_here _ _ _ _ loop.loop-j-test.true (sym c.asked_cell.ensures.0 ∙ c.if-asked_cell-place.true ∙ place)
+    let place = c.asked_cell-place.ensures.0 in
+    asked_here _ _ _ _ c.loop-j-test.true (sym c.asked_cell.ensures.0 ∙ c.if-asked_cell-place.true ∙ place)
 
 add-j : tie.Need-overflow_add-j invariant-loop decreases-loop
 add-j c = search rules
@@ -44,12 +43,10 @@ loop-less c = search rules
 
 loop-again : tie.Need-loop-j-preserved invariant-loop decreases-loop
 loop-again c =
-    let loop = c.before.before.before in
-    let asked = loop.before in
-    let args = asked.args in (
+    let args = c.args in (
       omega arith,
-      asked-next args.index.now args.i args.k _ loop.loop-j.invariant.1 c.asked_cell.ensures.0
-          asked.asked_cell-place.ensures.0 c.if-asked_cell-place.false,
+      asked-next args.index.now args.i args.k _ c.loop-j.invariant.1 c.asked_cell.ensures.0
+          c.asked_cell-place.ensures.0 c.if-asked_cell-place.false,
     )
 
 returns-2 : tie.Need-returns invariant-loop decreases-loop

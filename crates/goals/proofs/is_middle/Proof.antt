@@ -15,17 +15,14 @@ is-listed-requires-2 c κs = search rules
 
 returns-2 : tie.Need-returns-then-not-is_listed-2
 returns-2 c =
-    let at = c.before.before in
-    and-missed-second at.is_listed.ensures at.if-not-is_listed.false c.is_listed-2.ensures _ c.if-not-is_listed-2.true
+    and-missed-second c.is_listed.ensures c.if-not-is_listed.false c.is_listed-2.ensures _ c.if-not-is_listed-2.true
 
 is-person-requires : tie.Need-is_person-requires
 is-person-requires c κs = search rules
 
 returns-3 : tie.Need-returns
 returns-3 c =
-    let second = c.before.before in
-    let at = second.before in
-    and-third at.is_listed.ensures at.if-not-is_listed.false second.is_listed-2.ensures c.if-not-is_listed-2.false
+    and-third c.is_listed.ensures c.if-not-is_listed.false c.is_listed-2.ensures c.if-not-is_listed-2.false
     c.is_person.ensures
 
 pub is_middle_spec : {M : Type 1} → statement M

@@ -12,8 +12,7 @@ only-requires c κs = search rules
 
 returns : tie.Need-returns-then-has
 returns c =
-    let tested = c.before.before in
-    trimmed-one _ _ _ tested.requires tested.has.ensures c.if-has.true c.only.ensures
+    trimmed-one _ _ _ c.requires c.has.ensures c.if-has.true c.only.ensures
 
 returns-2 : tie.Need-returns
 returns-2 c = trimmed-none _ _

@@ -52,13 +52,10 @@ slice-aggregate-links c = search rules
 
 links-requires : tie.Need-links-requires invariant-loop decreases-loop
 links-requires c κs =
-    let put = c.before.before.before.before in
-    let turn = put.before.before.before.before.before in
-    let head = turn.before.before in
-    let room = put.put.ensures.written.room ∙ turn.loop-i.invariant.1.room in
-    let inside = turn.loop-i-test.true in
-    let few = head.credentials-n.ensures.few in
-    (head.requires, record { cells = room; there = omega (arith, inside, few) })
+    let room = c.put.ensures.written.room ∙ c.loop-i.invariant.1.room in
+    let inside = c.loop-i-test.true in
+    let few = c.credentials-n.ensures.few in
+    (c.requires, record { cells = room; there = omega (arith, inside, few) })
 
 add-i : tie.Need-overflow_add-i-in-loop-i invariant-loop decreases-loop
 add-i c = search rules
@@ -68,16 +65,13 @@ loop-less c = search rules
 
 loop-again : tie.Need-loop-i-preserved invariant-loop decreases-loop
 loop-again c =
-    let put = c.before.before.before in
-    let found = put.before.before in
-    let turn = found.before.before.before.before in
-    let few = turn.requires.sized.counted.few_credentials in
-    let read = found.credential-credential.ensures in (
+    let few = c.requires.sized.counted.few_credentials in
+    let read = c.credential-credential.ensures in (
       omega arith,
-      filled_next _ few _ (omega arith) _ read _ _ _ _ _ put.put.ensures
+      filled_next _ few _ (omega arith) _ read _ _ _ _ _ c.put.ensures
           (⊎_elim (λ w. rw w.index-is (links-written _ _ _ _ _ w.links.ensures)) (λ w. rw w.index-is (links-none _ _ _ _ w.if-credential-eq-LINKING_CONTAINMENT.false))
           c.if-credential-eq-LINKING_CONTAINMENT.branch-raw)
-          found.role_at.ensures put.asked.ensures turn.loop-i.invariant.1,
+          c.role_at.ensures c.asked.ensures c.loop-i.invariant.1,
     )
 
 role-at-requires-2 : tie.Need-role_at-requires-2 invariant-loop decreases-loop
@@ -94,11 +88,10 @@ array-write-index-2 c = search rules
 
 returns : tie.Need-returns invariant-loop decreases-loop
 returns c =
-    let start = c.before.before.before.before.before.before.before.before in
     let loop = c.loop-i in
-    let all : loop.i ≡ credentials start.args.table.now = omega arith in
+    let all : loop.i ≡ credentials c.args.table.now = omega arith in
     let filled = rw all at loop.invariant.1 in
-    let few = start.requires.sized.counted.few_credentials in
+    let few = c.requires.sized.counted.few_credentials in
     index-made _ _ few filled _ _ _ c.role_at-2.ensures c.person_at.ensures
 
 pub index_spec : {M : Type 1} → statement M

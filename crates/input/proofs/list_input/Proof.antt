@@ -61,12 +61,11 @@ mul-if1 : tie.Need-overflow_mul-half
 mul-if1 c = search rules
 
 returns : tie.Need-returns-then-read-half
-returns c = let at = c.before in answers-unwhole (bytes at) _ at.counted-read.ensures _ (odd-unwhole _ c.if-read-half.true)
+returns c = answers-unwhole (bytes c.before) _ c.counted-read.ensures _ (odd-unwhole _ c.if-read-half.true)
 
 returns-2 : tie.Need-returns-then-half-lt-QUERY_SIZE
 returns-2 c =
-    let at = c.before.before in
-    answers-unwhole (bytes at) _ at.counted-read.ensures _ (short-unwhole _ c.if-read-half.false c.if-half-lt-QUERY_SIZE.true)
+    answers-unwhole (bytes c.before.before) _ c.counted-read.ensures _ (short-unwhole _ c.if-read-half.false c.if-half-lt-QUERY_SIZE.true)
 
 slice-aggregate-decode : tie.Need-slice_bounds-decode-end
 slice-aggregate-decode c = search rules
@@ -75,25 +74,23 @@ decode-requires : tie.Need-decode-requires
 decode-requires c κs = few (read c.before)
 
 array-share-prefix-numbers : tie.Need-slice_bounds-numbers-end
-array-share-prefix-numbers c = let at = c.before in omega (arith, few (read (whole-read at)), at.decode.auto.1.0)
+array-share-prefix-numbers c = omega (arith, few (read (whole-read c.before)), c.decode.auto.1.0)
 
 slice-aggregate-list-numbers : tie.Need-slice_bounds-list_numbers-end
 slice-aggregate-list-numbers c = whole_length c.before.before
 
 list-numbers-requires : tie.Need-list_numbers-requires
 list-numbers-requires c κs =
-    let at = c.before.before.before in
-    omega (arith, (whole-read at).if-half-lt-QUERY_SIZE.false, whole_length at)
+    omega (arith, (whole-read c.before.before.before).if-half-lt-QUERY_SIZE.false, whole_length c.before.before.before)
 
 same_length : tie.Need-shape_of-sets
 same_length c = search rules
 
 returns-3 : tie.Need-returns
 returns-3 c =
-    let at = c.before.before.before.before.before.before in
-    let from = read (whole-read at) in
-    answers-whole (bytes from) _ from.counted-read.ensures _ _ _ _ (is-whole (whole-read at))
-    (decoded-first _ _ _ at.decode.ensures) c.list_numbers.ensures
+    let from = read (whole-read c.before.before.before.before.before.before) in
+    answers-whole (bytes from) _ from.counted-read.ensures _ _ _ _ (is-whole (whole-read c.before.before.before.before.before.before))
+    (decoded-first _ _ _ c.decode.ensures) c.list_numbers.ensures
 
 pub list_input_spec : {M : Type 1} → statement M
 list_input_spec =

@@ -24,10 +24,7 @@ same_length c = search rules
 
 returns : tie.Need-returns
 returns c =
-    let list = c.before.before in
-    let query = list.before.before.before in
-    let start = query.before.before.before in
-    lists-rest start.args.numbers.now _ _ _ _ query.query_of-query.ensures list.list.ensures
+    lists-rest c.args.numbers.now _ _ _ _ c.query_of-query.ensures c.list.ensures
 
 pub list_numbers_spec : {M : Type 1} → statement M
 list_numbers_spec =

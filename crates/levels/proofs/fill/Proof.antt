@@ -21,29 +21,25 @@ first-level-requires c κs = search rules
 
 loop-holds : tie.Need-loop-level-init invariant-loop decreases-loop
 loop-holds c =
-    let start = c.before.before.before.before.before.before.before in
-    (omega arith, reached-first _ _ start.requires.0 start.requires.1.0 _ _ _ c.first_level-others.ensures)
+    (omega arith, reached-first _ _ c.requires.0 c.requires.1.0 _ _ _ c.first_level-others.ensures)
 
 copy-row-requires : tie.Need-copy_row-requires invariant-loop decreases-loop
 copy-row-requires c κs = search rules
 
 next-level-requires : tie.Need-next_level-requires invariant-loop decreases-loop
 next-level-requires c κs =
-    let copy = c.before.before.before in
-    let start = copy.before.before.before.before.before.before.before.before.before.before.before in
-    (start.requires.0, (start.requires.1.0, (copy.copy_row.ensures.room, omega arith)))
+    (c.requires.0, (c.requires.1.0, (c.copy_row.ensures.room, omega arith)))
 
 same_length : tie.Need-shape_of-rows-then-not-next_level invariant-loop decreases-loop
 same_length c = search rules
 
 returns : tie.Need-returns-then-not-next_level invariant-loop decreases-loop
 returns c =
-    let at = c.before.before.before.before.before.before.before.before.before.before in
-    let few : at.loop-level.level < most_depth = omega arith in
-    let pre = at.requires in
+    let few : c.loop-level.level < most_depth = omega arith in
+    let pre = c.requires in
     let copy = c.copy_row in
     let next = c.next_level.ensures in
-    reached-last _ _ pre.0 pre.1.0 _ _ _ _ _ _ _ few at.loop-level.invariant.1 copy.ensures next _ c.if-not-next_level.true
+    reached-last _ _ pre.0 pre.1.0 _ _ _ _ _ _ _ few c.loop-level.invariant.1 copy.ensures next _ c.if-not-next_level.true
 
 add-level : tie.Need-overflow_add-level invariant-loop decreases-loop
 add-level c = search rules
@@ -53,21 +49,19 @@ loop-less c = search rules
 
 loop-again : tie.Need-loop-level-preserved invariant-loop decreases-loop
 loop-again c =
-    let at = c.before.before.before.before.before.before.before.before.before.before in
-    let few : at.loop-level.level < most_depth = omega arith in
-    let pre = at.requires in
+    let few : c.loop-level.level < most_depth = omega arith in
+    let pre = c.requires in
     let copy = c.copy_row in
     let next = c.next_level.ensures in
-    (omega arith, reached-next _ _ pre.0 pre.1.0 _ _ _ _ _ _ _ few at.loop-level.invariant.1 copy.ensures next)
+    (omega arith, reached-next _ _ pre.0 pre.1.0 _ _ _ _ _ _ _ few c.loop-level.invariant.1 copy.ensures next)
 
 same-length-2 : tie.Need-shape_of-rows invariant-loop decreases-loop
 same-length-2 c = search rules
 
 returns-2 : tie.Need-returns invariant-loop decreases-loop
 returns-2 c =
-    let start = c.before.before.before.before.before.before.before.before.before in
     let loop = c.loop-level in
-    reached-all _ _ start.requires.0 start.requires.1.0 _ _ _ _ _ (omega arith) (omega arith) loop.invariant.1
+    reached-all _ _ c.requires.0 c.requires.1.0 _ _ _ _ _ (omega arith) (omega arith) loop.invariant.1
 
 pub fill_spec : {M : Type 1} → statement M
 fill_spec =

@@ -21,8 +21,7 @@ credentials-requires c κs = search rules
 
 loop-holds : tie.Need-loop-i-init invariant-loop decreases-loop
 loop-holds c =
-    let start = c.before.before.before.before in
-    (omega arith, first-starts _ _ _ _ start.requires.1.1.0 start.requires.1.1.1)
+    (omega arith, first-starts _ _ _ _ c.requires.1.1.0 c.requires.1.1.1)
 
 has-requires : tie.Need-has-requires invariant-loop decreases-loop
 has-requires c κs = search rules
@@ -85,9 +84,8 @@ same_length c = search rules
 
 returns : tie.Need-returns invariant-loop decreases-loop
 returns c =
-    let start = c.before.before.before.before.before.before in
     let loop = c.loop-i in
-    let all : loop.i ≡ credentials start.args.table.now = omega arith in
+    let all : loop.i ≡ credentials c.args.table.now = omega arith in
     rw all at loop.invariant.1
 
 pub first_level_spec : {M : Type 1} → statement M

@@ -45,9 +45,8 @@ slice-read-more c = search rules
 
 proved-by-requires : tie.Need-proved_by-requires invariant-loop decreases-loop
 proved-by-requires c κs =
-    let at = c.before.before.before.before.before.before in
-    let pre = at.requires in
-    let room = at.loop-i.invariant.1.room in (
+    let pre = c.requires in
+    let room = c.loop-i.invariant.1.room in (
       pre.0,
       (record { placed = pre.1.0.placed; room = room; last = omega arith; there = omega arith }, omega arith),
     )
@@ -91,9 +90,8 @@ same_length c = search rules
 
 returns : tie.Need-returns invariant-loop decreases-loop
 returns c =
-    let start = c.before.before.before.before.before.before in
     let loop = c.loop-i in
-    let all : loop.i ≡ credentials start.args.table.now = omega arith in
+    let all : loop.i ≡ credentials c.args.table.now = omega arith in
     rw all at loop.invariant.1
 
 pub next_level_spec : {M : Type 1} → statement M

@@ -45,23 +45,18 @@ put-number-put-number-requires t c κs = omega (arith, c.requires, length_more _
 put-number-put-digit-requires-2 : (t : ℕ)
     → put-number-lts.Need-put_digit-requires-2 (put-number-claims t) (put-number-at t) put-number.Post
 put-number-put-digit-requires-2 t c κs =
-    let number = c.before.before.before in
-    let test = number .before .before in
+    let test = c .before .before in
     let start = test.before.before in
-    omega (arith, start.requires, number .put-number .ensures, number .put-number .auto .0, length_more _ test.if1.false)
+    omega (arith, start.requires, c .put-number .ensures, c .put-number .auto .0, length_more _ test.if1.false)
 
 put-number-same-length-2 : (t : ℕ) → put-number-lts.Need-shape_of-out (put-number-claims t) (put-number-at t) put-number.Post
 put-number-same-length-2 t c =
-    let last = c.before.before in
-    let number = last.before.before.before.before in
-    last.put_digit-2.auto.0 ∙ number .put-number .auto .0
+    c.put_digit-2.auto.0 ∙ c .put-number .auto .0
 
 put-number-returns-2 : (t : ℕ) → put-number-lts.Need-returns (put-number-claims t) (put-number-at t) put-number.Post
 put-number-returns-2 t c =
-    let last = c.before.before in
-    let number = last.before.before.before.before in
-    let test = number .before .before in
-    put-more _ test.if1.false (number .put-number .ensures) last.put_digit-2.ensures
+    let test = c .before .before in
+    put-more _ test.if1.false (c .put-number .ensures) c.put_digit-2.ensures
 
 pub +put_number_spec : {M : Type 1} → statement M
 +put_number_spec = close μ-put-number λ t. put-number-lts.spec (put-number-claims t) (put-number-at t)

@@ -13,18 +13,14 @@ slice-aggregate-put c = search rules
 
 put-requires : tie.Need-put-requires
 put-requires c κs =
-    let number = c.before.before.before.before in
-    let start = number.before.before.before in
-    omega (arith, start.requires, number.put_number-next.ensures, number.put_number-next.auto.0, decimal-long _ start.ranges.number)
+    omega (arith, c.requires, c.put_number-next.ensures, c.put_number-next.auto.0, decimal-long _ c.ranges.number)
 
 same_length : tie.Need-shape_of-out
 same_length c = search rules
 
 returns : tie.Need-returns
 returns c =
-    let text = c.before.before in
-    let number = text.before.before.before.before.before in
-    put_ended _ number.put_number-next.ensures text.put.ensures
+    put_ended _ c.put_number-next.ensures c.put.ensures
 
 pub put_line_spec : {M : Type 1} → statement M
 put_line_spec =

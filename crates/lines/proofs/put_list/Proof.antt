@@ -16,20 +16,14 @@ put-requires c κs = search rules
 
 put-line-requires : tie.Need-put_line-requires
 put-line-requires c κs =
-    let text = c.before.before.before in
-    let lines = text.before.before.before.before.before in
-    let start = lines.before.before.before.before in
-    omega (arith, start.requires, lines.put_lines-next, text.put-next)
+    omega (arith, c.requires, c.put_lines-next, c.put-next)
 
 same_length : tie.Need-shape_of-out
 same_length c = search rules
 
 returns : tie.Need-returns
 returns c =
-    let line = c.before.before in
-    let text = line.before.before.before.before in
-    let lines = text.before.before.before.before.before in
-    list-filled _ _ lines.put_lines-next.ensures.0 text.put-next.ensures line.put_line.ensures
+    list-filled _ _ c.put_lines-next.ensures.0 c.put-next.ensures c.put_line.ensures
 
 pub put_list_spec : {M : Type 1} → statement M
 put_list_spec =

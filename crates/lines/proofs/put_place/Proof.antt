@@ -14,38 +14,25 @@ put-requires c κs = search rules
 
 put-number-requires : tie.Need-put_number-next-requires
 put-number-requires c κs =
-    let text = c.before.before.before in
-    let start = text.before.before.before.before in
-    omega (arith, start.requires, text.put-next, decimal-long _ start.ranges.number)
+    omega (arith, c.requires, c.put-next, decimal-long _ c.ranges.number)
 
 slice-aggregate-put-2 : tie.Need-slice-aggregate-put-2
 slice-aggregate-put-2 c = search rules
 
 put-requires-2 : tie.Need-put-next-requires-2
 put-requires-2 c κs =
-    let number = c.before.before.before.before in
-    let text = number.before.before.before.before in
-    let start = text.before.before.before.before in
-    omega (arith, start.requires, text.put-next, number.put_number-next, decimal-long _ start.ranges.number)
+    omega (arith, c.requires, c.put-next, c.put_number-next, decimal-long _ c.ranges.number)
 
 put-line-requires : tie.Need-put_line-requires
 put-line-requires c κs =
-    let space = c.before.before.before in
-    let number = space.before.before.before.before.before in
-    let text = number.before.before.before.before in
-    let start = text.before.before.before.before in
-    omega (arith, start.requires, text.put-next, number.put_number-next, space.put-next-2, decimal-long _ start.ranges.number)
+    omega (arith, c.requires, c.put-next, c.put_number-next, c.put-next-2, decimal-long _ c.ranges.number)
 
 same_length : tie.Need-shape_of-out
 same_length c = search rules
 
 returns : tie.Need-returns
 returns c =
-    let line = c.before.before in
-    let space = line.before.before.before.before in
-    let number = space.before.before.before.before.before in
-    let text = number.before.before.before.before in
-    refusal-filled _ _ text.put-next.ensures number.put_number-next.ensures space.put-next-2.ensures line.put_line.ensures
+    refusal-filled _ _ c.put-next.ensures c.put_number-next.ensures c.put-next-2.ensures c.put_line.ensures
 
 pub put_place_spec : {M : Type 1} → statement M
 put_place_spec =

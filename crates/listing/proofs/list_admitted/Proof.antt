@@ -30,10 +30,9 @@ same-length-2 c = search rules
 returns : tie.Need-returns-then-cells-found
 unfolding number_of
 returns c =
-    let at = c.before.before.before.before.before.before in
-    let pre = (asked at).requires in
+    let pre = (asked c.before.before.before.before.before.before).requires in
     let bears = relevant-admits _ pre.0.well_formed _ _ pre.1.0 in
-    let held = start-ended _ _ _ pre.1.0.fits bears at.below.ensures in
+    let held = start-ended _ _ _ pre.1.0.fits bears c.below.ensures in
     told-instead c.refused.ensures (longer-told _ _ _ _ _ held c.if-cells-found.true)
 
 same-length-3 : tie.Need-shape_of-cuts
@@ -45,10 +44,9 @@ same-length-4 c = search rules
 returns-2 : tie.Need-returns
 unfolding listing_told
 returns-2 c =
-    let at = c.before.before.before.before.before in
-    let pre = (asked at).requires in
+    let pre = (asked c.before.before.before.before.before).requires in
     let bears = relevant-admits _ pre.0.well_formed _ _ pre.1.0 in
-    let held = start-ended _ _ _ pre.1.0.fits bears at.below.ensures in
+    let held = start-ended _ _ _ pre.1.0.fits bears c.below.ensures in
     listed-told _ _ _ _ _ held (some-found _ _ _ held pre.1.0.fits pre.1.1) c.if-cells-found.false
 
 pub list_admitted_spec : {M : Type 1} → statement M

@@ -43,8 +43,7 @@ slice-aggregate-admits-2 c = search rules
 
 admits-requires : tie.Need-admits-requires
 admits-requires c κs =
-    let at = c.before.before in
-    prepared-by (start at).requires (indexed at).index-index.ensures (no-arcs _ _ (simp length-take (omega arith)))
+    prepared-by (start c.before.before).requires (indexed c.before.before).index-index.ensures (no-arcs _ _ (simp length-take (omega arith)))
 
 refused-requires : tie.Need-refused-requires
 refused-requires c κs = search rules
@@ -52,12 +51,11 @@ refused-requires c κs = search rules
 returns : tie.Need-returns-then-not-admits
 unfolding number_of
 returns c =
-    let at = c.before.before.before.before.before in
-    let relevant = at.relevant-usable.ensures in
-    let bears = relevant-admits _ (start at).requires.0 _ _ relevant in
+    let relevant = c.relevant-usable.ensures in
+    let bears = relevant-admits _ (start c.before.before.before.before.before).requires.0 _ _ relevant in
     let unproved = failed c.admits.ensures c.if-not-admits.true in
     told-instead c.refused.ensures
-    (none_told _ _ _ _ _ (start_none _ _ _ relevant.fits bears (start at).requires.0 unproved _) refl)
+    (none_told _ _ _ _ _ (start_none _ _ _ relevant.fits bears (start c.before.before.before.before.before).requires.0 unproved _) refl)
 
 automata-of-requires : tie.Need-automata_of-requires
 automata-of-requires c κs = search rules
@@ -73,10 +71,9 @@ slice-aggregate-list-over-2 c = search rules
 
 list-over-requires : tie.Need-list_over-requires
 list-over-requires c κs =
-    let admitted = c.before.before.before.before.before in
-    let at = bearing admitted in (
-      prepared-by (start at).pre (indexed at).index-index.ensures (no-arcs _ _ (simp length-take (omega arith))),
-      (at.relevant-usable.ensures, passed admitted.admits.ensures admitted.if-not-admits.false),
+    let at = bearing c.before.before.before.before.before in (
+      prepared-by (start at).requires (indexed at).index-index.ensures (no-arcs _ _ (simp length-take (omega arith))),
+      (at.relevant-usable.ensures, passed c.admits.ensures c.if-not-admits.false),
     )
 
 same_length : tie.Need-shape_of-sets-then-automata_of-eq0
@@ -102,11 +99,9 @@ slice-aggregate-list-over-4 c = search rules
 
 list-over-requires-2 : tie.Need-list_over-requires-2
 list-over-requires-2 c κs =
-    let made = c.before.before.before.before in
-    let admitted = made.before.before.before.before.before in
-    let at = bearing admitted in (
-      prepared-by (start at).pre (indexed at).index-index.ensures made.make_arcs.ensures.0,
-      (at.relevant-usable.ensures, passed admitted.admits.ensures admitted.if-not-admits.false),
+    let at = bearing c.before.before.before.before.before.before.before.before.before in (
+      prepared-by (start at).requires (indexed at).index-index.ensures c.make_arcs.ensures.0,
+      (at.relevant-usable.ensures, passed c.admits.ensures c.if-not-admits.false),
     )
 
 same-length-2 : tie.Need-shape_of-sets

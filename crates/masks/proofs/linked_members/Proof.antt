@@ -59,9 +59,8 @@ loop-again c =
 
 returns : tie.Need-returns invariant-loop decreases-loop
 returns c =
-    let start = c.before.before.before.before.before.before in
     let loop = c.loop-j in
-    let all : loop.j ≡ credentials start.args.table.now = omega arith in
+    let all : loop.j ≡ credentials c.args.table.now = omega arith in
     rw all at loop.invariant.1
 
 pub linked_members_spec : {M : Type 1} → statement M

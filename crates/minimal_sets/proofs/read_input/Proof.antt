@@ -43,9 +43,7 @@ cast-result c = search rules
 
 same-length-2 : tie.Need-shape_of-input-then-more-eq0 invariant-loop decreases-loop
 same-length-2 c =
-    let read = c.before.before.before.before.before.before.before in
-    let turn = read.before.before.before in
-    read.read_more-got.auto.0 ∙ turn.loop-filled.invariant.1
+    c.read_more-got.auto.0 ∙ c.loop-filled.invariant.1
 
 returns-2 : tie.Need-returns-then-more-eq0 invariant-loop decreases-loop
 returns-2 c = search rules
@@ -58,9 +56,7 @@ loop-less c = search rules
 
 loop-again : tie.Need-loop-filled-preserved invariant-loop decreases-loop
 loop-again c =
-    let read = c.before.before.before.before.before.before.before in
-    let turn = read.before.before.before in
-    (omega arith, read.read_more-got.auto.0 ∙ turn.loop-filled.invariant.1, turn.loop-filled.invariant.2)
+    (omega arith, c.read_more-got.auto.0 ∙ c.loop-filled.invariant.1, c.loop-filled.invariant.2)
 
 cast-result-2 : tie.Need-overflow_cast-result-2 invariant-loop decreases-loop
 cast-result-2 c = search rules

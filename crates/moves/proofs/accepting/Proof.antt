@@ -67,9 +67,8 @@ loop-again c =
 
 returns-2 : tie.Need-returns invariant-loop decreases-loop
 returns-2 c =
-    let at = c.before.before in
-    let pre = (start at).requires in
-    c.loop-k.invariant.1 ∙ accepting-in _ pre.0 pre.1 (whole at) _ (omega arith)
+    let pre = (start c.before.before).requires in
+    c.loop-k.invariant.1 ∙ accepting-in _ pre.0 pre.1 (whole c.before.before) _ (omega arith)
 
 pub accepting_spec : {M : Type 1} → statement M
 accepting_spec =

@@ -23,9 +23,8 @@ by-arcs-requires c κs =
 
 returns : tie.Need-returns-then-is_made
 returns c =
-    let at = c.before in
-    let index = (start at).requires.1 in
-    let (whole, row) = row_made _ index.0 index.1 at.is_made.ensures at.if-is_made.true in
+    let index = (start c.before).requires.1 in
+    let (whole, row) = row_made _ index.0 index.1 c.is_made.ensures c.if-is_made.true in
     c.by_arcs.ensures ∙ row-moves _ _ _ _ _ row
 
 add-credential : tie.Need-overflow_add-place

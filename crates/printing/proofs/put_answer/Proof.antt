@@ -19,22 +19,16 @@ enum-known-count c = search rules
 
 array-share-prefix-sets : tie.Need-slice_bounds-sets-end
 array-share-prefix-sets c =
-    let told = c.before.before in
-    let listed = told.before.before.before in
-    listed-within _ _ _ listed.list_input.ensures listed.list_input.auto.1.0 _ told.in-Listed.is
+    listed-within _ _ _ c.list_input.ensures c.list_input.auto.1.0 _ c.in-Listed.is
 
 slice-aggregate-put-list : tie.Need-slice_bounds-put_list-end
 slice-aggregate-put-list c =
-    let told = c.before.before.before in
-    let listed = told.before.before.before in
-    let within = listed-within _ _ _ listed.list_input.ensures listed.list_input.auto.1.0 _ told.in-Listed.is in
+    let within = listed-within _ _ _ c.list_input.ensures c.list_input.auto.1.0 _ c.in-Listed.is in
     sym (length-take-le _ _ within)
 
 put-list-requires : tie.Need-put_list-requires
 put-list-requires c κs =
-    let listed = c.before.before.before.before.before.before in
-    let start = listed.before.before.before.before in
-    (simp length-take (omega (arith, listed.list_input.auto.1.0)), start.requires)
+    (simp length-take (omega (arith, c.list_input.auto.1.0)), c.requires)
 
 enum-known-why : tie.Need-enum_known-why
 enum-known-why c = search rules
@@ -47,22 +41,16 @@ same_length c = search rules
 
 returns : tie.Need-returns-in-Listed
 returns c =
-    let list = c.before.before in
-    let told = list.before.before.before.before in
-    let listed = told.before.before.before in
-    listed-filled _ _ _ listed.list_input.ensures listed.list_input.auto.1.0 _ told.in-Listed.is
-    list.put_list.ensures
+    listed-filled _ _ _ c.list_input.ensures c.list_input.auto.1.0 _ c.in-Listed.is
+    c.put_list.ensures
 
 same-length-2 : tie.Need-shape_of-out-in-Refused
 same-length-2 c = search rules
 
 returns-2 : tie.Need-returns-in-Refused
 returns-2 c =
-    let refusal = c.before.before in
-    let told = refusal.before.before.before in
-    let listed = told.before.before.before in
-    refused-filled _ _ _ listed.list_input.ensures listed.list_input.auto.1.0 _ told.in-Refused.is
-    refusal.put_refusal.ensures
+    refused-filled _ _ _ c.list_input.ensures c.list_input.auto.1.0 _ c.in-Refused.is
+    c.put_refusal.ensures
 
 pub put_answer_spec : {M : Type 1} → statement M
 put_answer_spec =

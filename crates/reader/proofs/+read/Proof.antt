@@ -81,7 +81,7 @@ module _ (t : ℕ) where
       Node from.table.now from.levels from.branch from.goal from.rec.now at.enter-step.result
   node at =
       let enter = at.enter-step in
-      record { table = (start at).pre.1.0; held = enter.ensures.0; enters = enter.ensures.1; goes = at.if-stopped-ne0.false }
+      record { table = (start at).requires.1.0; held = enter.ensures.0; enters = enter.ensures.1; goes = at.if-stopped-ne0.false }
 
   -- where the row of its credential has been asked for
   abbrev Asked : Type 0
@@ -143,14 +143,14 @@ module _ (t : ℕ) where
   deeper-fits at =
       let from = own (kept at) in
       let one_more = at.with-deeper.ensures.1.0 in
-      (at.with-deeper.ensures.0, omega (arith, one_more, (start from).pre.1.1.0.1, node-level (node from)))
+      (at.with-deeper.ensures.0, omega (arith, one_more, (start from).requires.1.1.0.1, node-level (node from)))
 
   -- where a child has been read
   abbrev Read : Type 0
   Read = read-lts.After-arcs-in-loop-i-1 (read-claims t) (read_at t) read.Post read-Inv-loop read-μ-loop
 
   abbrev inside : Read → read-lts.In-loop-i (read-claims t) (read_at t) read.Post read-Inv-loop read-μ-loop
-  inside at = at.before.before.before.before.before.before.before.before.before
+  inside at = at.before.before.before.before.before.before.before.before.before.before
 
 read-add-nodes : (t : ℕ) → read-lts.Need-overflow_add-nodes (read-claims t) (read_at t) read.Post read-Inv-loop read-μ-loop
 read-add-nodes t c = omega (arith, c.requires.1.1.1.0)
@@ -171,15 +171,13 @@ read-sub-place t c = omega (arith, c.wide-place.ensures.0, node-credential (node
 
 read-ask-requires : (t : ℕ) → read-lts.Need-ask-requires (read-claims t) (read_at t) read.Post read-Inv-loop read-μ-loop
 read-ask-requires t c κs =
-    let at = c.before.before in
-    let pre = (start t at).requires in
-    (pre.1.0, (pre.1.1.1.1.1, node-place (node t at) c.wide-place.ensures.0))
+    let pre = (start t c.before.before).requires in
+    (pre.1.0, (pre.1.1.1.1.1, node-place (node t c.before.before) c.wide-place.ensures.0))
 
 read-moved-requires : (t : ℕ) → read-lts.Need-moved-below-requires (read-claims t) (read_at t) read.Post read-Inv-loop read-μ-loop
 read-moved-requires t c κs =
-    let at = c.before.before in
-    let from = entered t at in
-    ((start t from).pre.1.0, (at.ask.ensures, node-place (node t from) (place t at)))
+    let from = entered t c.before in
+    ((start t from).requires.1.0, (c.ask.ensures, node-place (node t from) (place t c.before)))
 
 read-with-credential-requires : (t : ℕ)
     → read-lts.Need-with_credential-requires (read-claims t) (read_at t) read.Post read-Inv-loop read-μ-loop
@@ -189,7 +187,7 @@ read-after-node-requires : (t : ℕ)
     → read-lts.Need-after_node-kept-requires (read-claims t) (read_at t) read.Post read-Inv-loop read-μ-loop
 read-after-node-requires t c κs =
     let at = asked t c.before.before.before.before.before.before in
-    ((start t (entered t at)).pre.1.0, at.ask.ensures)
+    ((start t (entered t at)).requires.1.0, at.ask.ensures)
 
 read-sub-rest : (t : ℕ) → read-lts.Need-slice_bounds-rest-count (read-claims t) (read_at t) read.Post read-Inv-loop read-μ-loop
 read-sub-rest t c = omega (arith, node-long (node t (own t c)))
@@ -205,22 +203,21 @@ read-same-length t c = (asked t (moved t c.before.before)).arcs-1.given
 
 read-returns-2 : (t : ℕ) → read-lts.Need-returns-then-len-eq0 (read-claims t) (read_at t) read.Post read-Inv-loop read-μ-loop
 read-returns-2 t c =
-    let at = c.before.before in
-    let here = node t (own t at) in
-    let starts = onward-starts here.held (start t (own t at)).pre.1.1.1.1.0 in
-    let read_all = children-read here (keeps t at _ refl) _ starts (omega (arith, c.if-len-eq0.true)) in
-    (read_all, (asked t (moved t at)).ask.ensures)
+    let here = node t (own t c.before.before) in
+    let starts = onward-starts here.held (start t (own t c.before.before)).requires.1.1.1.1.0 in
+    let read_all = children-read here (keeps t c _ refl) _ starts (omega (arith, c.if-len-eq0.true)) in
+    (read_all, (asked t (moved t c.before.before)).ask.ensures)
 
 read-with-requires : (t : ℕ) → read-lts.Need-with-deeper-requires (read-claims t) (read_at t) read.Post read-Inv-loop read-μ-loop
 read-with-requires t c κs =
     let from = own t c.before.before in
-    let pre = (start t from).pre in
+    let pre = (start t from).requires in
     (pre.1.1.0.0, omega (arith, pre.1.1.0.1, node-level (node t from)))
 
 read-loop-holds : (t : ℕ) → read-lts.Need-loop-i-init (read-claims t) (read_at t) read.Post read-Inv-loop read-μ-loop
 read-loop-holds t c =
     let at = kept t c in
-    let starts = onward-starts (node t (own t at)).held (start t (own t at)).pre.1.1.1.1.0 in
+    let starts = onward-starts (node t (own t at)).held (start t (own t at)).requires.1.1.1.1.0 in
     (starts, (asked t (moved t at)).ask.ensures, refl)
 
 read-mul-read : (t : ℕ) → read-lts.Need-offset_bounds-goals-i (read-claims t) (read_at t) read.Post read-Inv-loop read-μ-loop
@@ -235,53 +232,47 @@ read-sub-read t c = omega (arith, node-level (node t (own t (kept t c.before.bef
 
 read-read-requires : (t : ℕ) → read-lts.Need-read-next-requires (read-claims t) (read_at t) read.Post read-Inv-loop read-μ-loop
 read-read-requires t c κs =
-    let at = c.before.before.before.before.before.before.before.before in
-    let children = at.before in
-    let here = node t (own t (kept t children)) in
-    let pre = (start t (own t (kept t children))).pre in
-    let inv = at.loop-i.invariant in
-    let room = room-below here (down t children) _ inv.0 pre.1.1.1.0 in
-    (omega (arith, pre.0, node-level here), (pre.1.0, (deeper-fits t children, (room, (inv.0.no-refusal, inv.1)))))
+    let here = node t (own t (kept t c.before.before.before.before.before.before.before.before.before.before)) in
+    let pre = (start t (own t (kept t c.before.before.before.before.before.before.before.before.before.before))).requires in
+    let inv = c.loop-i.invariant in
+    let room = room-below here (down t c.before.before.before.before.before.before.before.before.before.before) _ inv.0 pre.1.1.1.0 in
+    (omega (arith, pre.0, node-level here), (pre.1.0, (deeper-fits t c.before.before.before.before.before.before.before.before.before.before, (room, (inv.0.no-refusal, inv.1)))))
 
 read-same-length-2 : (t : ℕ) → read-lts.Need-shape_of-arcs-then-refusal-ne0 (read-claims t) (read_at t) read.Post read-Inv-loop read-μ-loop
 read-same-length-2 t c =
-    let at = c.before.before.before in
-    let loop = (inside t at).before in
-    at.arcs-in-loop-i-1.given ∙ loop.loop.inv.2 ∙ (asked t (moved t (kept t loop.before))).arcs-1.given
+    let loop = (inside t c.before.before.before).before in
+    c.arcs-in-loop-i-1.given ∙ loop.loop.invariant.2 ∙ (asked t (moved t (kept t loop.before))).arcs-1.given
 
 read-returns-3 : (t : ℕ) → read-lts.Need-returns-then-refusal-ne0 (read-claims t) (read_at t) read.Post read-Inv-loop read-μ-loop
 read-returns-3 t c =
-    let at = c.before.before.before in
-    let child = at.read-next.ensures in
-    let less = (inside t at).loop-i-test.true in
-    let loop = (inside t at).before in
+    let child = c.read-next.ensures in
+    let less = (inside t c.before.before.before).loop-i-test.true in
+    let loop = (inside t c.before.before.before).before in
     let here = node t (own t (kept t loop.before)) in
-    (child-stops here (down t loop.before) _ loop.loop.inv.0 less child.0 c.if-refusal-ne0.true, child.1)
+    (child-stops here (down t loop.before) _ loop.loop.invariant.0 less child.0 c.if-refusal-ne0.true, child.1)
 
 read-add-i : (t : ℕ) → read-lts.Need-overflow_add-i (read-claims t) (read_at t) read.Post read-Inv-loop read-μ-loop
 read-add-i t c =
     let here = inside t c.before.before.before in
-    omega (arith, here.loop-i.inv.0.held.fits, here.loop-test.true)
+    omega (arith, here.loop-i.invariant.0.held.fits, here.loop-test.true)
 
 read-loop-less : (t : ℕ) → read-lts.Need-loop-i-smaller (read-claims t) (read_at t) read.Post read-Inv-loop read-μ-loop
 read-loop-less t c = omega (arith, (inside t c.before.before.before).loop-i-test.true)
 
 read-loop-again : (t : ℕ) → read-lts.Need-loop-i-preserved (read-claims t) (read_at t) read.Post read-Inv-loop read-μ-loop
 read-loop-again t c =
-    let at = c.before.before.before in
-    let child = at.read-next.ensures in
-    let inv = (inside t at).loop-i.invariant in
-    (onward-goes inv.0 (inside t at).loop-i-test.true child.0 c.if-refusal-ne0.false, child.1, at.arcs-in-loop-i-1.given ∙ inv.2)
+    let child = c.read-next.ensures in
+    let inv = (inside t c.before.before.before).loop-i.invariant in
+    (onward-goes inv.0 (inside t c.before.before.before).loop-i-test.true child.0 c.if-refusal-ne0.false, child.1, c.arcs-in-loop-i-1.given ∙ inv.2)
 
 read-same-length-3 : (t : ℕ) → read-lts.Need-shape_of-arcs (read-claims t) (read_at t) read.Post read-Inv-loop read-μ-loop
 read-same-length-3 t c = c.loop-i.invariant.2 ∙ (asked t (moved t (kept t c.before.before))).arcs-1.given
 
 read-returns-4 : (t : ℕ) → read-lts.Need-returns (read-claims t) (read_at t) read.Post read-Inv-loop read-μ-loop
 read-returns-4 t c =
-    let children = c.before.before in
-    let here = node t (own t (kept t children)) in
+    let here = node t (own t (kept t c.before.before)) in
     let inv = c.loop-i.invariant in
-    (children-read here (down t children) _ inv.0 c.loop-i-test.false, inv.1)
+    (children-read here (down t c.before.before) _ inv.0 c.loop-i-test.false, inv.1)
 
 pub +read_spec : {M : Type 1} → statement M
 +read_spec = close μ-read λ t. read-lts.spec (read-claims t) (read_at t)

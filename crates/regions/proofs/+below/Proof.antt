@@ -75,14 +75,10 @@ below-with-requires t c κs = search rules
 
 below-below-requires : below-needs below-lts.Need-below-requires
 below-below-requires t c κs =
-    let at-highest = c.before.before.before.before.before in
-    let highest = at-highest.highest-next in
-    let at-if1 = at-highest.before in
-    let if1 = at-if1.if-among-eq0 in
-    let at-decide = at-if1.before.before.before.before.before in
-    let decide = at-decide.decide-among in
-    let start = at-decide.before.before.before.before.before.before.before.before.before.before in
-    let pre = start.requires in
+    let highest = c.highest-next in
+    let if1 = c.if-among-eq0 in
+    let decide = c.decide-among in
+    let pre = c.requires in
     let splits = decided-splits pre.1.1.1.0 decide.ensures if1.false pre.1.1.1.1 _ highest.ensures.0 in
     let few = highest.ensures.1 in (
       omega (arith, pre.0, rest-less (omega arith) splits),
@@ -91,18 +87,12 @@ below-below-requires t c κs =
 
 below-below-requires-2 : below-needs below-lts.Need-below-requires-2
 below-below-requires-2 t c κs =
-    let at-below = c.before.before.before.before.before.before.before.before in
-    let below = at-below.below in
-    let at_with = at-below.before.before.before.before.before in
-    let with = at_with.with-more in
-    let at-highest = at_with.before in
-    let highest = at-highest.highest-next in
-    let at-if1 = at-highest.before in
-    let if1 = at-if1.if-among-eq0 in
-    let at-decide = at-if1.before.before.before.before.before in
-    let decide = at-decide.decide-among in
-    let start = at-decide.before.before.before.before.before.before.before.before.before.before in
-    let pre = start.requires in
+    let below = c.below in
+    let with = c.with-more in
+    let highest = c.highest-next in
+    let if1 = c.if-among-eq0 in
+    let decide = c.decide-among in
+    let pre = c.requires in
     let splits = decided-splits pre.1.1.1.0 decide.ensures if1.false pre.1.1.1.1 _ highest.ensures.0 in
     let few = highest.ensures.1 in (
       omega (arith, pre.0, rest-less (omega arith) splits),
@@ -126,19 +116,13 @@ below-same-length-4 t c = search rules
 
 below-returns-2 : below-needs below-lts.Need-returns
 below-returns-2 t c =
-    let at-below2 = c.before.before.before.before in
-    let below2 = at-below2.below-2 in
-    let at-below = at-below2.before.before.before.before.before.before.before.before.before in
-    let below = at-below.below in
-    let at_with = at-below.before.before.before.before.before in
-    let with = at_with.with-more in
-    let at-highest = at_with.before in
-    let highest = at-highest.highest-next in
-    let at-if1 = at-highest.before in
-    let if1 = at-if1.if-among-eq0 in
-    let at-decide = at-if1.before.before.before.before.before in
-    let decide = at-decide.decide-among in
-    let start = at-decide.before.before.before.before.before.before.before.before.before.before in
+    let below2 = c.below-2 in
+    let below = c.below in
+    let with = c.with-more in
+    let highest = c.highest-next in
+    let if1 = c.if-among-eq0 in
+    let decide = c.decide-among in
+    let start = c.before.before.before.before.before.before.before.before.before.before in
     let pre = start.requires in
     let splits = decided-splits pre.1.1.1.0 decide.ensures if1.false pre.1.1.1.1 _ highest.ensures.0 in
     let few = highest.ensures.1 in

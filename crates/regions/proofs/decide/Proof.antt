@@ -43,16 +43,11 @@ admits-requires c κs = search rules
 
 keep-requires : tie.Need-keep-requires
 keep-requires c κs =
-    let at-if3 = c.before.before in
-    let if3 = at-if3.if-admits in
-    let at-admits = at-if3.before in
-    let admits = at-admits.admits in
-    let at-if1 = at-admits.before.before.before.before in
-    let if1 = at-if1.if-is_barren in
-    let at-is-barren = at-if1.before in
-    let is-barren = at-is-barren.is_barren in
-    let start = at-is-barren.before.before.before.before.before.before.before.before in
-    let pre = start.requires in
+    let if3 = c.if-admits in
+    let admits = c.admits in
+    let if1 = c.if-is_barren in
+    let is-barren = c.is_barren in
+    let pre = c.requires in
     let ready = pre.1.1.0 in
     let passes = sym admits.ensures ∙ if3.true in (
       pre.0,
@@ -76,14 +71,10 @@ same-length-4 c = search rules
 
 returns-3 : tie.Need-returns-then-admits
 returns-3 c =
-    let at-keep = c.before.before in
-    let keep = at-keep.keep in
-    let at-if3 = at-keep.before.before.before in
-    let if3 = at-if3.if-admits in
-    let at-admits = at-if3.before in
-    let admits = at-admits.admits in
-    let start = at-admits.before.before.before.before.before.before.before.before.before.before.before.before.before in
-    let pre = start.requires in
+    let keep = c.keep in
+    let if3 = c.if-admits in
+    let admits = c.admits in
+    let pre = c.requires in
     let passes = sym admits.ensures ∙ if3.true in
     decided-over (ended-kept pre.0.well_formed pre.1.1.0 passes keep.ensures)
 
@@ -101,12 +92,9 @@ returns-4 c =
 
 grown-requires : tie.Need-grown-requires
 grown-requires c κs =
-    let at-if3 = c.before.before.before.before in
-    let if3 = at-if3.if-admits in
-    let at-admits = at-if3.before in
-    let admits = at-admits.admits in
-    let start = at-admits.before.before.before.before.before.before.before.before.before.before.before.before.before in
-    let pre = start.requires in
+    let if3 = c.if-admits in
+    let admits = c.admits in
+    let pre = c.requires in
     let ready = pre.1.1.0 in
     (pre.0, (pre.1.0, (ready.known, (chosen-fits ready, sym admits.ensures ∙ if3.false))))
 
@@ -115,23 +103,20 @@ outside-requires c κs = search rules
 
 mul-cuts : tie.Need-offset_bounds-cuts-count
 mul-cuts c =
-    let start = c.before.before.before.before.before.before.before.before.before.before.before.before.before.before.before.before.before.before.before.before in
     let slice-known = c.slice_known-1 in
     let if4 = c.if-count-cuts in
-    search (rules, start.well-formed.1.1.1.1.1.1.1.0, slice-known.given, start.requires.1.1.0.known.room, if4.false)
+    search (rules, c.well-formed.1.1.1.1.1.1.1.0, slice-known.given, c.requires.1.1.0.known.room, if4.false)
 
 slice-write-cuts : tie.Need-bounds-cuts-count
 slice-write-cuts c =
-    let start = c.before.before.before.before.before.before.before.before.before.before.before.before.before.before.before.before.before.before.before.before in
     let if4 = c.if-count-cuts in
-    search (rules, start.requires.1.1.0.known.room, if4.false)
+    search (rules, c.requires.1.1.0.known.room, if4.false)
 
 add-count : tie.Need-overflow_add-count
 add-count c =
-    let start = c.before.before.before.before.before.before.before.before.before.before.before.before.before.before.before.before.before.before.before.before in
     let slice-known = c.slice_known-1 in
     let if4 = c.if-count-cuts in
-    search (rules, start.well-formed.1.1.1.1.1.1.1.0, slice-known.given, start.requires.1.1.0.known.room, if4.false)
+    search (rules, c.well-formed.1.1.1.1.1.1.1.0, slice-known.given, c.requires.1.1.0.known.room, if4.false)
 
 same-length-6 : tie.Need-shape_of-cuts
 same-length-6 c = search rules
@@ -141,12 +126,9 @@ same-length-7 c = search rules
 
 returns-5 : tie.Need-returns
 returns-5 c =
-    let at-grown = c.before in
-    let grown = at-grown.grown in
-    let at-if4 = at-grown.before.before.before.before in
-    let if4 = at-if4.if-count-cuts in
-    let start = at-if4.before.before.before.before.before.before.before.before.before.before.before.before.before.before.before in
-    let pre = start.requires in
+    let grown = c.grown in
+    let if4 = c.if-count-cuts in
+    let pre = c.requires in
     decided-cut pre.0.well_formed pre.1.1.0 if4.false _ _ grown.ensures c.outside-cut.ensures
 
 pub decide_spec : {M : Type 1} → statement M

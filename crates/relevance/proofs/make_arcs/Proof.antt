@@ -27,9 +27,7 @@ credentials-requires c κs = search rules
 
 loop-holds : tie.Need-loop-i-init invariant-loop decreases-loop
 loop-holds c =
-    let begun = c.before.before in
-    let at = begun.before.before.before.before.before.before in
-    rows_none _ _ begun.begin.ensures (begun.arcs-1.given ∙ blank-full _ at.requires.1.1)
+    rows_none _ _ c.begin.ensures (c.arcs-1.given ∙ blank-full _ c.requires.1.1)
 
 has-requires : tie.Need-has-requires invariant-loop decreases-loop
 has-requires c κs = search rules
@@ -39,9 +37,8 @@ role-cell-requires c κs = search rules
 
 make-requires : tie.Need-make-requires invariant-loop decreases-loop
 make-requires c κs =
-    let at = c.before.before.before.before.before in
-    let (wf, (indexed, blank)) = (start at).requires in
-    let m = at.loop-i.invariant in
+    let (wf, (indexed, blank)) = (start c.before.before.before.before.before).requires in
+    let m = c.loop-i.invariant in
     (wf, (m.whole, (own-place indexed (omega arith) c.role_cell.ensures.0, m.full)))
 
 add-i : tie.Need-overflow_add-i invariant-loop decreases-loop
@@ -52,9 +49,8 @@ loop-less c = search rules
 
 loop-again : tie.Need-loop-i-preserved invariant-loop decreases-loop
 loop-again c =
-    let at = c.before.before.before in
-    let (wf, (indexed, blank)) = (start at).requires in
-    let m = at.loop-i.invariant in
+    let (wf, (indexed, blank)) = (start c.before.before.before).requires in
+    let m = c.loop-i.invariant in
     ⊎_elim
     (λ w. rw w.arcs-is (rows_more m (omega arith) wf indexed w.role_cell.ensures.0 w.make.ensures.0 w.make.ensures.1 w.arcs-then-has-1.given))
     (λ w. rw w.arcs-is (rows-not m (omega arith) (sym c.has.ensures ∙ w.if-has.false)))
@@ -62,8 +58,7 @@ loop-again c =
 
 same_length : tie.Need-shape_of-arcs invariant-loop decreases-loop
 same_length c =
-    let at = c.before in
-    at.loop-i.invariant.full ∙ sym (blank-full _ (start at).requires.1.1)
+    c.loop-i.invariant.full ∙ sym (blank-full _ (start c.before).requires.1.1)
 
 returns : tie.Need-returns invariant-loop decreases-loop
 returns c = let m = c.loop-i.invariant in (m.whole, rows_all m (omega arith))

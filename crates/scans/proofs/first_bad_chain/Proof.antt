@@ -82,43 +82,38 @@ wide-requires c κs = search rules
 
 cell-requires : tie.Need-cell-j-requires invariant-loop decreases-loop invariant-credentials decreases-credentials
 cell-requires c κs =
-    let at = c.before.before.before in
-    ((start at).requires.0, omega (arith, at.loop-j.invariant.1.inside))
+    ((start c.before.before.before).requires.0, omega (arith, c.loop-j.invariant.1.inside))
 
 loop-less : tie.Need-loop-j-smaller invariant-loop decreases-loop invariant-credentials decreases-credentials
 loop-less c = search rules
 
 loop-again : tie.Need-loop-j-preserved invariant-loop decreases-loop invariant-credentials decreases-credentials
 loop-again c =
-    let at = c.before.before.before.before in
-    let walked = at.loop-j.invariant.1 in
-    let inside = next-inside _ (start at).requires.1.1 at.loop-j.j (omega (arith, walked.inside)) in
+    let walked = c.loop-j.invariant.1 in
+    let inside = next-inside _ (start c.before.before.before.before).requires.1.1 c.loop-j.j (omega (arith, walked.inside)) in
     let on = walk-goes-on _ _ _ _ walked inside c.loop-j-test.true (omega arith) in
-    (at.loop-j.invariant.0, rw (c.cell-j.ensures, c.wide.ensures.0) on)
+    (c.loop-j.invariant.0, rw (c.cell-j.ensures, c.wide.ensures.0) on)
 
 credentials-less-2 : tie.Need-credentials-smaller invariant-loop decreases-loop invariant-credentials decreases-credentials
 credentials-less-2 c = search rules
 
 credentials-again-2 : tie.Need-credentials-preserved invariant-loop decreases-loop invariant-credentials decreases-credentials
 credentials-again-2 c =
-    let at = c.before.before in
-    let whole = long-enough _ _ _ _ at.loop-j.invariant.1 c.loop-j-test.false c.if-met-lt-LEAST_PARTS.false in
-    (omega arith, λ number. each-passes _ number _ ((outer at).credentials.invariant.1 number) (at.loop-j.invariant.0 ∙ whole))
+    let whole = long-enough _ _ _ _ c.loop-j.invariant.1 c.loop-j-test.false c.if-met-lt-LEAST_PARTS.false in
+    (omega arith, λ number. each-passes _ number _ ((outer c.before.before).credentials.invariant.1 number) (c.loop-j.invariant.0 ∙ whole))
 
 returns-2 : tie.Need-returns-then-i-n invariant-loop decreases-loop invariant-credentials decreases-credentials
 returns-2 c = bad-none _ _ _ c.credentials.invariant.1 (omega arith)
 
 returns-3 : tie.Need-returns-then-met-gt-MOST_PARTS invariant-loop decreases-loop invariant-credentials decreases-credentials
 returns-3 c =
-    let at = c.before.before in
-    let long = too_long _ _ _ _ at.loop-j.invariant.1 c.loop-j-test.true c.if-met-gt-MOST_PARTS.true in
-    bad-next _ _ _ (outer at).credentials.invariant.1 (omega arith) (at.loop-j.invariant.0 ∙ long)
+    let long = too_long _ _ _ _ c.loop-j.invariant.1 c.loop-j-test.true c.if-met-gt-MOST_PARTS.true in
+    bad-next _ _ _ (outer c.before.before).credentials.invariant.1 (omega arith) (c.loop-j.invariant.0 ∙ long)
 
 returns-4 : tie.Need-returns-then-met-lt-LEAST_PARTS invariant-loop decreases-loop invariant-credentials decreases-credentials
 returns-4 c =
-    let at = c.before.before in
-    let short = too_short _ _ _ _ at.loop-j.invariant.1 c.loop-j-test.false c.if-met-lt-LEAST_PARTS.true in
-    bad-next _ _ _ (outer at).credentials.invariant.1 (omega arith) (at.loop-j.invariant.0 ∙ short)
+    let short = too_short _ _ _ _ c.loop-j.invariant.1 c.loop-j-test.false c.if-met-lt-LEAST_PARTS.true in
+    bad-next _ _ _ (outer c.before.before).credentials.invariant.1 (omega arith) (c.loop-j.invariant.0 ∙ short)
 
 pub first_bad_chain_spec : {M : Type 1} → statement M
 first_bad_chain_spec =

@@ -19,8 +19,7 @@ same_length c = search rules
 
 returns : tie.Need-returns
 returns c =
-    let sought = c.before.before.before in
-    let answer = rw (sought.nothing.ensures, sought.start.ensures) at sought.goal_search-answer.ensures.0 in
+    let answer = rw (c.nothing.ensures, c.start.ensures) at c.goal_search-answer.ensures.0 in
     judged-told nothing-room answer
 
 pub from_start_spec : {M : Type 1} → statement M

@@ -24,8 +24,7 @@ prepared at = prepared-by at.requires.0 at.requires.1.0 (no-arcs _ [] refl)
 
 returns : tie.Need-returns-then-credentials-person
 returns c =
-    let start = c.before.before.before.before.before.before in
-    goal-unnamed (prepared start) c.goal_person-person.ensures.0 _ _ _ start.requires.1.1
+    goal-unnamed (prepared c.before.before.before.before.before.before) c.goal_person-person.ensures.0 _ _ _ c.requires.1.1
     (omega (arith, c.if-credentials-person.true, c.credentials.ensures.same))
 
 goal-role-requires : tie.Need-goal_role-place-requires
@@ -50,9 +49,8 @@ may-be-proved-requires c κs =
 
 returns-2 : tie.Need-returns
 returns-2 c =
-    let at = c.before in
-    goal-listed (prepared (from at)) at.goal_person-person.ensures.0 (there at)
-    at.goal_role-place.ensures.0 _ _ at.wide-levels.ensures.0 (from at).requires.1.1 c.may_be_proved.ensures
+    goal-listed (prepared (from c.before)) c.goal_person-person.ensures.0 (there c.before)
+    c.goal_role-place.ensures.0 _ _ c.wide-levels.ensures.0 (from c.before).requires.1.1 c.may_be_proved.ensures
 
 pub is_member_spec : {M : Type 1} → statement M
 is_member_spec =

@@ -47,10 +47,9 @@ there at = omega (arith, at.if-credentials-person.false, at.credentials.ensures.
 
 may-be-proved-requires : tie.Need-may_be_proved-requires
 may-be-proved-requires c κs =
-    let at = c in
-    let pre = (from at).requires in (
+    let pre = (from c).requires in (
       pre.0.well_formed,
-      ((pre.1.0.room, pre.1.0.few), (below-most pre.0.well_formed _ (there at), at.goal_role-place.ensures.1)),
+      ((pre.1.0.room, pre.1.0.few), (below-most pre.0.well_formed _ (there c), c.goal_role-place.ensures.1)),
     )
 
 none-requires-2 : tie.Need-none-requires-then-not-may_be_proved
@@ -58,11 +57,10 @@ none-requires-2 c κs = search rules
 
 returns-2 : tie.Need-returns-then-not-may_be_proved
 returns-2 c =
-    let at = c.before.before.before in
     let off = c.if-not-may_be_proved.true in
     tells-nothing _ _ _ _ _ _ c.none-then-not-may_be_proved.ensures
-    (λ X. goal-missing (from at).requires.0 at.goal_person-person.ensures.0 (there at)
-    at.goal_role-place.ensures.0 _ _ at.wide-levels.ensures.0 (from at).requires.1.0 c.may_be_proved.ensures _ X off)
+    (λ X. goal-missing (from c.before.before.before).requires.0 c.goal_person-person.ensures.0 (there c.before.before.before)
+    c.goal_role-place.ensures.0 _ _ c.wide-levels.ensures.0 (from c.before.before.before).requires.1.0 c.may_be_proved.ensures _ X off)
 
 is-small-requires : tie.Need-is_small-requires
 is-small-requires c κs = search rules
@@ -89,9 +87,8 @@ from-start-requires c κs = seekable c.before.before.before.before.before _ (ome
 
 returns-3 : tie.Need-returns-then-is_small
 returns-3 c =
-    let at = c.before.before.before.before.before.before.before in
-    goal-told (from at).requires.0 at.goal_person-person.ensures.0 (there at)
-    at.goal_role-place.ensures.0 _ _ _ _ at.wide-levels.ensures.0 c.from_start.ensures
+    goal-told (from c.before.before.before.before.before.before.before).requires.0 c.goal_person-person.ensures.0 (there c.before.before.before.before.before.before.before)
+    c.goal_role-place.ensures.0 _ _ _ _ c.wide-levels.ensures.0 c.from_start.ensures
 
 slice-aggregate-from-start-2 : tie.Need-slice_bounds-from_start-end-2
 slice-aggregate-from-start-2 c = search rules
@@ -101,9 +98,8 @@ from-start-requires-2 c κs = seekable c.before.before.before.before.before _ (o
 
 returns-4 : tie.Need-returns
 returns-4 c =
-    let at = c.before.before.before.before.before.before.before in
-    goal-told (from at).requires.0 at.goal_person-person.ensures.0 (there at)
-    at.goal_role-place.ensures.0 _ _ _ _ at.wide-levels.ensures.0 c.from_start-2.ensures
+    goal-told (from c.before.before.before.before.before.before.before).requires.0 c.goal_person-person.ensures.0 (there c.before.before.before.before.before.before.before)
+    c.goal_role-place.ensures.0 _ _ _ _ c.wide-levels.ensures.0 c.from_start-2.ensures
 
 pub query_search_spec : {M : Type 1} → statement M
 query_search_spec =

@@ -49,15 +49,13 @@ empty-requires c κs = search rules
 
 read-requires : tie.Need-read-rest-requires
 read-requires c κs =
-    let at = c.before.before.before.before.before.before in
-    let pre = (start at).requires in
-    (pre.0, ((at.empty.ensures.0, levels-fit at), (omega (arith, (start at).well-formed.1.1), (refl, pre.1.1))))
+    let pre = (start c.before.before.before.before.before.before).requires in
+    (pre.0, ((c.empty.ensures.0, levels-fit c.before.before.before.before.before.before), (omega (arith, (start c.before.before.before.before.before.before).well-formed.1.1), (refl, pre.1.1))))
 
 reason-of-requires : tie.Need-reason_of-requires
 reason-of-requires c κs =
-    let read = c.before.before.before in
-    let at = begun read in
-    stops-number (start at).pre.0 (begins at) read.read-rest.ensures.0 c.if-refusal-ne0.true
+    let at = begun c.before.before.before in
+    stops-number (start at).requires.0 (begins at) c.read-rest.ensures.0 c.if-refusal-ne0.true
 
 refused-requires : tie.Need-refused-requires
 refused-requires c κs = search rules
@@ -67,16 +65,14 @@ same_length c = search rules
 
 returns : tie.Need-returns-then-refusal-ne0
 returns c =
-    let read = c.before.before.before.before.before in
-    let at = begun read in
+    let at = begun c.before.before.before.before.before in
     let number = c.reason_of.ensures in
     rw number at c.refused.ensures
-    ∙ verdict-stops (start at).pre.0 (begins at) read.read-rest.ensures.0 c.if-refusal-ne0.true
+    ∙ verdict-stops (start at).requires.0 (begins at) c.read-rest.ensures.0 c.if-refusal-ne0.true
 
 add-refused : tie.Need-overflow_add-nodes
 add-refused c =
-    let read = c.before.before.before.before in
-    omega (arith, read.read-rest.ensures.0.room c.if-refusal-ne0.false, (start (begun read)).well-formed.1.1)
+    omega (arith, c.read-rest.ensures.0.room c.if-refusal-ne0.false, (start (begun c.before.before.before.before)).well-formed.1.1)
 
 refused-requires-2 : tie.Need-refused-requires-then-rest-ne0
 refused-requires-2 c κs = search rules
@@ -87,9 +83,8 @@ same-length-2 c = search rules
 returns-2 : tie.Need-returns-then-rest-ne0
 unfolding number_of
 returns-2 c =
-    let read = c.before.before.before.before.before in
-    let at = begun read in
-    let left_over = verdict-leftover (start at).pre.0 (begins at) read.read-rest.ensures.0 in
+    let at = begun c.before.before.before.before.before in
+    let left_over = verdict-leftover (start at).requires.0 (begins at) c.read-rest.ensures.0 in
     c.refused-then-rest-ne0.ensures ∙ left_over c.if-refusal-ne0.false c.if-rest-ne0.true
 
 judge-words-requires : tie.Need-judge_words-requires
@@ -100,10 +95,9 @@ same-length-3 c = search rules
 
 returns-3 : tie.Need-returns
 returns-3 c =
-    let read = c.before.before.before.before.before in
-    let at = begun read in
+    let at = begun c.before.before.before.before.before in
     c.judge_words.ensures
-    ∙ verdict-words (start at).pre.0 (begins at) read.read-rest.ensures.0 c.if-refusal-ne0.false c.if-rest-ne0.false
+    ∙ verdict-words (start at).requires.0 (begins at) c.read-rest.ensures.0 c.if-refusal-ne0.false c.if-rest-ne0.false
 
 pub judge_by_spec : {M : Type 1} → statement M
 judge_by_spec =

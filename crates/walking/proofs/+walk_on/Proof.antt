@@ -113,7 +113,7 @@ module _ (t : ℕ) where
       at.with-deeper.result from.states at.stepped-below.result.states (in_family from.wanted) from.person
       from.place
   walk-entered at =
-      let pre = (walk_from at).pre.1 in
+      let pre = (walk_from at).requires.1 in
       record {
         well_formed = pre.0.well_formed;
         stands = pre.1.0.0;
@@ -151,25 +151,24 @@ walk-sub-choose t c = omega (arith, entered-left (walk-entered t c))
 
 walk-choose-requires : walk-needs walk-lts.Need-choose-node-requires
 walk-choose-requires t c κs =
-    let with = c.before in
-    let pre = (walk_from t with).requires.1 in (
+    let pre = (walk_from t c).requires.1 in (
       searched-fewer _ (omega arith) pre.0,
-      (pre.1.0, (pre.1.1.0, (pre.1.1.1.0, node-found (walk-entered t with)))),
+      (pre.1.0, (pre.1.1.0, (pre.1.1.1.0, node-found (walk-entered t c)))),
     )
 
 walk-put-requires : walk-needs walk-lts.Need-put-requires
 walk-put-requires t c κs =
-    let room = (walk_from t c.before.before.before.before.before).pre.1.1.1.1.1.1 in
+    let room = (walk_from t c.before.before.before.before.before).requires.1.1.1.1.1.1 in
     omega (arith, room.0, room.1)
 
 walk-add-next : walk-needs walk-lts.Need-overflow_add-next
 walk-add-next t c =
-    let room = (walk_from t (walk-with t c.before.before)).pre.1.1.1.1.1.1 in
+    let room = (walk_from t (walk-with t c.before.before)).requires.1.1.1.1.1.1 in
     record { fits = omega (arith, room.0, room.1) }
 
 walk-accepting-requires : walk-needs walk-lts.Need-accepting-requires
 walk-accepting-requires t c κs =
-    let searched = (walk_from t (walk-with t c.before.before.before.before)).pre.1.0 in
+    let searched = (walk_from t (walk-with t c.before.before.before.before)).requires.1.0 in
     (searched.well_formed, searched.moving)
 
 walk-same-length : walk-needs walk-lts.Need-shape_of-memory-then-node-eq0
@@ -180,9 +179,8 @@ walk-same-length-2 t c = c.put.ensures.size
 
 walk-returns : walk-needs walk-lts.Need-returns-then-node-eq0
 walk-returns t c =
-    let put = c.before.before.before.before.before.before in
-    let (chosen, remembered) = (walk-chose t put).choose-node.ensures in
-    let told = node-ends (walk-entered t (walk-with t put)) chosen put.put.ensures _ c.if-node-eq0.true
+    let (chosen, remembered) = (walk-chose t c).choose-node.ensures in
+    let told = node-ends (walk-entered t (walk-with t c)) chosen c.put.ensures _ c.if-node-eq0.true
     c.accepting.ensures in
     (record { walked = told.0; meets = told.1 }, remembered)
 
@@ -194,9 +192,8 @@ walk-same-length-4 t c = c.put.ensures.size
 
 walk-returns-2 : walk-needs walk-lts.Need-returns-then-most-next
 walk-returns-2 t c =
-    let put = c.before.before.before.before.before in
-    let (chosen, remembered) = (walk-chose t put).choose-node.ensures in
-    let told = node_over (walk-entered t (walk-with t put)) chosen put.put.ensures _ c.if-most-next.true 0 in
+    let (chosen, remembered) = (walk-chose t c).choose-node.ensures in
+    let told = node_over (walk-entered t (walk-with t c)) chosen c.put.ensures _ c.if-most-next.true 0 in
     (record { walked = told.0; meets = told.1 }, remembered)
 
 walk-sub-walk-asked : walk-needs walk-lts.Need-overflow_sub-levels-2
@@ -205,10 +202,9 @@ walk-sub-walk-asked t c =
 
 walk-walk-asked-requires : walk-needs walk-lts.Need-walk_asked-requires
 walk-walk-asked-requires t c κs =
-    let put = c.before.before.before.before.before.before.before in
-    let entered = walk-entered t (walk-with t put) in
-    let pre = (walk_from t (walk-with t put)).pre in
-    let (chosen, remembered) = (walk-chose t put).choose-node.ensures in (
+    let entered = walk-entered t (walk-with t c) in
+    let pre = (walk_from t (walk-with t c)).requires in
+    let (chosen, remembered) = (walk-chose t c).choose-node.ensures in (
       omega (arith, entered-left entered, pre.0),
       (
         searched-fewer _ (omega arith) pre.1.0,
@@ -235,20 +231,18 @@ walk-same-length-5 t c =
 
 walk-same-length-6 : walk-needs walk-lts.Need-shape_of-rec
 walk-same-length-6 t c =
-    let asked = c.before.before.before.before in
-    asked .walk-asked .ensures .0 .walked .size ∙ walk_put t asked .put .ensures .size
+    c .walk-asked .ensures .0 .walked .size ∙ walk_put t c .put .ensures .size
 
 walk-returns-3 : walk-needs walk-lts.Need-returns
 walk-returns-3 t c =
-    let asked = c.before.before.before.before in
-    let (walks, remembered) = asked .walk-asked .ensures in
-    let put = walk_put t asked in
+    let (walks, remembered) = c .walk-asked .ensures in
+    let put = walk_put t c in
     let told = node-goes (walk-entered t (walk-with t put)) (walk-chose t put).choose-node.ensures.0 put.put.ensures _
-    (asked .before .before .before .before .if1 .false) walks.walked walks.meets in
+    (c .before .before .before .before .if1 .false) walks.walked walks.meets in
     (record { walked = told.0; meets = told.1 }, remembered)
 
 module _ (t : ℕ) where
-  -- the loop's place, and the one where the call was asked
+  -- the loop's place, and the one where the call was c
   abbrev walk-asked-from : walk-asked-place walk-asked-lts.At-loop-k t → walk-asked-place walk-asked-lts.Start t
   walk-asked-from at = at.before.before.before.before.before.before.before.before.before
 
@@ -262,7 +256,7 @@ module _ (t : ℕ) where
   -- the child is one of at most four
   walk-asked-near : (at : walk-asked-place walk-asked-lts.After-wanted_here-here t) → (walk-asked-loop at).loop-k.k < 4
   walk-asked-near at =
-      let pre = (walk-asked-from (walk-asked-loop at)).pre.1 in
+      let pre = (walk-asked-from (walk-asked-loop at)).requires.1 in
       omega (arith, at.loop-k-test.true, pre.1.0.fits.few)
 
 walk-asked-loop-holds : walk-asked-needs walk-asked-lts.Need-loop-k-init
@@ -272,14 +266,13 @@ walk-asked-loop-holds t c =
 
 walk-asked-add-wanted-here : walk-asked-needs walk-asked-lts.Need-overflow_add-k
 walk-asked-add-wanted-here t c =
-    let pre = (walk-asked-from t c.before.before).pre.1 in
+    let pre = (walk-asked-from t c.before.before).requires.1 in
     record { fits = omega (arith, c.loop-k-test.true, pre.1.0.fits.few) }
 
 walk-asked-wanted-here-requires : walk-asked-needs walk-asked-lts.Need-wanted_here-here-requires
 walk-asked-wanted-here-requires t c κs =
-    let at = c.before.before.before in
-    let pre = (walk-asked-from t at).requires.1 in
-    let (_, _, passed, _, remembered) = at.loop-k.invariant in
+    let pre = (walk-asked-from t c).requires.1 in
+    let (_, _, passed, _, remembered) = c.loop-k.invariant in
     (pre.0, (pre.1.0, (pre.1.1.0, (remembered, (passed.few, omega (arith, c.loop-k-test.true))))))
 
 walk-asked-mul-walk : walk-asked-needs walk-asked-lts.Need-offset_bounds-persons-k
@@ -296,14 +289,13 @@ walk-asked-array-read-walk-2 t c = walk-asked-near t c.before.before
 
 walk-asked-walk-requires : walk-asked-needs walk-asked-lts.Need-walk-walked-requires
 walk-asked-walk-requires t c κs =
-    let told = c.before.before.before.before in
-    let at = walk-asked-loop t told in
-    let pre = (walk-asked-from t at).pre in
+    let at = walk-asked-loop t c in
+    let pre = (walk-asked-from t at).requires in
     let wf = pre.1.0.well_formed in
     let wanted = family-wants pre.1.1.1.0 in
-    let next = told.loop-k-test.true in
-    let (_, room, passed, _, _) = at.loop-k.inv in
-    let (alike, remembered) = told.wanted_here-here.ensures in (
+    let next = c.loop-k-test.true in
+    let (_, room, passed, _, _) = at.loop-k.invariant in
+    let (alike, remembered) = c.wanted_here-here.ensures in (
       omega (arith, pre.0),
       (
         pre.1.0,
@@ -327,19 +319,18 @@ walk-asked-loop-less t c = search rules
 
 walk-asked-loop-again : walk-asked-needs walk-asked-lts.Need-loop-k-preserved
 walk-asked-loop-again t c =
-    let walk = c.before.before.before.before.before.before in
-    let told = walk-asked-told t walk in
+    let told = walk-asked-told t c in
     let at = walk-asked-loop t told in
-    let pre = (walk-asked-from t at).pre.1 in
+    let pre = (walk-asked-from t at).requires.1 in
     let next = told.loop-k-test.true in
-    let (walks, remembered) = walk.walk-walked.ensures in
+    let (walks, remembered) = c.walk-walked.ensures in
     let room = c.if-most-next.false in (
       omega (arith, next),
       omega (arith, room),
-      asked-next pre.0.well_formed _ _ _ _ _ _ _ (family-wants pre.1.1.0) _ _ next at.loop-k.inv.2 _
-          told.wanted-here.ensures.0 at.loop-k.inv.1 walks.walked _ (walks.meets (omega (arith, room))),
-      c.memory-in-loop-k-1.given ∙ walk.memory-1.given
-          ∙ at.loop-k.inv.3,
+      asked-next pre.0.well_formed _ _ _ _ _ _ _ (family-wants pre.1.1.0) _ _ next at.loop-k.invariant.2 _
+          told.wanted-here.ensures.0 at.loop-k.invariant.1 walks.walked _ (walks.meets (omega (arith, room))),
+      c.memory-in-loop-k-1.given ∙ c.memory-1.given
+          ∙ at.loop-k.invariant.3,
       remembered,
     )
 
@@ -357,27 +348,24 @@ walk-asked-returns t c =
 
 walk-asked-same-length-3 : walk-asked-needs walk-asked-lts.Need-shape_of-memory-then-most-next
 walk-asked-same-length-3 t c =
-    let walk = c.before.before.before.before.before in
-    c.memory-in-loop-k-1.given ∙ walk.memory-1.given
-    ∙ (walk-asked-loop t (walk-asked-told t walk)).loop-k.inv.3
+    c.memory-in-loop-k-1.given ∙ c.memory-1.given
+    ∙ (walk-asked-loop t (walk-asked-told t c)).loop-k.invariant.3
 
 walk-asked-same-length-4 : walk-asked-needs walk-asked-lts.Need-shape_of-rec-then-most-next
 walk-asked-same-length-4 t c =
-    let walk = c.before.before.before.before.before in
-    walk.walk-walked.ensures.0.walked.size ∙ (walk-asked-loop t (walk-asked-told t walk)).loop-k.inv.2.walked.size
+    c.walk-walked.ensures.0.walked.size ∙ (walk-asked-loop t (walk-asked-told t c)).loop-k.invariant.2.walked.size
 
 walk-asked-returns-2 : walk-asked-needs walk-asked-lts.Need-returns-then-most-next
 walk-asked-returns-2 t c =
-    let walk = c.before.before.before.before.before in
-    let told = walk-asked-told t walk in
+    let told = walk-asked-told t c in
     let at = walk-asked-loop t told in
-    let pre = (walk-asked-from t at).pre.1 in
+    let pre = (walk-asked-from t at).requires.1 in
     let next = told.loop-k-test.true in
-    let (walks, remembered) = walk.walk-walked.ensures in (
+    let (walks, remembered) = c.walk-walked.ensures in (
       record {
         walked =
-            asked-beyond pre.0.well_formed _ _ _ _ _ _ _ (family-wants pre.1.1.0) _ _ next at.loop-k.inv.2 _
-            told.wanted-here.ensures.0 at.loop-k.inv.1 walks.walked c.if-most-next.true;
+            asked-beyond pre.0.well_formed _ _ _ _ _ _ _ (family-wants pre.1.1.0) _ _ next at.loop-k.invariant.2 _
+            told.wanted-here.ensures.0 at.loop-k.invariant.1 walks.walked c.if-most-next.true;
         meets = λ room. absurd (omega (arith, c.if-most-next.true));
       },
       remembered,

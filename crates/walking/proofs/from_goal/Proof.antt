@@ -34,12 +34,11 @@ asked at = at.before.before.before.before.before.before.before.before.before.bef
 
 walk-requires : tie.Need-walk-walked-requires
 walk-requires c κs =
-    let at = c.before.before.before in
-    let pre = (asked at).requires in
-    let who = at.goal_person.ensures.0 in
-    let place = at.goal_role.ensures.0 in
-    let only = at.only.ensures in
-    let levels = at.wide.ensures.0 in
+    let pre = (asked c.before.before.before).requires in
+    let who = c.goal_person.ensures.0 in
+    let place = c.goal_role.ensures.0 in
+    let only = c.only.ensures in
+    let levels = c.wide.ensures.0 in
     let remembered = pre.1.1.0 in
     let few = remembered.few in
     let proved = pre.1.1.1.0 in (
@@ -52,7 +51,7 @@ walk-requires c κs =
             remembered,
             (
               rw c.nothing.ensures
-                  (begins-suits pre.0 pre.1.0 _ _ few proved who place _ only _ _ levels at.start.ensures),
+                  (begins-suits pre.0 pre.1.0 _ _ few proved who place _ only _ _ levels c.start.ensures),
               (omega arith, pre.1.1.1.1),
             ),
           ),
@@ -68,15 +67,13 @@ same-length-2 c = search rules
 
 returns : tie.Need-returns
 returns c =
-    let walk = c.before.before.before.before in
-    let (walked, remembered) = walk.walk-walked.ensures in
-    let at = walk.before.before.before.before in
-    let pre = (asked at).requires in
-    let who = at.goal_person.ensures.0 in
-    let place = at.goal_role.ensures.0 in (
+    let (walked, remembered) = c.walk-walked.ensures in
+    let pre = (asked c.before.before.before.before.before.before.before.before).requires in
+    let who = c.goal_person.ensures.0 in
+    let place = c.goal_role.ensures.0 in (
       begins-walked pre.0 pre.1.0 _ _ pre.1.1.0.few pre.1.1.1.0 who place _
-          at.only.ensures _ _ at.wide.ensures.0 at.start.ensures _ _ _ _
-          (rw walk.nothing.ensures at walked.walked),
+          c.only.ensures _ _ c.wide.ensures.0 c.start.ensures _ _ _ _
+          (rw c.nothing.ensures c walked.walked),
       remembered,
     )
 

@@ -50,7 +50,7 @@ array-read-goal-search c = omega (
   arith,
   c.loop-k-test.true,
   c.loop-k.invariant.1,
-  (start c.before.before).pre.1.0.fits.few,
+  (start c.before.before).requires.1.0.fits.few,
 )
 
 mul-goal-search-2 : tie.Need-offset_bounds-places-k invariant-loop decreases-loop
@@ -61,14 +61,13 @@ array-read-goal-search-2 c = omega (
   arith,
   c.loop-k-test.true,
   c.loop-k.invariant.1,
-  (start c.before.before).pre.1.0.fits.few,
+  (start c.before.before).requires.1.0.fits.few,
 )
 
 goal-search-requires : tie.Need-goal_search-answer-requires invariant-loop decreases-loop
 goal-search-requires c κs =
-    let at = c.before.before in
-    let pre = (start at.before).pre in
-    let (_, few, _, _, remembered) = at.loop-k.invariant in
+    let pre = (start c.before.before.before).requires in
+    let (_, few, _, _, remembered) = c.loop-k.invariant in
     (pre.0, (asked-stands _ pre.1.0.stands _ (omega (arith, c.loop-k-test.true, few)), remembered))
 
 joined-requires : tie.Need-joined-met-requires invariant-loop decreases-loop
@@ -79,16 +78,14 @@ loop-less c = search rules
 
 loop-again : tie.Need-loop-k-preserved invariant-loop decreases-loop
 loop-again c =
-    let sought = c.before.before.before in
-    let (one, remembered) = sought.goal_search-answer.ensures in
-    let test = sought.loop-k-test.true in
-    let at = sought.before.before.before in
-    let (_, few, behind, same, _) = at.loop-k.invariant in
-    let there = child-there (start at.before).pre.1.0 in (
+    let (one, remembered) = c.goal_search-answer.ensures in
+    let test = c.loop-k-test.true in
+    let (_, few, behind, same, _) = c.loop-k.invariant in
+    let there = child-there (start c.before.before.before.before.before.before.before.before).requires.1.0 in (
       omega (arith, test),
       omega (arith, few),
       later-next _ _ _ _ _ _ _ _ _ _ (omega (arith, test)) few (there _ (omega (arith, test, few))) c.joined-met.ensures
-          (judged-told (wide (start at.before)) one) behind,
+          (judged-told (wide (start c.before.before.before.before.before.before.before.before)) one) behind,
       c.memory-1.given ∙ same,
       remembered,
     )

@@ -32,9 +32,8 @@ left-by-requires c κs = (start c.before.before.before.before).requires.1.1.0.fe
 
 returns-2 : tie.Need-returns-then-has
 returns-2 c =
-    let only = c.before.before.before in
-    let (_, (children, (wanted, (remembered, (owed, from))))) = (start only.before.before).requires in (
-      here-all _ _ _ (family-wants wanted) _ owed _ _ only.only-now.ensures (children-nothing children _ from)
+    let (_, (children, (wanted, (remembered, (owed, from))))) = (start c.before.before.before.before.before).requires in (
+      here-all _ _ _ (family-wants wanted) _ owed _ _ c.only-now.ensures (children-nothing children _ from)
           (sym c.has.ensures ∙ c.if-has.true) _ c.left_by.ensures,
       remembered,
     )
@@ -56,11 +55,9 @@ same_length c = search rules
 
 returns-3 : tie.Need-returns
 returns-3 c =
-    let behind = c.before.before.before.before in
-    let (told, remembered) = behind.met_from-later.ensures in
-    let only = behind.before.before.before.before in
-    let (_, (_, (wanted, (_, (owed, _))))) = (start only.before.before).requires in (
-      here-left _ _ _ (family-wants wanted) _ owed _ _ only.only-now.ensures _ _ (λ X. refl) _ _ _ told
+    let (told, remembered) = c.met_from-later.ensures in
+    let (_, (_, (wanted, (_, (owed, _))))) = (start c.before.before.before.before.before.before.before.before.before.before).requires in (
+      here-left _ _ _ (family-wants wanted) _ owed _ _ c.only-now.ensures _ _ (λ X. refl) _ _ _ told
           c.joined.ensures c.left_by-2.ensures,
       remembered,
     )

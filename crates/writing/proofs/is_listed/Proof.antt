@@ -29,10 +29,8 @@ returns-2 c = sym (least-not _ _ (failed c.admits.ensures c.if-not-admits.true))
 
 is-minimal-requires : tie.Need-is_minimal-requires
 is-minimal-requires c κs =
-    let at = c.before.before.before in
-    let start = at.before.before.before.before in
-    let few = below_all start.args.table.now _ _ at.credentials.ensures.same c.if-set-credentials-ne0.false in
-    (start.requires, (few, passed c.admits.ensures c.if-not-admits.false))
+    let few = below_all c.args.table.now _ _ c.credentials.ensures.same c.if-set-credentials-ne0.false in
+    (c.requires, (few, passed c.admits.ensures c.if-not-admits.false))
 
 returns-3 : tie.Need-returns
 returns-3 c = search rules

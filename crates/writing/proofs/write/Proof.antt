@@ -31,9 +31,8 @@ same_length c = search rules
 returns : tie.Need-returns-in-Valid
 unfolding query_told
 returns c =
-    let at = c.before.before.before in
-    let told = ap query_told at.in-Valid.is in
-    let accepts = sym at.check_request.ensures ∙ told in
+    let told = ap query_told c.in-Valid.is in
+    let accepts = sym c.check_request.ensures ∙ told in
     written-past _ _ _ _ accepts c.write_checked.ensures
 
 returns-2 : tie.Need-returns-in-Refused

@@ -29,8 +29,7 @@ slice-aggregate-write-over-2 c = search rules
 
 write-over-requires : tie.Need-write_over-requires
 write-over-requires c κs =
-    let index = c.before.before.before.before.before in
-    prepared-by (start index).requires index.index-index.ensures (no-arcs _ _ (simp length-take (omega arith)))
+    prepared-by (start c.before.before.before.before.before).requires c.index-index.ensures (no-arcs _ _ (simp length-take (omega arith)))
 
 same_length : tie.Need-shape_of-rec-then-automata_of-eq0
 same_length c = search rules
@@ -55,9 +54,7 @@ slice-aggregate-write-over-4 c = search rules
 
 write-over-requires-2 : tie.Need-write_over-requires-2
 write-over-requires-2 c κs =
-    let made = c.before.before.before.before in
-    let index = made.before.before.before.before.before in
-    prepared-by (start index).requires index.index-index.ensures made.make_arcs.ensures.0
+    prepared-by (start c.before.before.before.before.before.before.before.before.before).requires c.index-index.ensures c.make_arcs.ensures.0
 
 same-length-2 : tie.Need-shape_of-rec
 same-length-2 c = search rules

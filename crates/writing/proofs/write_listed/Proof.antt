@@ -69,8 +69,7 @@ filled : (at : Ready) → let from = (asked at).args in
     let fill = at.fill-last in
     Members from.table.now from.set from.query.depth fill.result fill.new.1.1.1.1.0
 filled at =
-    let fill = at.before.before.before in
-    rw fill.wide.ensures.0 at fill.fill-last.ensures
+    rw at.wide.ensures.0 at at.fill-last.ensures
 
 -- a cleared memory, of any length
 cleared : (at : Ready) (memory : List ℕ) → SlotIn memory 0 → Blank memory → let from = (asked at).args in
@@ -80,9 +79,8 @@ cleared at = remembered-none _ _ _ _ (owed-fits (asked at).requires.0.well_forme
 
 write-settled-requires : tie.Need-write_settled-requires
 write-settled-requires c κs =
-    let at = c.before.before.before.before.before in
-    let pre = (asked at).requires in
-    (pre.0, (pre.1, (filled at, (settled at, cleared at _ (omega arith) (zeros few_cells)))))
+    let pre = (asked c.before.before.before.before.before).requires in
+    (pre.0, (pre.1, (filled c.before.before.before.before.before, (settled c.before.before.before.before.before, cleared c _ (omega arith) (zeros few_cells)))))
 
 same_length : tie.Need-shape_of-rec-then-is_small
 same_length c = search rules
@@ -98,9 +96,8 @@ slice-aggregate-write-settled-4 c = search rules
 
 write-settled-requires-2 : tie.Need-write_settled-requires-2
 write-settled-requires-2 c κs =
-    let at = c.before.before.before.before.before in
-    let pre = (asked at).requires in
-    (pre.0, (pre.1, (filled at, (settled at, cleared at _ (omega arith) (zeros memory_cells)))))
+    let pre = (asked c.before.before.before.before.before).requires in
+    (pre.0, (pre.1, (filled c.before.before.before.before.before, (settled c.before.before.before.before.before, cleared c _ (omega arith) (zeros memory_cells)))))
 
 same-length-2 : tie.Need-shape_of-rec
 same-length-2 c = search rules

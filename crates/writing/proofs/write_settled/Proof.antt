@@ -57,18 +57,15 @@ same-length-2 c = search rules
 returns : tie.Need-returns-then-cells-len
 unfolding number_of
 returns c =
-    let first = c.before.before.before.before.before.before in
-    let at = first.before in
-    let pre = (asked at).requires.1 in
-    let counted = first.from_goal-len.ensures.0 in
-    tells-instead _ _ _ _ c.refused.ensures (passed-by counted (cells at))
+    let pre = (asked c.before.before.before.before.before.before.before).requires.1 in
+    let counted = c.from_goal-len.ensures.0 in
+    tells-instead _ _ _ _ c.refused.ensures (passed-by counted (cells c.before.before.before.before.before.before.before))
     (counted-longer _ pre.1.1.0 _ pre.0 refl counted c.if-cells-len.true)
 
 from-goal-requires-2 : tie.Need-from_goal-requires
 from-goal-requires-2 c κs =
-    let first = c.before.before.before.before.before.before.before in
-    let pre = (asked first.before).requires in
-    (pre.0, (pre.1.1.0, (first.from_goal-len.ensures.1, (walkable first.before, room first.before))))
+    let pre = (asked c.before.before.before.before.before.before.before.before).requires in
+    (pre.0, (pre.1.1.0, (c.from_goal-len.ensures.1, (walkable c.before.before.before.before.before.before.before.before, room c.before.before.before.before.before.before.before.before))))
 
 same-length-3 : tie.Need-shape_of-memory
 same-length-3 c = search rules
@@ -79,13 +76,10 @@ same-length-4 c = search rules
 returns-2 : tie.Need-returns
 unfolding written_told
 returns-2 c =
-    let second = c.before.before.before.before in
-    let first = second.before.before.before.before.before.before.before.before in
-    let at = first.before in
-    let pre = (asked at).requires.1 in
-    let counted = first.from_goal-len.ensures.0 in
-    counted-written _ pre.1.1.0 _ pre.0 refl counted second.if-cells-len.false
-    (rw (passed-by counted (cells at)) at second.from_goal.ensures.0)
+    let pre = (asked c.before.before.before.before.before.before.before.before.before.before.before.before.before).requires.1 in
+    let counted = c.from_goal-len.ensures.0 in
+    counted-written _ pre.1.1.0 _ pre.0 refl counted c.if-cells-len.false
+    (rw (passed-by counted (cells c.before.before.before.before.before.before.before.before.before.before.before.before.before)) c c.from_goal.ensures.0)
 
 pub write_settled_spec : {M : Type 1} → statement M
 write_settled_spec =

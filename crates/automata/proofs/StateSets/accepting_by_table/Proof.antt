@@ -52,7 +52,7 @@ loop-again c =
     let (in-range, so_far) = c.loop-k.invariant in
     let read = c.automaton-automaton.ensures in
     let accepting = c.states-accepting.ensures in
-    let self = c.args.t1 in
+    let self = c.args.self in
     let mask = ⊎_elim (λ w. w.mask-is ∙ w.with_16-mask.ensures ∙ accepting-more _ self _ so_far read (rw accepting at w.if-self-k-ne0.true))
     (λ w. w.mask-is ∙ accepting-same _ self _ so_far read (rw accepting at w.if-self-k-ne0.false)) c.if-self-k-ne0.branch-raw in
     (omega arith, mask)

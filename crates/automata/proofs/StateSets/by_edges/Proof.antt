@@ -69,24 +69,22 @@ loop-less c = search rules
 
 loop-again : tie.Need-loop-k-preserved-then-to-ne0 invariant-loop decreases-loop
 loop-again c =
-    let given = c.before.before in
-    let at = (wide given).before in
+    let at = (wide c.before.before).before in
     let own = (in-range at).0 in
-    let gives = given.gives-to.ensures in
-    let number = (wide given).wide-at.ensures.0 in
-    (omega arith, moving-on _ _ _ _ _ (loop at).loop-k.inv.1 at.edge-edge.ensures own number gives)
+    let gives = c.gives-to.ensures in
+    let number = (wide c.before.before).wide-at.ensures.0 in
+    (omega arith, moving-on _ _ _ _ _ (loop at).loop-k.invariant.1 at.edge-edge.ensures own number gives)
 
 loop-less-2 : tie.Need-loop-k-smaller invariant-loop decreases-loop
 loop-less-2 c = search rules
 
 loop-again-2 : tie.Need-loop-k-preserved invariant-loop decreases-loop
 loop-again-2 c =
-    let given = c.before in
-    let at = (wide given).before in
+    let at = (wide c.before).before in
     let own = (in-range at).0 in
-    let gives = given.gives-to.ensures in
-    let number = (wide given).wide-at.ensures.0 in
-    (omega arith, moving-past _ _ _ _ _ (loop at).loop-k.inv.1 at.edge-edge.ensures own number gives c.if-to-ne0.false)
+    let gives = c.gives-to.ensures in
+    let number = (wide c.before).wide-at.ensures.0 in
+    (omega arith, moving-past _ _ _ _ _ (loop at).loop-k.invariant.1 at.edge-edge.ensures own number gives c.if-to-ne0.false)
 
 returns : tie.Need-returns invariant-loop decreases-loop
 returns c = moving-all _ _ _ _ _ (omega arith) c.loop-k.invariant.1

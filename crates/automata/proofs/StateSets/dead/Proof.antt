@@ -44,7 +44,7 @@ loop-less c = search rules
 loop-again : tie.Need-loop-k-preserved invariant-loop decreases-loop
 loop-again c =
     let (in-range, so_far) = c.loop-k.invariant in
-    let self = c.args.t1 in
+    let self = c.args.self in
     let mask = ⊎_elim (λ w. w.mask-is ∙ w.with_16-mask.ensures ∙ set_more (is_empty self) _ _ so_far (eq-eqb _ 0 w.if-self-k-eq0.true))
     (λ w. w.mask-is ∙ set-not (is_empty self) _ _ so_far (ne_eqb _ 0 w.if-self-k-eq0.false)) c.if-self-k-eq0.branch-raw in
     (omega arith, mask)

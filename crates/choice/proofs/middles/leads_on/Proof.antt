@@ -15,10 +15,9 @@ asked-cell-requires c κs = search rules
 
 goal-search-requires : tie.Need-goal_search-one-requires
 goal-search-requires c κs =
-    let cell = c.before in
-    let pre = cell.requires in
+    let pre = c.requires in
     let middle = pre.1.1.0 in
-    let stands = first-stands pre.0 pre.1.0.0 pre.1.0.1 middle.0 middle.1 cell.asked_cell.ensures.0 in
+    let stands = first-stands pre.0 pre.1.0.0 pre.1.0.1 middle.0 middle.1 c.asked_cell.ensures.0 in
     (pre.0, (stands, pre.1.1.1.1))
 
 is-none-requires : tie.Need-is_none-requires
@@ -39,29 +38,26 @@ same_length c = search rules
 
 returns : tie.Need-returns-then-is_none
 returns c =
-    let at = c.before.before.before.before in
-    let pre = (asked at).requires in
+    let pre = (asked c.before.before.before.before.before).requires in
     let middle = pre.1.1.0 in
-    let (judged, remembered) = at.goal_search-one.ensures in (
+    let (judged, remembered) = c.goal_search-one.ensures in (
       leads-none pre.0 pre.1.0.0 pre.1.0.1 middle.0 middle.1 _ _ _ pre.1.1.1.0
-          at.asked_cell.ensures.0 (judged-told (wide (asked at)) judged) c.is_none.ensures c.if-is_none.true,
+          c.asked_cell.ensures.0 (judged-told (wide (asked c.before.before.before.before.before)) judged) c.is_none.ensures c.if-is_none.true,
       remembered,
     )
 
 link-cell-requires : tie.Need-link_cell-requires
 link-cell-requires c κs =
-    let pre = (asked c.before.before.before.before).requires in
+    let pre = (asked c.before.before.before.before.before).requires in
     let few = pre.0.well_formed.sized.counted.few_credentials in
     (pre.0.indexed.placed, (omega (arith, pre.1.0.0.there, few), omega (arith, pre.1.1.0.0, few)))
 
 goal-search-requires-2 : tie.Need-goal_search-two-requires
 goal-search-requires-2 c κs =
-    let cell = c.before in
-    let at = cell.before.before.before.before.before in
-    let pre = (asked at).requires in
+    let pre = (asked c.before.before.before.before.before.before.before).requires in
     let middle = pre.1.1.0 in
-    let stands = second-stands pre.0 pre.1.0.0 pre.1.0.1 middle.0 middle.1 cell.link_cell.ensures.0 in
-    (pre.0, (stands, at.goal_search-one.ensures.1))
+    let stands = second-stands pre.0 pre.1.0.0 pre.1.0.1 middle.0 middle.1 c.link_cell.ensures.0 in
+    (pre.0, (stands, c.goal_search-one.ensures.1))
 
 joined-requires : tie.Need-joined-both-requires
 joined-requires c κs = search rules
@@ -74,14 +70,12 @@ same-length-2 c = search rules
 
 returns-2 : tie.Need-returns
 returns-2 c =
-    let second = c.before.before.before.before in
-    let at = second.before.before.before.before.before.before.before in
-    let pre = (asked at).requires in
+    let pre = (asked c.before.before.before.before.before.before.before.before.before.before.before.before.before.before).requires in
     let middle = pre.1.1.0 in
-    let (judged, remembered) = second.goal_search-two.ensures in (
+    let (judged, remembered) = c.goal_search-two.ensures in (
       leads-told pre.0 pre.1.0.0 pre.1.0.1 middle.0 middle.1 _ _ _ pre.1.1.1.0
-          at.asked_cell.ensures.0 (judged-told (wide (asked at)) at.goal_search-one.ensures.0)
-          second.link_cell.ensures.0 _ (judged-told (wide (asked at)) judged) c.joined-both.ensures c.meets.ensures,
+          c.asked_cell.ensures.0 (judged-told (wide (asked c.before.before.before.before.before.before.before.before.before.before.before.before.before.before)) c.goal_search-one.ensures.0)
+          c.link_cell.ensures.0 _ (judged-told (wide (asked c.before.before.before.before.before.before.before.before.before.before.before.before.before.before)) judged) c.joined-both.ensures c.meets.ensures,
       remembered,
     )
 

@@ -53,23 +53,22 @@ loop-holds c =
 
 sub-loop : tie.Need-overflow_sub-left invariant-loop decreases-loop
 sub-loop c =
-    let pre = (asked c.before).pre in
+    let pre = (asked c.before).requires in
     let some = some-leads _ _ _ _ _ pre.1.0.1 pre.1.1.1.1 in
     some-least _ (left-some _ _ _ c.loop-left.invariant.0 some)
 
 least-named-requires : tie.Need-least_named-j-requires invariant-loop decreases-loop
 least-named-requires c κs =
-    let pre = (asked c.before.before).pre in
+    let pre = (asked c.before.before).requires in
     let some = some-leads _ _ _ _ _ pre.1.0.1 pre.1.1.1.1 in
     let left = c.loop-left.invariant.0 in
     (pre.0.well_formed, (left.few, left-some _ _ _ left some))
 
 leads-on-requires : tie.Need-leads_on-requires invariant-loop decreases-loop
 leads-on-requires c κs =
-    let at = c.before.before.before in
-    let pre = (asked at.before).pre in
+    let pre = (asked c.before.before.before.before).requires in
     let named = c.least_named-j.ensures in
-    let (left, (same, remembered)) = at.loop-left.invariant in
+    let (left, (same, remembered)) = c.loop-left.invariant in
     (pre.0, (pre.1.0, ((named.there, left.people _ named.member), (pre.1.1.0, remembered))))
 
 -- the place where the least of those left has been found: its bit is one of 32
@@ -78,7 +77,7 @@ Named = tie.After-least_named-j invariant-loop decreases-loop
 
 near : (at : Named) → at.least_named-j.result < 32
 near at =
-    let pre = (asked at.before.before.before).pre in
+    let pre = (asked at.before.before.before).requires in
     omega (arith, below-most pre.0.well_formed _ at.least_named-j.ensures.there)
 
 same_length : tie.Need-shape_of-memory-then-leads_on invariant-loop decreases-loop
@@ -87,9 +86,8 @@ same_length c =
 
 returns : tie.Need-returns-then-leads_on invariant-loop decreases-loop
 returns c =
-    let named = c.before.before.before.before.before in
     let (leading, remembered) = c.leads_on.ensures in (
-      least-leads _ _ _ named.loop-left.invariant.0 _ named.least_named-j.ensures (sym leading ∙ c.if-leads_on.true),
+      least-leads _ _ _ c.loop-left.invariant.0 _ c.least_named-j.ensures (sym leading ∙ c.if-leads_on.true),
       remembered,
     )
 
@@ -101,21 +99,19 @@ shl-left c = omega (arith, near c.before.before.before.before.before)
 
 loop-less : tie.Need-loop-left-smaller invariant-loop decreases-loop
 loop-less c =
-    let named = c.before.before.before.before.before in
-    left_less _ _ _ named.loop-left.invariant.0 _ named.least_named-j.ensures _ (one_bit 32 _ (near named))
+    left_less _ _ _ c.loop-left.invariant.0 _ c.least_named-j.ensures _ (one_bit 32 _ (near c.before.before.before.before.before))
 
 loop-again : tie.Need-loop-left-preserved invariant-loop decreases-loop
 loop-again c =
-    let named = c.before.before.before.before.before in
     let (leading, remembered) = c.leads_on.ensures in (
-      left-next _ _ _ named.loop-left.invariant.0 _ named.least_named-j.ensures (sym leading ∙ c.if-leads_on.false) _
-          (one_bit 32 _ (near named)),
+      left-next _ _ _ c.loop-left.invariant.0 _ c.least_named-j.ensures (sym leading ∙ c.if-leads_on.false) _
+          (one_bit 32 _ (near c.before.before.before.before.before)),
       (c.memory-1.given ∙ c.loop-left.invariant.1.0, remembered),
     )
 
 least-named-requires-2 : tie.Need-least_named-requires invariant-loop decreases-loop
 least-named-requires-2 c κs =
-    let pre = (asked c.before.before).pre in
+    let pre = (asked c.before.before).requires in
     let some = some-leads _ _ _ _ _ pre.1.0.1 pre.1.1.1.1 in
     let left = c.loop-left.invariant.0 in
     (pre.0.well_formed, (left.few, left-some _ _ _ left some))
@@ -125,10 +121,9 @@ same-length-2 c = search rules
 
 returns-2 : tie.Need-returns invariant-loop decreases-loop
 returns-2 c =
-    let at = c.before.before in
-    let pre = (asked at.before).pre in
+    let pre = (asked c.before.before.before).requires in
     let some = some-leads _ _ _ _ _ pre.1.0.1 pre.1.1.1.1 in
-    let (left, (same, remembered)) = at.loop-left.invariant in
+    let (left, (same, remembered)) = c.loop-left.invariant in
     (only-leads _ _ _ left _ c.least_named.ensures some c.loop-left-test.false, remembered)
 
 pub least_middle_spec : {M : Type 1} → statement M

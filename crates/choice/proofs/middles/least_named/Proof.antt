@@ -35,11 +35,10 @@ loop-less c = search rules
 
 loop-again : tie.Need-loop-j-preserved invariant-loop decreases-loop
 loop-again c =
-    let loop = c.before.before.before in
-    let so_far = loop.loop-j.invariant.1 in
+    let so_far = c.loop-j.invariant.1 in
     let has = sym c.has.ensures in
-    let there : loop.loop-j.j < credentials loop.args.table.now =
-    omega (arith, c.loop-j-test.true, loop.credentials-n.ensures.same) in (
+    let there : c.loop-j.j < credentials c.args.table.now =
+    omega (arith, c.loop-j-test.true, c.credentials-n.ensures.same) in (
       omega arith,
       ⊎_elim (λ w. rw w.3 (named_here _ _ _ _ so_far there (has ∙ w.0.true) (sym w.1.ensures ∙ w.2.true)))
           (⊎_elim (λ w. rw w.3 (named-kept _ _ _ _ so_far (sym w.1.ensures ∙ w.2.false)))

@@ -33,12 +33,10 @@ link-cell-requires c κs = search rules
 
 is-middle-requires : tie.Need-is_middle-requires invariant-loop decreases-loop
 is-middle-requires c κs =
-    let loop = c.before.before in
-    let start = loop.before.before.before.before.before.before in
-    let pre = start.requires in
-    let there : loop.loop-j.j < credentials start.args.table.now =
-    omega (arith, c.loop-j-test.true, loop.credentials-n.ensures.same) in
-    let first = loop.asked_cell-first.ensures.1 in
+    let pre = c.requires in
+    let there : c.loop-j.j < credentials c.args.table.now =
+    omega (arith, c.loop-j-test.true, c.credentials-n.ensures.same) in
+    let first = c.asked_cell-first.ensures.1 in
     (pre.0, (pre.1.0, (pre.1.1.0, ((pre.1.1.1.0, there), (first, c.link_cell-second.ensures.1)))))
 
 with-requires : tie.Need-with-found-requires invariant-loop decreases-loop
@@ -52,11 +50,10 @@ loop-less c = search rules
 
 loop-again : tie.Need-loop-j-preserved invariant-loop decreases-loop
 loop-again c =
-    let at = c.before in
-    let loop = at.loop-j in
-    let first = at.asked_cell-first.ensures.0 in
-    let second = at.link_cell-second.ensures.0 in
-    let told = at.is_middle.ensures in (
+    let loop = c.loop-j in
+    let first = c.asked_cell-first.ensures.0 in
+    let second = c.link_cell-second.ensures.0 in
+    let told = c.is_middle.ensures in (
       omega arith,
       ⊎_elim (λ w. w.found-is ∙ w.with-found.ensures ∙ listed_more _ _ _ _ _ _ _ _ _ _ loop.invariant.1 first second told w.if-is_middle.true)
           (λ w. w.found-is ∙ listed-not _ _ _ _ _ _ _ _ _ _ loop.invariant.1 first second told w.if-is_middle.false) c.if-is_middle.branch-raw,

@@ -58,10 +58,9 @@ returns-2 : tie.Need-returns invariant-loop decreases-loop
 unfolding given pick
 returns-2 c =
     let loop = c.loop-i in
-    let start = c.before.before.before in
-    let all = asked-all _ _ _ loop.i start.args.t1.len (omega arith) loop.invariant.1 in
+    let all = asked-all _ _ _ loop.i c.args.chain.len (omega arith) loop.invariant.1 in
     let none = eq-eqb _ 0 c.if-middle-ne0.false in
-    (record { fits = start.requires.0; size = loop.invariant.1.size }, ap some all ∙ when-on _ none)
+    (record { fits = c.requires.0; size = loop.invariant.1.size }, ap some all ∙ when-on _ none)
 
 pub intersection_spec : {M : Type 1} → statement M
 intersection_spec =

@@ -34,8 +34,7 @@ own : (at : tie.Else-not-same) → let read = at.before.before in
     asks from.table.now from.goal read.credential-credential.result from.middle
     ≡ premises from.table.now from.goal from.c from.middle
 own at =
-    let read = at.before.before in
-    own-role _ _ _ _ (may read) _ (found read) (passed at.same.ensures at.if-not-same.false)
+    own-role _ _ _ _ (may at.before.before.before.before) _ (found at.before.before.before.before) (passed at.same.ensures at.if-not-same.false)
 
 usable-requires : tie.Need-usable-requires
 usable-requires c κs = search rules
@@ -64,9 +63,8 @@ not-applying-requires-2 c κs = search rules
 
 returns-2 : tie.Need-returns-then-not-same
 returns-2 c =
-    let read = c.before.before.before in
     let other = failed c.same.ensures c.if-not-same.true in
-    answer-is c.not_applying-then-not-same.ensures (other-role _ _ _ _ (may read) _ (found read) other)
+    answer-is c.not_applying-then-not-same.ensures (other-role _ _ _ _ (may c.before.before.before.before.before) _ (found c.before.before.before.before.before) other)
 
 membership-requires : tie.Need-membership-requires
 membership-requires c κs = search rules
@@ -79,9 +77,8 @@ linking-requires c κs = search rules
 
 chain-requires : tie.Need-chain-requires
 chain-requires c κs =
-    let read = c.before.before.before in
-    let pre = (start read).requires in
-    (pre, chain-there _ pre _ (there read) _ (found read) c.in-4.is)
+    let pre = (start c.before.before.before.before.before).requires in
+    (pre, chain-there _ pre _ (there c.before.before.before.before.before) _ (found c.before.before.before.before.before) c.in-4.is)
 
 intersection-requires : tie.Need-intersection-requires
 intersection-requires c κs = (c.chain.ensures.few, c.chain.ensures.room)
@@ -100,7 +97,7 @@ returns-5 c = answer-is c.linking.ensures (asks-3 _ _ _ _ c.in-3.is ∙ own c.be
 
 returns-6 : tie.Need-returns-in-4
 returns-6 c =
-    let args = (start c.before.before.before.before.before).args in
+    let args = (start c.before.before.before.before.before.before.before).args in
     let chain = c.chain.ensures.roles in
     let parts = ap (λ (roles : List Role). intersection_asks args.goal roles args.middle) chain in
     let asked = asks-4 _ _ _ _ c.in-4.is in

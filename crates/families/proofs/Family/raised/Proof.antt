@@ -48,8 +48,7 @@ loop-less c = search rules
 
 loop-again : tie.Need-loop-j-preserved invariant-loop decreases-loop
 loop-again c =
-    let at = c.before.before.before in
-    (omega arith, raised-next _ _ _ _ _ at.requires (omega arith) at.loop-j.invariant.1 c.spread.ensures)
+    (omega arith, raised-next _ _ _ _ _ c.requires (omega arith) c.loop-j.invariant.1 c.spread.ensures)
 
 returns : tie.Need-returns invariant-loop decreases-loop
 returns c = raised_all _ _ _ _ c.loop-j.invariant.1 (omega arith)

@@ -247,7 +247,7 @@ asked-search-returns t c =
     let start = c.requires.1 in
     let (searched, (fits_all, ((there, room), (later, remembered)))) = start in
     let (found-is, blocking-is) = c.answered.ensures in
-    (rw (found-is, blocking-is) (same-judged _ _ _ _ _ _ _ _ _ c.same_later-same.ensures c.if-same-k.true c.args.t8 later), remembered)
+    (rw (found-is, blocking-is) (same-judged _ _ _ _ _ _ _ _ _ c.same_later-same.ensures c.if-same-k.true c.args.each later), remembered)
 
 asked-search-mul-goal-search : asked-search-needs asked-search-lts.Need-offset_bounds-persons-k
 asked-search-mul-goal-search t c = search rules
@@ -398,14 +398,11 @@ definers-search-loop-less t c = search rules
 
 definers-search-loop-again : definers-search-needs definers-search-lts.Need-loop-i-preserved
 definers-search-loop-again t c =
-    let at-loop = c.before.before.before in
-    let at-credentials = at-loop.before.before.before in
-    let start = c.before.before.before.before.before.before.before.before.before.before.before.before.before.before.before.before.before in
-    let (searched, ((stands, there), remembered)) = start.requires.1 in
-    let (so_far, before) = at-loop.loop-i.invariant.1 in
+    let (searched, ((stands, there), remembered)) = c.requires.1 in
+    let (so_far, before) = c.loop-i.invariant.1 in
     let next = c.loop-i-test.true in
     let may-use = c.may_use.ensures in
-    let all = at-credentials.credentials-n.ensures.same in (
+    let all = c.credentials-n.ensures.same in (
       omega (arith, next),
       ⊎_elim
           (λ way. (
@@ -469,7 +466,7 @@ module _ (t : ℕ) (at : goal-search-place goal-search-lts.After-slot-slot t) wh
 
   goal-search-may : let from = goal-search-start.args in Open from.table.now from.levels from.person from.place
   goal-search-may =
-      let (searched, (stands, remembered)) = goal-search-start.pre.1 in
+      let (searched, (stands, remembered)) = goal-search-start.requires.1 in
       opened searched stands at.may_be_proved.ensures
       at.if-not-may_be_proved.false
 
@@ -536,8 +533,7 @@ goal-search-slot-requires t c κs =
 
 goal-search-recalled-requires : goal-search-needs goal-search-lts.Need-recalled-known-requires
 goal-search-recalled-requires t c κs =
-    let slot = c.before in
-    (goal-search-inside t slot, (goal-search-start t slot).requires.1.1.1.few)
+    (goal-search-inside t c, (goal-search-start t c).requires.1.1.1.few)
 
 goal-search-failed-requires-3 : goal-search-needs goal-search-lts.Need-failed-requires-then-known
 goal-search-failed-requires-3 t c κs = search rules
@@ -547,10 +543,9 @@ goal-search-same-length t c = search rules
 
 goal-search-returns-3 : goal-search-needs goal-search-lts.Need-returns-then-known
 goal-search-returns-3 t c =
-    let recalled = c.before.before in
-    let remembered = (goal-search-start t recalled.before.before).pre.1.1.1 in
-    let (covered, bounds) = recalled.recalled-known.ensures.0 _ _ _ remembered in
-    let none = recalled.recalled-known.ensures.1 c.if-known.true in (
+    let remembered = (goal-search-start t c.before.before).requires.1.1.1 in
+    let (covered, bounds) = c.recalled-known.ensures.0 _ _ _ remembered in
+    let none = c.recalled-known.ensures.1 c.if-known.true in (
       rw c.failed-then-known.ensures.1 (judged-failed c.failed-then-known.ensures.0 covered (λ X owed. bounds X owed (none-covered _ none X))),
       remembered,
     )
@@ -565,9 +560,8 @@ goal-search-with-requires-2 t c κs =
 
 goal-search-definers-search-requires : goal-search-needs goal-search-lts.Need-definers_search-answer-requires
 goal-search-definers-search-requires t c κs =
-    let slot = c.before.before.before.before.before in
-    let (measured, (searched, (stands, remembered))) = (goal-search-start t slot).requires in
-    let may = goal-search-may t slot in (
+    let (measured, (searched, (stands, remembered))) = (goal-search-start t c).requires in
+    let may = goal-search-may t c in (
       omega (arith, measured, may.false),
       (searched-fewer _ (omega arith) searched, ((stands, may.there), remembered)),
     )
@@ -583,14 +577,13 @@ goal-search-same-length-2 t c = search rules
 
 goal-search-returns-4 : goal-search-needs goal-search-lts.Need-returns-then-is_part
 goal-search-returns-4 t c =
-    let tried = c.before.before.before.before.before.before in
-    let slot = goal-search-slot t tried in
-    let (searched, (stands, remembered)) = (goal-search-start t slot).pre.1 in
-    let (covered, bounds) = tried.recalled-known.ensures.0 _ _ _ remembered in
-    let (sought, now-remembered) = tried.definers_search-answer.ensures in
+    let slot = goal-search-slot t c in
+    let (searched, (stands, remembered)) = (goal-search-start t slot).requires.1 in
+    let (covered, bounds) = c.recalled-known.ensures.0 _ _ _ remembered in
+    let (sought, now-remembered) = c.definers_search-answer.ensures in
     let (found-is, blocking-is) = c.answered.ensures in (
       rw (found-is, blocking-is)
-          (goal-known _ _ _ _ _ _ _ _ stands (goal-search-may t slot) (goal-search-new t slot) (rw tried.with-2.ensures at sought)
+          (goal-known _ _ _ _ _ _ _ _ stands (goal-search-may t slot) (goal-search-new t slot) (rw c.with-2.ensures at sought)
           covered bounds c.is_part.ensures c.if-is_part.true),
       now-remembered,
     )
@@ -602,11 +595,10 @@ goal-search-without-requires t c κs =
 
 goal-search-keep-requires : goal-search-needs goal-search-lts.Need-keep-requires
 goal-search-keep-requires t c κs =
-    let tried = c.before.before.before.before.before.before.before in
-    let slot = goal-search-slot t tried in
+    let slot = goal-search-slot t c in
     let may = goal-search-may t slot in (
       rw c.memory-1.given (goal-search-inside t slot),
-      (may.few-persons, (may.few-places, (goal-search-start t slot).pre.1.0.shallow)),
+      (may.few-persons, (may.few-places, (goal-search-start t slot).requires.1.0.shallow)),
     )
 
 goal-search-answered-requires-2 : goal-search-needs goal-search-lts.Need-answered-requires-2
@@ -617,13 +609,12 @@ goal-search-same-length-3 t c = search rules
 
 goal-search-returns-5 : goal-search-needs goal-search-lts.Need-returns
 goal-search-returns-5 t c =
-    let tried = c.before.before.before.before.before.before.before.before.before.before.before in
-    let slot = goal-search-slot t tried in
+    let slot = goal-search-slot t c in
     let start = goal-search-start t slot in
-    let stands = start.pre.1.1.0 in
-    let (sought, now-remembered) = tried.definers_search-answer.ensures in
+    let stands = start.requires.1.1.0 in
+    let (sought, now-remembered) = c.definers_search-answer.ensures in
     let (found-is, blocking-is) = c.answered-2.ensures in
-    let less = goal-less _ _ _ _ _ _ _ _ stands (goal-search-may t slot) (goal-search-new t slot) (rw tried.with-2.ensures at sought)
+    let less = goal-less _ _ _ _ _ _ _ _ stands (goal-search-may t slot) (goal-search-new t slot) (rw c.with-2.ensures at sought)
     (goal-search-wide t start) _ c.without-less.ensures c.is_part.ensures c.if-is_part.false in (
       rw (found-is, blocking-is) less,
       remembered-more _ _ _ _ now-remembered c.keep.ensures (goal-search-eight t start) less.bounds,
@@ -727,7 +718,7 @@ module _ (t : ℕ) (at : linked-search-place linked-search-lts.After-is_middle t
       from.terms.last from.person from.i linked-search-asked.row_of-row.result at.loop-j.j
       linked-search-asked.asked-cell.result at.link_cell-second.result at.is_middle.result
   linked-search-middle =
-      let (searched, (tried, (kind, remembered))) = linked-search-start.pre.1 in
+      let (searched, (tried, (kind, remembered))) = linked-search-start.requires.1 in
       record {
         searched = searched;
         tried = tried;
@@ -763,19 +754,15 @@ linked-search-link-cell-requires t c κs = search rules
 
 linked-search-is-middle-requires : linked-search-needs linked-search-lts.Need-is_middle-requires
 linked-search-is-middle-requires t c κs =
-    let at-asked-cell = c.before.before.before.before.before in
-    let at-row-of = at-asked-cell.before in
-    let at-credentials = at-row-of.before in
-    let start = at-credentials.before.before.before.before.before.before in
-    let (searched, (tried, (kind, remembered))) = start.requires.1 in (
+    let (searched, (tried, (kind, remembered))) = c.requires.1 in (
       searched.well_formed,
       (
         searched.indexed,
         (
-          (searched.members.room, row_fits searched.members at-row-of.row_of-row.ensures),
+          (searched.members.room, row_fits searched.members c.row_of-row.ensures),
           (
-            (tried.who, omega (arith, c.loop-j-test.true, at-credentials.credentials-n.ensures.same)),
-            (at-asked-cell.asked_cell-first.ensures.1, c.link_cell-second.ensures.1),
+            (tried.who, omega (arith, c.loop-j-test.true, c.credentials-n.ensures.same)),
+            (c.asked_cell-first.ensures.1, c.link_cell-second.ensures.1),
           ),
         ),
       ),
@@ -783,12 +770,11 @@ linked-search-is-middle-requires t c κs =
 
 linked-search-link-search-requires : linked-search-needs linked-search-lts.Need-link_search-link-requires
 linked-search-link-search-requires t c κs =
-    let at = c.before.before in
-    let (measured, (searched, rest)) = (linked-search-start t at).requires in
-    let middle = linked-search-middle t at in
+    let (measured, (searched, rest)) = (linked-search-start t c).requires in
+    let middle = linked-search-middle t c in
     let on = c.if-is_middle.true in (
       omega (arith, measured),
-      (searched, ((stands-first middle on, stands-second middle on), at.loop-j.invariant.1.1.1)),
+      (searched, ((stands-first middle on, stands-second middle on), c.loop-j.invariant.1.1.1)),
     )
 
 linked-search-or-requires : linked-search-needs linked-search-lts.Need-or-found-requires
@@ -809,14 +795,11 @@ linked-search-same-length t c =
 
 linked-search-returns : linked-search-needs linked-search-lts.Need-returns-then-has
 linked-search-returns t c =
-    let at-link-search = c.before.before.before.before.before.before.before in
-    let at-if1 = at-link-search.before.before in
-    let at = at-if1.before in
-    let (searched, (tried, (kind, remembered))) = (linked-search-start t at).requires.1 in
-    let (so_far, before) = at.loop-j.invariant.1 in
-    let (one, now-remembered) = at-link-search.link_search-link.ensures in
+    let (searched, (tried, (kind, remembered))) = (linked-search-start t c).requires.1 in
+    let (so_far, before) = c.loop-j.invariant.1 in
+    let (one, now-remembered) = c.link_search-link.ensures in
     let (found-is, blocking-is) = c.answered.ensures in
-    let finds = link-finds (linked-search-middle t at) _ _ _ at-if1.if-is_middle.true c.or-found.ensures
+    let finds = link-finds (linked-search-middle t c) _ _ _ c.if-is_middle.true c.or-found.ensures
     so_far.finds one.finds in (
       rw (found-is, blocking-is) (linked-enough searched tried kind _ _ _ remembered.few finds c.has.ensures
           c.if-has.true c.nothing.ensures),
@@ -834,10 +817,9 @@ linked-search-loop-less t c = search rules
 
 linked-search-loop-again : linked-search-needs linked-search-lts.Need-loop-j-preserved
 linked-search-loop-again t c =
-    let at = c.before in
-    let middle = linked-search-middle t at in
-    let (so_far, before) = at.loop-j.invariant.1 in (
-      omega (arith, at.loop-j-test.true),
+    let middle = linked-search-middle t c in
+    let (so_far, before) = c.loop-j.invariant.1 in (
+      omega (arith, c.loop-j-test.true),
       ⊎_elim
           (λ way. (
             rw (way.10, way.11)
@@ -857,14 +839,11 @@ linked-search-same-length-2 t c =
 
 linked-search-returns-2 : linked-search-needs linked-search-lts.Need-returns
 linked-search-returns-2 t c =
-    let at-loop = c.before.before in
-    let at-credentials = at-loop.before.before.before.before.before in
-    let start = at-credentials.before.before.before.before.before.before in
-    let (searched, (tried, (kind, remembered))) = start.requires.1 in
-    let (so_far, (same, now-remembered)) = at-loop.loop-j.invariant.1 in
+    let (searched, (tried, (kind, remembered))) = c.requires.1 in
+    let (so_far, (same, now-remembered)) = c.loop-j.invariant.1 in
     let (found-is, blocking-is) = c.answered-2.ensures in (
       rw (found-is, blocking-is) (linked-all searched tried kind _ _ _ _ (omega
-          (arith, c.loop-j-test.false, at-loop.loop-j.invariant.0, at-credentials.credentials-n.ensures.same)) so_far),
+          (arith, c.loop-j-test.false, c.loop-j.invariant.0, c.credentials-n.ensures.same)) so_far),
       now-remembered,
     )
 
@@ -973,11 +952,9 @@ parts-search-loop-less t c = search rules
 
 parts-search-loop-again : parts-search-needs parts-search-lts.Need-loop-k-preserved
 parts-search-loop-again t c =
-    let at-loop = c.before.before.before in
-    let start = c.before.before.before.before.before.before.before.before.before.before.before.before.before in
-    let (searched, (tried, (kind, remembered))) = start.requires.1 in
-    let unowed = none-owed at-loop.if-terms-gt0.false in
-    let (so_far, before) = at-loop.loop-k.invariant.1 in (
+    let (searched, (tried, (kind, remembered))) = c.requires.1 in
+    let unowed = none-owed c.if-terms-gt0.false in
+    let (so_far, before) = c.loop-k.invariant.1 in (
       omega (arith, c.loop-k-test.true),
       ⊎_elim
           (λ way. (
@@ -1076,27 +1053,23 @@ shared-search-same-length t c =
 
 shared-search-returns : shared-search-needs shared-search-lts.Need-returns-then-is_none
 shared-search-returns t c =
-    let at-asked-search = c.before.before.before.before.before.before in
-    let at-loop = c.before.before.before.before.before.before.before.before.before in
     let (searched, ((fits, stand), remembered)) = c.requires.1 in
-    let (judged, now-remembered) = at-asked-search.asked_search-answer.ensures in
+    let (judged, now-remembered) = c.asked_search-answer.ensures in
     let fails = none-fails judged c.is_none.ensures c.if-is_none.true in (
       rw c.failed.ensures.1 (asked-failed _ _ _ _ _ _ _ _ (omega
-          (arith, c.loop-k-test.true, at-loop.loop-k.invariant.0.0)) c.failed.ensures.0 judged.covered fails),
+          (arith, c.loop-k-test.true, c.loop-k.invariant.0.0)) c.failed.ensures.0 judged.covered fails),
       now-remembered,
     )
 
 shared-search-mul-each : shared-search-needs shared-search-lts.Need-offset_bounds-each-k
 shared-search-mul-each t c =
-    let at-loop = c.before.before.before.before.before.before.before.before in
     let few = c.requires.1.1.0.0.few in
-    omega (arith, c.loop-k-test.true, at-loop.loop-k.invariant.0.0, few)
+    omega (arith, c.loop-k-test.true, c.loop-k.invariant.0.0, few)
 
 shared-search-array-set-from-each : shared-search-needs shared-search-lts.Need-bounds-each-k
 shared-search-array-set-from-each t c =
-    let at-loop = c.before.before.before.before.before.before.before.before in
     let few = c.requires.1.1.0.0.few in
-    omega (arith, c.loop-k-test.true, at-loop.loop-k.invariant.0.0, few)
+    omega (arith, c.loop-k-test.true, c.loop-k.invariant.0.0, few)
 
 shared-search-joined-requires : shared-search-needs shared-search-lts.Need-joined-blocking-requires
 shared-search-joined-requires t c κs = search rules
@@ -1112,18 +1085,17 @@ shared-search-loop-less t c = search rules
 
 shared-search-loop-again : shared-search-needs shared-search-lts.Need-loop-k-preserved
 shared-search-loop-again t c =
-    let at-loop = c.before.before.before.before.before.before.before.before.before.before.before in
     let more = c.loop-k-test.true in
     let (searched, ((fits, stand), remembered)) = c.requires.1 in
-    let ((few, room), ((so_far, later), before)) = at-loop.loop-k.invariant in
+    let ((few, room), ((so_far, later), before)) = c.loop-k.invariant in
     let (one, now-remembered) = c.asked_search-answer.ensures in
-    let next : suc (at-loop.loop-k.k - 1) ≡ at-loop.loop-k.k = omega (arith, more) in (
-      (omega arith, length-set at-loop.loop-k.each _ _ ∙ room),
+    let next : suc (c.loop-k.k - 1) ≡ c.loop-k.k = omega (arith, more) in (
+      (omega arith, length-set c.loop-k.each _ _ ∙ room),
       (
         (
-          shared-next _ _ _ _ _ _ _ _ _ _ (omega (arith, more)) {blocking' = at-loop.loop-k.blocking} c.joined.ensures c.trimmed-found.ensures
+          shared-next _ _ _ _ _ _ _ _ _ _ (omega (arith, more)) {blocking' = c.loop-k.blocking} c.joined.ensures c.trimmed-found.ensures
               c.joined-blocking.ensures one (rw next so_far),
-          later-next _ _ _ _ _ _ c.args.asked (at-loop.loop-k.k - 1) at-loop.loop-k.each (omega (arith, more, room, fits.few)) c.joined-blocking.ensures
+          later-next _ _ _ _ _ _ c.args.asked (c.loop-k.k - 1) c.loop-k.each (omega (arith, more, room, fits.few)) c.joined-blocking.ensures
               one.covered so_far.covered one (rw next later),
         ),
         (c.memory-1.given ∙ before.0, now-remembered),
@@ -1138,10 +1110,9 @@ shared-search-same-length-2 t c = search rules
 
 shared-search-returns-2 : shared-search-needs shared-search-lts.Need-returns
 shared-search-returns-2 t c =
-    let at-loop = c.before.before in
-    let ((few, room), ((so_far, later), (same, now-remembered))) = at-loop.loop-k.invariant in
+    let ((few, room), ((so_far, later), (same, now-remembered))) = c.loop-k.invariant in
     let (found-is, blocking-is) = c.answered.ensures in
-    let none : at-loop.loop-k.k ≡ 0 = omega (arith, c.loop-k-test.false) in
+    let none : c.loop-k.k ≡ 0 = omega (arith, c.loop-k-test.false) in
     (rw (found-is, blocking-is) (asked-all _ _ _ _ _ _ _ _ none so_far), now-remembered)
 
 -- a place of `credential_search`, or a need, where its measure is t; and what it needs, whatever its measure is

@@ -28,12 +28,10 @@ blocking-at-requires c κs = search rules
 
 returns : tie.Need-returns-then-recalls
 returns c =
-    let at = c.before.before in
-    let recalled = at.recalls.ensures at.if-recalls.true in
-    let start = at.before.before.before.before in (
+    let recalled = c.recalls.ensures c.if-recalls.true in (
       (λ t S A remembered. (
         recalled-covered t S A _ remembered recalled _ c.blocking_at.ensures,
-        recalled-bounds t S A _ remembered recalled _ c.blocking_at.ensures start.requires.0 (eight start) _ at.family_at-wanted.ensures,
+        recalled-bounds t S A _ remembered recalled _ c.blocking_at.ensures c.requires.0 (eight c.before.before.before.before.before.before) _ c.family_at-wanted.ensures,
       )),
       no-sets _ _ c.is_none.ensures,
     )

@@ -71,7 +71,7 @@ returns c =
     let stops = failed (kept c.before.before) c.if-not-is_kept.true in
     let all = automata (start loop).args.table.now in
     c.refused.ensures
-    ∙ refused-then _ (each-stops (test loop) 14 loop.loop-k.k all (omega arith) loop.loop-k.inv.1 stops)
+    ∙ refused-then _ (each-stops (test loop) 14 loop.loop-k.k all (omega arith) loop.loop-k.invariant.1 stops)
 
 loop-less : tie.Need-loop-k-smaller invariant-loop decreases-loop
 loop-less c = search rules
@@ -79,14 +79,13 @@ loop-less c = search rules
 loop-again : tie.Need-loop-k-preserved invariant-loop decreases-loop
 loop-again c =
     let loop = looped c.before in
-    (omega arith, each-passes (test loop) 14 _ loop.loop-k.inv.1 (passed (kept c.before) c.if-not-is_kept.false))
+    (omega arith, each-passes (test loop) 14 _ loop.loop-k.invariant.1 (passed (kept c.before) c.if-not-is_kept.false))
 
 returns-2 : tie.Need-returns invariant-loop decreases-loop
 unfolding verdict_told
 returns-2 c =
-    let loop = c.before in
-    let all = automata (start loop).args.table.now in
-    then-on (sym (each-through (test loop) 14 loop.loop-k.k all (omega arith) loop.loop-k.invariant.1))
+    let all = automata (start c.before).args.table.now in
+    then-on (sym (each-through (test c.before) 14 c.loop-k.k all (omega arith) c.loop-k.invariant.1))
 
 pub judge_words_spec : {M : Type 1} → statement M
 judge_words_spec =
