@@ -14,7 +14,7 @@ use Rattle.table.specs.declared.Goal.{Goal}
 use Rattle.table.specs.declared.Query.{Query}
 use Rattle.derivation.specs.Rules.{fresh, goal, goal_of, same_goal}
 use Rattle.derivation.specs.Forest.{Derives, Forest, written}
-use Rattle.derivation.specs.Forest.DerivesBy.{step}
+use Rattle.derivation.specs.Forest.DerivesBy.{done, step}
 use Rattle.derivation.specs.Held.{no_goal}
 use Rattle.derivation.specs.Promised.{BranchOf, DerivesNoneTwice, NoPairTwice, NoneTwice, RecordNoneTwice}
 use Rattle.derivation.specs.Promised.BranchOf.{below, beside, here}
@@ -66,6 +66,7 @@ none-twice apart (step asks new d later) (here same) = rw same (one_more _ _ apa
 none-twice apart (step asks new d later) (below asks' b) =
     none-twice (one_more _ _ apart new) d (rw (same_goals (sym asks' ∙ asks)) at b)
 none-twice apart (step asks new d later) (beside b) = none-twice apart later b
+none-twice apart done b = elim b [ ]
 
 pub derives-none-twice : DerivesNoneTwice
 derives-none-twice t levels goals branch f d b = none-twice (λ i j less l e. omega arith) d b

@@ -107,7 +107,10 @@ led-more arcs p l from {next} is = together-same _ _ one
     one : (k : ℕ) → k < most_automata
         → gives arcs (first_row + row_cells * p + arc_cells * l) from next.sets (get_or arcs (to_cell p l) 0) (suc k)
         ≡ led arcs p (suc k - 1) (set_for from (suc k)) (l + 1)
-    one k less = rw (add-one l, so_far k less, sub-one (suc k))
+    one k less =
+        let e : suc k - 1 ≡ k = omega arith in
+        let same = ap (λ q. led arcs p q (set_for from (suc k)) l) e in
+        rw (add-one l, so_far k less, same, e)
 
 -- and where one leads nowhere, those behind it give no more
 pub led-ended : (arcs : List ℕ) (p k x l n : ℕ) → Ended arcs p → l ≤ n → n ≤ most_arcs → get_or arcs (to_cell p l) 0 ≡ 0

@@ -52,7 +52,7 @@ is-whole : (c : WholeRead) → is_whole (counting (read c)) ≡ true
 is-whole c = whole _ c.if-read-half.false c.if-half-lt-QUERY_SIZE.false
 
 whole_length : (c : NumbersDecoded) → length (decoding c) / 2 ≡ length (take (length (decoding c) / 2) (places c))
-whole_length c = let at = read (whole-read c) in read_length (bytes at) _ at.counted-read.ensures (places c) c.decode.auto.1.0
+whole_length c = let at = read (whole-read c) in read_length (bytes at) _ at.counted-read.ensures (places c) c.decode.auto.numbers
 
 counted-requires : tie.Need-counted-read-requires
 counted-requires c κs = search rules
@@ -74,7 +74,7 @@ decode-requires : tie.Need-decode-requires
 decode-requires c κs = few (read c.before)
 
 array-share-prefix-numbers : tie.Need-slice_bounds-numbers-end
-array-share-prefix-numbers c = omega (arith, few (read (whole-read c.before)), c.decode.auto.1.0)
+array-share-prefix-numbers c = omega (arith, few (read (whole-read c.before)), c.decode.auto.numbers)
 
 slice-aggregate-list-numbers : tie.Need-slice_bounds-list_numbers-end
 slice-aggregate-list-numbers c = whole_length c.before.before

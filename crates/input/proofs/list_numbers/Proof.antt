@@ -10,10 +10,10 @@ query-of-requires c κs = search rules
 sub-list : tie.Need-slice_bounds-list-count
 sub-list c = search rules
 
-part-list-start : tie.Need-slice-bounds-list-start
+part-list-start : tie.Need-slice_bounds-list-start
 part-list-start c = search rules
 
-part-list-end : tie.Need-slice-bounds-list-end
+part-list-end : tie.Need-slice_bounds-list-end
 part-list-end c = search rules
 
 list-requires : tie.Need-list-requires

@@ -33,7 +33,7 @@ put-number-put-digit-requires : (t : ℕ)
 put-number-put-digit-requires t c κs = omega (arith, c.requires, length-one _ c.if-number-lt10.true)
 
 put-number-same-length : (t : ℕ) → put-number-lts.Need-shape_of-out-then-number-lt10 (put-number-claims t) (put-number-at t) put-number.Post
-put-number-same-length t c = c.put_digit.auto.0
+put-number-same-length t c = c.put_digit.auto.out
 
 put-number-returns : (t : ℕ) → put-number-lts.Need-returns-then-number-lt10 (put-number-claims t) (put-number-at t) put-number.Post
 put-number-returns t c = put-single _ c.if-number-lt10.true c.put_digit.ensures
@@ -45,18 +45,15 @@ put-number-put-number-requires t c κs = omega (arith, c.requires, length_more _
 put-number-put-digit-requires-2 : (t : ℕ)
     → put-number-lts.Need-put_digit-requires-2 (put-number-claims t) (put-number-at t) put-number.Post
 put-number-put-digit-requires-2 t c κs =
-    let test = c .before .before in
-    let start = test.before.before in
-    omega (arith, start.requires, c .put-number .ensures, c .put-number .auto .0, length_more _ test.if1.false)
+    omega (arith, c.requires, c.put_number-last.ensures, c.put_number-last.auto.out, length_more _ c.if-number-lt10.false)
 
 put-number-same-length-2 : (t : ℕ) → put-number-lts.Need-shape_of-out (put-number-claims t) (put-number-at t) put-number.Post
 put-number-same-length-2 t c =
-    c.put_digit-2.auto.0 ∙ c .put-number .auto .0
+    c.put_digit-2.auto.out ∙ c.put_number-last.auto.out
 
 put-number-returns-2 : (t : ℕ) → put-number-lts.Need-returns (put-number-claims t) (put-number-at t) put-number.Post
 put-number-returns-2 t c =
-    let test = c .before .before in
-    put-more _ test.if1.false (c .put-number .ensures) c.put_digit-2.ensures
+    put-more _ c.if-number-lt10.false (c.put_number-last.ensures) c.put_digit-2.ensures
 
 pub +put_number_spec : {M : Type 1} → statement M
 +put_number_spec = close μ-put-number λ t. put-number-lts.spec (put-number-claims t) (put-number-at t)

@@ -8,12 +8,9 @@ use Rattle.lines.proofs.put_line.Tie as tie
 put-number-requires : tie.Need-put_number-next-requires
 put-number-requires c κs = omega (arith, decimal-long _ c.ranges.number)
 
-slice-aggregate-put : tie.Need-slice-aggregate-put
-slice-aggregate-put c = search rules
-
 put-requires : tie.Need-put-requires
 put-requires c κs =
-    omega (arith, c.requires, c.put_number-next.ensures, c.put_number-next.auto.0, decimal-long _ c.ranges.number)
+    omega (arith, c.requires, c.put_number-next.ensures, c.put_number-next.auto.out, decimal-long _ c.ranges.number)
 
 same_length : tie.Need-shape_of-out
 same_length c = search rules
@@ -24,4 +21,4 @@ returns c =
 
 pub put_line_spec : {M : Type 1} → statement M
 put_line_spec =
-    tie.close (tie.spec put-number-requires slice-aggregate-put put-requires same_length returns)
+    tie.close (tie.spec put-number-requires put-requires same_length returns)

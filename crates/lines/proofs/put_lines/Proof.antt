@@ -40,7 +40,7 @@ loop-again : tie.Need-loop-i-preserved invariant-loop decreases-loop
 loop-again c =
     let fits = c.shared_slice_known-in-loop-i-1.given c.loop-i.i in
     let next = lines-go-on c.loop-i.invariant.1 c.loop-i-test.true (omega arith) in
-    (c.loop-i.invariant.0, next c.put_line-next.auto.0 c.put_line-next.ensures)
+    (c.loop-i.invariant.0, next c.put_line-next.auto.out c.put_line-next.ensures)
 
 same_length : tie.Need-shape_of-out invariant-loop decreases-loop
 same_length c = c.loop-i.invariant.1.size

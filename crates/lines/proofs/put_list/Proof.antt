@@ -8,9 +8,6 @@ use Rattle.lines.proofs.put_list.Tie as tie
 put-lines-requires : tie.Need-put_lines-next-requires
 put-lines-requires c κs = search rules
 
-slice-aggregate-put : tie.Need-slice-aggregate-put
-slice-aggregate-put c = search rules
-
 put-requires : tie.Need-put-next-requires
 put-requires c κs = search rules
 
@@ -30,7 +27,6 @@ put_list_spec =
     tie.close
     (tie.spec
     put-lines-requires
-    slice-aggregate-put
     put-requires
     put-line-requires
     same_length

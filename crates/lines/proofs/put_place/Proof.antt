@@ -6,18 +6,12 @@ use Rattle.lines.proofs.Filling.{refusal-filled}
 use Rattle.lines.proofs.put_place.Statement.{statement}
 use Rattle.lines.proofs.put_place.Tie as tie
 
-slice-aggregate-put : tie.Need-slice-aggregate-put
-slice-aggregate-put c = search rules
-
 put-requires : tie.Need-put-next-requires
 put-requires c κs = search rules
 
 put-number-requires : tie.Need-put_number-next-requires
 put-number-requires c κs =
     omega (arith, c.requires, c.put-next, decimal-long _ c.ranges.number)
-
-slice-aggregate-put-2 : tie.Need-slice-aggregate-put-2
-slice-aggregate-put-2 c = search rules
 
 put-requires-2 : tie.Need-put-next-requires-2
 put-requires-2 c κs =
@@ -38,10 +32,8 @@ pub put_place_spec : {M : Type 1} → statement M
 put_place_spec =
     tie.close
     (tie.spec
-    slice-aggregate-put
     put-requires
     put-number-requires
-    slice-aggregate-put-2
     put-requires-2
     put-line-requires
     same_length

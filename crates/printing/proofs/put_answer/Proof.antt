@@ -19,16 +19,16 @@ enum-known-count c = search rules
 
 array-share-prefix-sets : tie.Need-slice_bounds-sets-end
 array-share-prefix-sets c =
-    listed-within _ _ _ c.list_input.ensures c.list_input.auto.1.0 _ c.in-Listed.is
+    listed-within _ _ _ c.list_input.ensures c.list_input.auto.sets _ c.in-Listed.is
 
 slice-aggregate-put-list : tie.Need-slice_bounds-put_list-end
 slice-aggregate-put-list c =
-    let within = listed-within _ _ _ c.list_input.ensures c.list_input.auto.1.0 _ c.in-Listed.is in
+    let within = listed-within _ _ _ c.list_input.ensures c.list_input.auto.sets _ c.in-Listed.is in
     sym (length-take-le _ _ within)
 
 put-list-requires : tie.Need-put_list-requires
 put-list-requires c κs =
-    (simp length-take (omega (arith, c.list_input.auto.1.0)), c.requires)
+    (simp length-take (omega (arith, c.list_input.auto.sets)), c.requires)
 
 enum-known-why : tie.Need-enum_known-why
 enum-known-why c = search rules
@@ -41,7 +41,7 @@ same_length c = search rules
 
 returns : tie.Need-returns-in-Listed
 returns c =
-    listed-filled _ _ _ c.list_input.ensures c.list_input.auto.1.0 _ c.in-Listed.is
+    listed-filled _ _ _ c.list_input.ensures c.list_input.auto.sets _ c.in-Listed.is
     c.put_list.ensures
 
 same-length-2 : tie.Need-shape_of-out-in-Refused
@@ -49,7 +49,7 @@ same-length-2 c = search rules
 
 returns-2 : tie.Need-returns-in-Refused
 returns-2 c =
-    refused-filled _ _ _ c.list_input.ensures c.list_input.auto.1.0 _ c.in-Refused.is
+    refused-filled _ _ _ c.list_input.ensures c.list_input.auto.sets _ c.in-Refused.is
     c.put_refusal.ensures
 
 pub put_answer_spec : {M : Type 1} → statement M

@@ -192,10 +192,10 @@ read-after-node-requires t c κs =
 read-sub-rest : (t : ℕ) → read-lts.Need-slice_bounds-rest-count (read-claims t) (read_at t) read.Post read-Inv-loop read-μ-loop
 read-sub-rest t c = omega (arith, node-long (node t (own t c)))
 
-read-part-rest-start : (t : ℕ) → read-lts.Need-slice-bounds-rest-start (read-claims t) (read_at t) read.Post read-Inv-loop read-μ-loop
+read-part-rest-start : (t : ℕ) → read-lts.Need-slice_bounds-rest-start (read-claims t) (read_at t) read.Post read-Inv-loop read-μ-loop
 read-part-rest-start t c = omega (arith, node-long (node t (own t c)))
 
-read-part-rest-end : (t : ℕ) → read-lts.Need-slice-bounds-rest-end (read-claims t) (read_at t) read.Post read-Inv-loop read-μ-loop
+read-part-rest-end : (t : ℕ) → read-lts.Need-slice_bounds-rest-end (read-claims t) (read_at t) read.Post read-Inv-loop read-μ-loop
 read-part-rest-end t c = omega arith
 
 read-same-length : (t : ℕ) → read-lts.Need-shape_of-arcs-then-len-eq0 (read-claims t) (read_at t) read.Post read-Inv-loop read-μ-loop

@@ -73,7 +73,7 @@ walk-asked-claims t = (wanted-here-reads.Asked, wanted-here-reads.Learnt, walk-b
 abbrev walk-asked-Inv-loop : walk-asked-lts.invariant-loop-k
 walk-asked-Inv-loop table index arcs rows terms wanted asked levels states above memory₀ most from rec₀ persons places next₀ met₀
     k₀ memory rec next met k =
-    (k ≤ asked .len) × (next ≤ most)
+    (k ≤ asked.len) × (next ≤ most)
     × Passed table terms.allowed terms.constraints terms.owed levels above states (in_family wanted)
     (goals_from table asked 0)
     (goals_from table asked k) from most rec₀ rec next met
@@ -82,7 +82,7 @@ walk-asked-Inv-loop table index arcs rows terms wanted asked levels states above
 abbrev walk-asked-μ-loop : walk-asked-lts.decreases-loop-k
 walk-asked-μ-loop table index arcs rows terms wanted asked levels states above memory₀ most from rec₀ persons places next₀ met₀
     k₀ memory rec next met k =
-    asked .len - k
+    asked.len - k
 
 -- a place of each, or a need, where its measure is t; and what it needs, whatever its measure is
 abbrev walk-place : (walk-lts.Claims → In 6 walk-kinds.ps → Out 6 walk-kinds.ps walk-kinds.r → Type 0) → ℕ → Type 0
@@ -231,14 +231,14 @@ walk-same-length-5 t c =
 
 walk-same-length-6 : walk-needs walk-lts.Need-shape_of-rec
 walk-same-length-6 t c =
-    c .walk-asked .ensures .0 .walked .size ∙ walk_put t c .put .ensures .size
+    c.walk_asked.ensures.0.walked.size ∙ walk_put t c.put.ensures.size
 
 walk-returns-3 : walk-needs walk-lts.Need-returns
 walk-returns-3 t c =
-    let (walks, remembered) = c .walk-asked .ensures in
+    let (walks, remembered) = c.walk_asked.ensures in
     let put = walk_put t c in
     let told = node-goes (walk-entered t (walk-with t put)) (walk-chose t put).choose-node.ensures.0 put.put.ensures _
-    (c .before .before .before .before .if1 .false) walks.walked walks.meets in
+    (c.if-node-eq0.false) walks.walked walks.meets in
     (record { walked = told.0; meets = told.1 }, remembered)
 
 module _ (t : ℕ) where

@@ -29,9 +29,8 @@ found : (at : tie.After-credential-credential) → at.credential-credential.resu
 found at = at.credential-credential.ensures ∙ ap (credential _) at.wide.ensures.0
 
 -- where its role is the goal's, what it asks are the premises
-own : (at : tie.Else-not-same) → let read = at.before.before in
-    let from = (start read).args in
-    asks from.table.now from.goal read.credential-credential.result from.middle
+own : (at : tie.Else-not-same) → let from = at.args in
+    asks from.table.now from.goal at.credential-credential.result from.middle
     ≡ premises from.table.now from.goal from.c from.middle
 own at =
     own-role _ _ _ _ (may at.before.before.before.before) _ (found at.before.before.before.before) (passed at.same.ensures at.if-not-same.false)
