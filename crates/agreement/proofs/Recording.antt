@@ -58,7 +58,7 @@ module _ (t : List ℕ) (k : ℕ) (t' : List ℕ) (k' : ℕ) (same : SameAutomat
   run-alike : (x : ℕ) (word : List Role) → run t' k' x word ≡ run t k x word
   unfolding run_by
   run-alike x [] = refl
-  run-alike x (r ∷ word) = rw (moved-alike r x) (run-alike _ word)
+  run-alike x (r ∷ word) = rw (moved-alike r x) (run-alike (moved t k r x) word)
 
   accepts-alike : (word : List Role) → accepts t' k' word ≡ accepts t k word
   unfolding accepts accepts_from starting pick

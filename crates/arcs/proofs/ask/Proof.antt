@@ -12,7 +12,7 @@ use Rattle.arcs.proofs.ask.Tie as tie
 abbrev start : tie.Else-arcs-eq0 → tie.Start
 start at = at.before.before.before
 
-mark : (at : tie.Else-arcs-eq0) → let from = (start at).args in made_cell from.place < length from.arcs-1.now
+mark : (at : tie.Else-arcs-eq0) → let from = (start at).args in made_cell from.place < length from.arcs.now
 mark at = let (wf, (index, there)) = (start at).requires in made-cell wf index there at.if-arcs-eq0.false
 
 returns : tie.Need-returns-then-arcs-eq0

@@ -80,10 +80,9 @@ loop-less c = search rules
 
 loop-again : tie.Need-loop-k-preserved-then-matches invariant-loop decreases-loop
 loop-again c =
-    let match = matched c.before.before.before.before.before in
     let at = read c.before.before.before.before.before in
     let (own, (from, to)) = in-range at in
-    let on = sym match.matches.ensures ∙ match.if1.true in
+    let on = sym c.matches.ensures ∙ c.if-matches.true in
     let mask = one_bit 16 at.edge-edge.result.to (omega (arith, to)) in (
       omega arith,
       making-more (loop at).loop-k.invariant.1 _ at.edge-edge.ensures _ mask c.find-l.ensures to own on

@@ -71,11 +71,13 @@ loop-again c =
     let told = sym c.has.ensures in (
       omega arith,
       three_ways
-          (λ w. first-is _ _ _ _ _ _ _ _ w.8 w.9
-          (first-named _ _ _ _ _ _ so_far _ w.1.ensures (told ∙ w.0.true) w.3.true _ _ w.4.ensures.0
-          w.4.ensures.1 w.6.ensures.0 _ w.7.ensures))
-          (λ w. first-is _ _ _ _ _ _ _ _ w.5 (w.6 ∙ w.4.ensures)
-          (first-other _ _ _ _ _ _ so_far _ w.1.ensures (told ∙ w.0.true) w.3.false))
+          (λ w. first-is _ _ _ _ _ _ _ _ w.rows-is w.others-is
+          (first-named _ _ _ _ _ _ so_far _ w.credential-credential.ensures (told ∙ w.if-has.true)
+          w.if-credential-eq-SIMPLE_MEMBERSHIP.true _ _ w.role_cell-cell.ensures.0 w.role_cell-cell.ensures.1
+          w.asked_cell.ensures.0 _ w.with.ensures))
+          (λ w. first-is _ _ _ _ _ _ _ _ w.rows-is (w.others-is ∙ w.with-others.ensures)
+          (first-other _ _ _ _ _ _ so_far _ w.credential-credential.ensures (told ∙ w.if-has.true)
+          w.if-credential-eq-SIMPLE_MEMBERSHIP.false))
           (λ w. first-is _ _ _ _ _ _ _ _ w.rows-is w.others-is (first-outside _ _ _ _ _ _ so_far (told ∙ w.if-has.false))) c.if-has.branch-raw,
     )
 

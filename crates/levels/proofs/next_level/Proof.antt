@@ -76,11 +76,11 @@ loop-again c =
     let told = sym c.has.ensures in (
       omega arith,
       three_ways
-          (λ w. grown-is _ _ _ _ _ _ _ _ _ _ w.7 w.8
-          (grown-more _ _ _ _ _ _ _ _ so_far (told ∙ w.0.true) made (omega arith) _ w.1.ensures.0 _ w.4.ensures))
-          (λ w. grown-is _ _ _ _ _ _ _ _ _ _ w.7 w.8
-          (grown-same _ _ _ _ _ _ _ _ so_far (told ∙ w.0.true) made (omega arith) _ w.1.ensures.0 _ w.4.ensures
-          w.6.false))
+          (λ w. grown-is _ _ _ _ _ _ _ _ _ _ w.rows-is w.is_new-is
+          (grown-more _ _ _ _ _ _ _ _ so_far (told ∙ w.if-has.true) made (omega arith) _ w.role_cell.ensures.0 _ w.proved_by.ensures))
+          (λ w. grown-is _ _ _ _ _ _ _ _ _ _ w.rows-is w.is_new-is
+          (grown-same _ _ _ _ _ _ _ _ so_far (told ∙ w.if-has.true) made (omega arith) _ w.role_cell.ensures.0 _ w.proved_by.ensures
+          w.if-more-rows.false))
           (λ w. grown-is _ _ _ _ _ _ _ _ _ _ w.rows-is w.is_new-is (grown-outside _ _ _ _ _ _ _ _ so_far (told ∙ w.if-has.false)))
           c.if-has.branch-raw,
     )

@@ -54,7 +54,7 @@ returns-2 : tie.Need-returns invariant-loop decreases-loop
 unfolding above
 returns-2 c =
     let args = c.args in
-    let all : c.loop-i.i ≡ args.t1.len = omega arith in sym (rw all at c.loop-i.invariant.1)
+    let all : c.loop-i.i ≡ args.self.len = omega arith in sym (rw all at c.loop-i.invariant.1)
 
 pub is_fresh_spec : {M : Type 1} → statement M
 is_fresh_spec =

@@ -49,7 +49,7 @@ returns c =
       later = omega arith;
       there = omega arith;
       person-is = c.if-self-j.true;
-      place_is = eqb-true _ _ c.if-self-j-2.true;
+      place_is = c.if-self-j-2.true;
     }
 
 add-j-2 : tie.Need-overflow_add-j-in-loop-j invariant-loop decreases-loop
