@@ -406,18 +406,18 @@ definers-search-loop-again t c =
       omega (arith, next),
       ⊎_elim
           (λ way. (
-            rw (way.10, way.11)
-                (tried-next searched.indexed stands there _ _ _ _ _ _ (omega (arith, next, all)) may-use way.0.true
-                way.5.ensures way.8.ensures so_far way.2.ensures.0),
-            rw way.9 (way.3.given ∙ before.0, way.2.ensures.1),
+            rw (way.found-is, way.blocking-is)
+                (tried-next searched.indexed stands there _ _ _ _ _ _ (omega (arith, next, all)) may-use way.if-may_use.true
+                way.or-found.ensures way.joined-blocking.ensures so_far way.credential_search-answer.ensures.0),
+            rw way.memory-is (way.memory-1.given ∙ before.0, way.credential_search-answer.ensures.1),
           ))
           (λ way. (
-            rw (way.2, way.3)
+            rw (way.found-is, way.blocking-is)
                 (tried-unused searched.indexed stands there _ _ _ _ _ _ (omega (arith, next, all)) may-use
-                way.0.false so_far),
-            rw way.1 before,
+                way.if-may_use.false so_far),
+            rw way.memory-is before,
           ))
-          c.if-may_use.branch,
+          c.if-may_use.branch-raw,
     )
 
 definers-search-answered-requires-2 : definers-search-needs definers-search-lts.Need-answered-requires-2
@@ -459,7 +459,7 @@ module _ (t : ℕ) (at : goal-search-place goal-search-lts.Start t) where
 -- the goal is not on the branch, and has a slot
 module _ (t : ℕ) (at : goal-search-place goal-search-lts.After-slot-slot t) where
   abbrev goal-search-start : goal-search-place goal-search-lts.Start t
-  goal-search-start = at.before.before.before.before.before.before.before.before.before.before.before.before
+  goal-search-start = at.before.before.before.before.before.before.before.before.before.before.before
 
   goal-search-inside : SlotIn goal-search-start.args.memory.now at.slot-slot.result
   goal-search-inside = at.slot_count.ensures.inside _ at.slot-slot.ensures
@@ -543,7 +543,7 @@ goal-search-same-length t c = search rules
 
 goal-search-returns-3 : goal-search-needs goal-search-lts.Need-returns-then-known
 goal-search-returns-3 t c =
-    let remembered = (goal-search-start t c.before.before).requires.1.1.1 in
+    let remembered = c.requires.1.1.1 in
     let (covered, bounds) = c.recalled-known.ensures.0 _ _ _ remembered in
     let none = c.recalled-known.ensures.1 c.if-known.true in (
       rw c.failed-then-known.ensures.1 (judged-failed c.failed-then-known.ensures.0 covered (λ X owed. bounds X owed (none-covered _ none X))),
@@ -551,7 +551,7 @@ goal-search-returns-3 t c =
     )
 
 goal-search-sub-definers-search : goal-search-needs goal-search-lts.Need-overflow_sub-levels
-goal-search-sub-definers-search t c = omega (arith, (goal-search-may t c.before.before.before).false)
+goal-search-sub-definers-search t c = omega (arith, (goal-search-may t c.before.before.before).left)
 
 goal-search-with-requires-2 : goal-search-needs goal-search-lts.Need-with-requires-2
 goal-search-with-requires-2 t c κs =
@@ -560,9 +560,9 @@ goal-search-with-requires-2 t c κs =
 
 goal-search-definers-search-requires : goal-search-needs goal-search-lts.Need-definers_search-answer-requires
 goal-search-definers-search-requires t c κs =
-    let (measured, (searched, (stands, remembered))) = (goal-search-start t c).requires in
-    let may = goal-search-may t c in (
-      omega (arith, measured, may.false),
+    let (measured, (searched, (stands, remembered))) = c.requires in
+    let may = goal-search-may t c.before.before.before.before.before in (
+      omega (arith, measured, may.left),
       (searched-fewer _ (omega arith) searched, ((stands, may.there), remembered)),
     )
 
@@ -577,8 +577,8 @@ goal-search-same-length-2 t c = search rules
 
 goal-search-returns-4 : goal-search-needs goal-search-lts.Need-returns-then-is_part
 goal-search-returns-4 t c =
-    let slot = goal-search-slot t c in
-    let (searched, (stands, remembered)) = (goal-search-start t slot).requires.1 in
+    let slot = goal-search-slot t c.before.before.before.before.before.before.before.before in
+    let (searched, (stands, remembered)) = c.requires.1 in
     let (covered, bounds) = c.recalled-known.ensures.0 _ _ _ remembered in
     let (sought, now-remembered) = c.definers_search-answer.ensures in
     let (found-is, blocking-is) = c.answered.ensures in (
@@ -590,15 +590,15 @@ goal-search-returns-4 t c =
 
 goal-search-without-requires : goal-search-needs goal-search-lts.Need-without-less-requires
 goal-search-without-requires t c κs =
-    let may = goal-search-may t (goal-search-slot t c.before.before.before.before.before) in
+    let may = goal-search-may t (goal-search-slot t c.before.before.before.before.before.before.before) in
     (may.few-persons, may.few-places)
 
 goal-search-keep-requires : goal-search-needs goal-search-lts.Need-keep-requires
 goal-search-keep-requires t c κs =
-    let slot = goal-search-slot t c in
+    let slot = goal-search-slot t c.before.before.before.before.before.before.before.before.before in
     let may = goal-search-may t slot in (
       rw c.memory-1.given (goal-search-inside t slot),
-      (may.few-persons, (may.few-places, (goal-search-start t slot).requires.1.0.shallow)),
+      (may.few-persons, (may.few-places, c.requires.1.0.shallow)),
     )
 
 goal-search-answered-requires-2 : goal-search-needs goal-search-lts.Need-answered-requires-2
@@ -609,9 +609,9 @@ goal-search-same-length-3 t c = search rules
 
 goal-search-returns-5 : goal-search-needs goal-search-lts.Need-returns
 goal-search-returns-5 t c =
-    let slot = goal-search-slot t c in
+    let slot = goal-search-slot t c.before.before.before.before.before.before.before.before.before.before.before.before.before in
     let start = goal-search-start t slot in
-    let stands = start.requires.1.1.0 in
+    let stands = c.requires.1.1.0 in
     let (sought, now-remembered) = c.definers_search-answer.ensures in
     let (found-is, blocking-is) = c.answered-2.ensures in
     let less = goal-less _ _ _ _ _ _ _ _ stands (goal-search-may t slot) (goal-search-new t slot) (rw c.with-2.ensures at sought)
@@ -716,7 +716,7 @@ module _ (t : ℕ) (at : linked-search-place linked-search-lts.After-is_middle t
   linked-search-middle : let from = linked-search-start.args in
       Middle from.table.now from.index.now from.arcs.now from.rows.now from.terms.allowed from.levels
       from.terms.last from.person from.i linked-search-asked.row_of-row.result at.loop-j.j
-      linked-search-asked.asked-cell.result at.link_cell-second.result at.is_middle.result
+      linked-search-asked.asked_cell-first.result at.link_cell-second.result at.is_middle.result
   linked-search-middle =
       let (searched, (tried, (kind, remembered))) = linked-search-start.requires.1 in
       record {
@@ -725,7 +725,7 @@ module _ (t : ℕ) (at : linked-search-place linked-search-lts.After-is_middle t
         kind = kind;
         there = omega (arith, at.loop-j-test.true, linked-search-asked.credentials-n.ensures.same);
         row_is = linked-search-asked.row_of-row.ensures;
-        first-is = linked-search-asked.asked-cell.ensures.0;
+        first-is = linked-search-asked.asked_cell-first.ensures.0;
         second_is = at.link_cell-second.ensures.0;
         told_is = at.is_middle.ensures;
       }
@@ -770,8 +770,8 @@ linked-search-is-middle-requires t c κs =
 
 linked-search-link-search-requires : linked-search-needs linked-search-lts.Need-link_search-link-requires
 linked-search-link-search-requires t c κs =
-    let (measured, (searched, rest)) = (linked-search-start t c).requires in
-    let middle = linked-search-middle t c in
+    let (measured, (searched, rest)) = c.requires in
+    let middle = linked-search-middle t c.before.before in
     let on = c.if-is_middle.true in (
       omega (arith, measured),
       (searched, ((stands-first middle on, stands-second middle on), c.loop-j.invariant.1.1.1)),
@@ -795,11 +795,11 @@ linked-search-same-length t c =
 
 linked-search-returns : linked-search-needs linked-search-lts.Need-returns-then-has
 linked-search-returns t c =
-    let (searched, (tried, (kind, remembered))) = (linked-search-start t c).requires.1 in
+    let (searched, (tried, (kind, remembered))) = c.requires.1 in
     let (so_far, before) = c.loop-j.invariant.1 in
     let (one, now-remembered) = c.link_search-link.ensures in
     let (found-is, blocking-is) = c.answered.ensures in
-    let finds = link-finds (linked-search-middle t c) _ _ _ c.if-is_middle.true c.or-found.ensures
+    let finds = link-finds (linked-search-middle t c.before.before.before.before.before.before.before.before.before.before.before) _ _ _ c.if-is_middle.true c.or-found.ensures
     so_far.finds one.finds in (
       rw (found-is, blocking-is) (linked-enough searched tried kind _ _ _ remembered.few finds c.has.ensures
           c.if-has.true c.nothing.ensures),
@@ -817,17 +817,17 @@ linked-search-loop-less t c = search rules
 
 linked-search-loop-again : linked-search-needs linked-search-lts.Need-loop-j-preserved
 linked-search-loop-again t c =
-    let middle = linked-search-middle t c in
+    let middle = linked-search-middle t c.before in
     let (so_far, before) = c.loop-j.invariant.1 in (
       omega (arith, c.loop-j-test.true),
       ⊎_elim
           (λ way. (
-            rw (way.10, way.11)
-                (link-next middle _ _ _ way.0.true way.5.ensures way.8.ensures so_far way.2.ensures.0),
-            rw way.9 (way.3.given ∙ before.0, way.2.ensures.1),
+            rw (way.found-is, way.blocking-is)
+                (link-next middle _ _ _ way.if-is_middle.true way.or-found.ensures way.joined-blocking.ensures so_far way.link_search-link.ensures.0),
+            rw way.memory-is (way.memory-1.given ∙ before.0, way.link_search-link.ensures.1),
           ))
-          (λ way. (rw (way.2, way.3) (link-skipped middle _ _ _ way.0.false so_far), rw way.1 before))
-          c.if-is_middle.branch,
+          (λ way. (rw (way.found-is, way.blocking-is) (link-skipped middle _ _ _ way.if-is_middle.false so_far), rw way.memory-is before))
+          c.if-is_middle.branch-raw,
     )
 
 linked-search-answered-requires-2 : linked-search-needs linked-search-lts.Need-answered-requires-2
@@ -958,15 +958,15 @@ parts-search-loop-again t c =
       omega (arith, c.loop-k-test.true),
       ⊎_elim
           (λ way. (
-            part-proved searched tried kind _ _ unowed _ _ _ _ way.1.ensures.0
-                (zero-passes unowed way.3.ensures.0 way.6.ensures way.7.false) so_far,
-            rw way.8 (way.4.given ∙ before.0, way.3.ensures.1),
+            part-proved searched tried kind _ _ unowed _ _ _ _ way.asked_cell.ensures.0
+                (zero-passes unowed way.goal_search-answer.ensures.0 way.is_none.ensures way.if-is_none.false) so_far,
+            rw way.memory-is (way.memory-then-not-is_asked_before-1.given ∙ before.0, way.goal_search-answer.ensures.1),
           ))
           (λ way. (
-            part-repeated searched tried kind _ _ unowed _ _ _ so_far (passed c.is_asked_before.ensures way.0.false),
-            rw way.1 before,
+            part-repeated searched tried kind _ _ unowed _ _ _ so_far (passed c.is_asked_before.ensures way.if-not-is_asked_before.false),
+            rw way.memory-is before,
           ))
-          c.if-not-is_asked_before.branch,
+          c.if-not-is_asked_before.branch-raw,
     )
 
 parts-search-proved-requires : parts-search-needs parts-search-lts.Need-proved-requires
