@@ -25,8 +25,8 @@ two at = at.before.before.before.before.before
 asked : (at : tie.Else-not-premises) → let from = (start (two at)).args in
     let found = at.premises-premises.result in
     premises from.table.now from.goal (get_or from.rec.now 0 0) (get_or from.rec.now 1 0)
-    ≡ some (take found.len found.goals-1)
-asked at = sym at.premises-premises.ensures.1 ∙ given-some _ at.if-not-premises.false
+    ≡ some (take found.len found.goals)
+asked at = sym at.premises-premises.ensures.1 ∙ given-some _ (not-false _ at.if-not-premises.false)
 
 halted-requires : tie.Need-halted-requires
 halted-requires c κs = search rules
@@ -48,7 +48,7 @@ halted-requires-2 c κs = search rules
 
 returns-2 : tie.Need-returns-then-not-premises
 returns-2 c =
-    let unfit = sym c.premises-premises.ensures.1 ∙ given-none _ c.if-not-premises.true in
+    let unfit = sym c.premises-premises.ensures.1 ∙ given-none _ (not-true _ c.if-not-premises.true) in
     halts-with _ (omega arith) c.halted-then-not-premises.ensures (entry-unfit _ _ _ _ c.if-rec-lt2.false unfit)
 
 halted-requires-3 : tie.Need-halted-requires-then-levels-eq0
