@@ -59,7 +59,7 @@ inside at i l = omega (arith, l, at.last_usable-last.ensures.few, at.credentials
 credential-search-requires : tie.Need-credential_search-answer-requires invariant-loop decreases-loop
 credential-search-requires c κs =
     let pre = (asked c.before.before.before.before.before).requires in
-    (pre.0, (tried-at pre.1.0.0 _ (inside c.before _ c.loop-i-test.true), c.loop-i.invariant.2.1))
+    (pre.0, (tried-at pre.1.0.0 _ (inside c.before.before.before.before.before _ c.loop-i-test.true), c.loop-i.invariant.2.1))
 
 meets-requires : tie.Need-meets-requires invariant-loop decreases-loop
 meets-requires c κs = search rules
@@ -71,7 +71,7 @@ same_length c =
 returns : tie.Need-returns-then-meets invariant-loop decreases-loop
 returns c =
     let pre = (asked c.before.before.before.before.before.before.before.before.before.before.before).requires in
-    let there = inside c.before _ c.loop-i-test.true in
+    let there = inside c.before.before.before.before.before.before.before.before.before.before.before _ c.loop-i-test.true in
     let (judged, remembered) = c.credential_search-answer.ensures in
     let proved = own-wanted _ _ _ _ _ _ _ _ pre.1.1.0 (judged-told (wide (asked c.before.before.before.before.before.before.before.before.before.before.before)) judged) c.meets.ensures in (
       chosen-here pre.0.indexed pre.1.0.0 pre.1.0.1 _ _ _ _ there c.loop-i.invariant.1
@@ -91,14 +91,14 @@ loop-again c =
     let pre = (asked c.before.before.before.before).requires in
     let (_, so_far, remembered) = c.loop-i.invariant in
     let next = c.loop-i-test.true in
-    let there = inside c.before _ next in
+    let there = inside c.before.before.before.before _ next in
     let may-use = c.may_use.ensures in (
       omega (arith, next),
-      ⊎_elim (λ way. next-failed pre.0.indexed pre.1.0.0 pre.1.0.1 _ _ _ _ there may-use way.0.true
-          (own-wanted _ _ _ _ _ _ _ _ pre.1.1.0 (judged-told (wide (asked c.before.before.before.before)) way.2.ensures.0) way.5.ensures) so_far way.6.false)
+      ⊎_elim (λ way. next-failed pre.0.indexed pre.1.0.0 pre.1.0.1 _ _ _ _ there may-use way.if-may_use.true
+          (own-wanted _ _ _ _ _ _ _ _ pre.1.1.0 (judged-told (wide (asked c.before.before.before.before)) way.credential_search-answer.ensures.0) way.meets.ensures) so_far way.if-meets.false)
           (λ way. next-skipped pre.0.indexed pre.1.0.0 pre.1.0.1 _ _ _ _ there may-use so_far way.if-may_use.false)
           c.if-may_use.branch-raw,
-      ⊎_elim (λ way. rw way.7 (way.3.given ∙ remembered.0, way.2.ensures.1)) (λ way. rw way.memory-is remembered) c.if-may_use.branch-raw,
+      ⊎_elim (λ way. rw way.memory-is (way.memory-1.given ∙ remembered.0, way.credential_search-answer.ensures.1)) (λ way. rw way.memory-is remembered) c.if-may_use.branch-raw,
     )
 
 same-length-2 : tie.Need-shape_of-memory invariant-loop decreases-loop

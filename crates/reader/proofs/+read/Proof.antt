@@ -98,7 +98,7 @@ module _ (t : ℕ) where
   Moved = read-lts.After-moved-below (read-claims t) (read_at t) read.Post read-Inv-loop read-μ-loop
 
   abbrev asked : Moved → Asked
-  asked at = at.before.before.before
+  asked at = at.before.before
 
   -- where all is kept that its children start from
   abbrev WordsKept : Type 0
@@ -205,7 +205,7 @@ read-returns-2 : (t : ℕ) → read-lts.Need-returns-then-len-eq0 (read-claims t
 read-returns-2 t c =
     let here = node t (own t c.before.before) in
     let starts = onward-starts here.held (start t (own t c.before.before)).requires.1.1.1.1.0 in
-    let read_all = children-read here (keeps t c _ refl) _ starts (omega (arith, c.if-len-eq0.true)) in
+    let read_all = children-read here (keeps t c.before.before _ refl) _ starts (omega (arith, c.if-len-eq0.true)) in
     (read_all, (asked t (moved t c.before.before)).ask.ensures)
 
 read-with-requires : (t : ℕ) → read-lts.Need-with-deeper-requires (read-claims t) (read_at t) read.Post read-Inv-loop read-μ-loop
@@ -241,7 +241,7 @@ read-read-requires t c κs =
 read-same-length-2 : (t : ℕ) → read-lts.Need-shape_of-arcs-then-refusal-ne0 (read-claims t) (read_at t) read.Post read-Inv-loop read-μ-loop
 read-same-length-2 t c =
     let loop = (inside t c.before.before.before).before in
-    c.arcs-in-loop-i-1.given ∙ loop.loop.invariant.2 ∙ (asked t (moved t (kept t loop.before))).arcs-1.given
+    c.arcs-in-loop-i-1.given ∙ c.loop-i.invariant.2 ∙ (asked t (moved t (kept t loop.before))).arcs-1.given
 
 read-returns-3 : (t : ℕ) → read-lts.Need-returns-then-refusal-ne0 (read-claims t) (read_at t) read.Post read-Inv-loop read-μ-loop
 read-returns-3 t c =
@@ -249,12 +249,12 @@ read-returns-3 t c =
     let less = (inside t c.before.before.before).loop-i-test.true in
     let loop = (inside t c.before.before.before).before in
     let here = node t (own t (kept t loop.before)) in
-    (child-stops here (down t loop.before) _ loop.loop.invariant.0 less child.0 c.if-refusal-ne0.true, child.1)
+    (child-stops here (down t loop.before) _ c.loop-i.invariant.0 less child.0 c.if-refusal-ne0.true, child.1)
 
 read-add-i : (t : ℕ) → read-lts.Need-overflow_add-i (read-claims t) (read_at t) read.Post read-Inv-loop read-μ-loop
 read-add-i t c =
     let here = inside t c.before.before.before in
-    omega (arith, here.loop-i.invariant.0.held.fits, here.loop-test.true)
+    omega (arith, here.loop-i.invariant.0.held.fits, c.loop-i-test.true)
 
 read-loop-less : (t : ℕ) → read-lts.Need-loop-i-smaller (read-claims t) (read_at t) read.Post read-Inv-loop read-μ-loop
 read-loop-less t c = omega (arith, (inside t c.before.before.before).loop-i-test.true)

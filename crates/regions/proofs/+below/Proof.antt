@@ -122,8 +122,7 @@ below-returns-2 t c =
     let highest = c.highest-next in
     let if1 = c.if-among-eq0 in
     let decide = c.decide-among in
-    let start = c.before.before.before.before.before.before.before.before.before.before in
-    let pre = start.requires in
+    let pre = c.requires in
     let splits = decided-splits pre.1.1.1.0 decide.ensures if1.false pre.1.1.1.1 _ highest.ensures.0 in
     let few = highest.ensures.1 in
     ended-from decide.ensures if1.false

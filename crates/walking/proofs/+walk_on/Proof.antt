@@ -133,7 +133,7 @@ module _ (t : ℕ) where
 
   -- where what the node asks has been walked: the place where its numbers had been put
   abbrev walk_put : walk-place walk-lts.After-walk_asked t → walk-place walk-lts.After-put t
-  walk_put at = at.before.before.before.before.before.before.before.before
+  walk_put at = at.before.before.before.before.before.before.before.before.before.before
 
 walk-stepped-requires : walk-needs walk-lts.Need-stepped-below-requires
 walk-stepped-requires t c κs =
@@ -151,14 +151,14 @@ walk-sub-choose t c = omega (arith, entered-left (walk-entered t c))
 
 walk-choose-requires : walk-needs walk-lts.Need-choose-node-requires
 walk-choose-requires t c κs =
-    let pre = (walk_from t c).requires.1 in (
+    let pre = (walk_from t c.before.before).requires.1 in (
       searched-fewer _ (omega arith) pre.0,
-      (pre.1.0, (pre.1.1.0, (pre.1.1.1.0, node-found (walk-entered t c)))),
+      (pre.1.0, (pre.1.1.0, (pre.1.1.1.0, node-found (walk-entered t c.before.before)))),
     )
 
 walk-put-requires : walk-needs walk-lts.Need-put-requires
 walk-put-requires t c κs =
-    let room = (walk_from t c.before.before.before.before.before).requires.1.1.1.1.1.1 in
+    let room = (walk_from t c.before.before.before.before.before.before).requires.1.1.1.1.1.1 in
     omega (arith, room.0, room.1)
 
 walk-add-next : walk-needs walk-lts.Need-overflow_add-next
@@ -168,7 +168,7 @@ walk-add-next t c =
 
 walk-accepting-requires : walk-needs walk-lts.Need-accepting-requires
 walk-accepting-requires t c κs =
-    let searched = (walk_from t (walk-with t c.before.before.before.before)).requires.1.0 in
+    let searched = (walk_from t (walk-with t c.before.before.before.before.before)).requires.1.0 in
     (searched.well_formed, searched.moving)
 
 walk-same-length : walk-needs walk-lts.Need-shape_of-memory-then-node-eq0
@@ -179,8 +179,8 @@ walk-same-length-2 t c = c.put.ensures.size
 
 walk-returns : walk-needs walk-lts.Need-returns-then-node-eq0
 walk-returns t c =
-    let (chosen, remembered) = (walk-chose t c).choose-node.ensures in
-    let told = node-ends (walk-entered t (walk-with t c)) chosen c.put.ensures _ c.if-node-eq0.true
+    let (chosen, remembered) = (walk-chose t c.before.before.before.before.before.before.before).choose-node.ensures in
+    let told = node-ends (walk-entered t (walk-with t c.before.before.before.before.before.before.before)) chosen c.put.ensures _ c.if-node-eq0.true
     c.accepting.ensures in
     (record { walked = told.0; meets = told.1 }, remembered)
 
@@ -192,19 +192,19 @@ walk-same-length-4 t c = c.put.ensures.size
 
 walk-returns-2 : walk-needs walk-lts.Need-returns-then-most-next
 walk-returns-2 t c =
-    let (chosen, remembered) = (walk-chose t c).choose-node.ensures in
-    let told = node_over (walk-entered t (walk-with t c)) chosen c.put.ensures _ c.if-most-next.true 0 in
+    let (chosen, remembered) = (walk-chose t c.before.before.before.before.before).choose-node.ensures in
+    let told = node_over (walk-entered t (walk-with t c.before.before.before.before.before)) chosen c.put.ensures _ c.if-most-next.true 0 in
     (record { walked = told.0; meets = told.1 }, remembered)
 
 walk-sub-walk-asked : walk-needs walk-lts.Need-overflow_sub-levels-2
 walk-sub-walk-asked t c =
-    omega (arith, entered-left (walk-entered t (walk-with t c.before.before.before.before.before)))
+    omega (arith, entered-left (walk-entered t (walk-with t c.before.before.before.before.before.before)))
 
 walk-walk-asked-requires : walk-needs walk-lts.Need-walk_asked-requires
 walk-walk-asked-requires t c κs =
-    let entered = walk-entered t (walk-with t c) in
-    let pre = (walk_from t (walk-with t c)).requires in
-    let (chosen, remembered) = (walk-chose t c).choose-node.ensures in (
+    let entered = walk-entered t (walk-with t c.before.before.before.before.before.before.before.before.before) in
+    let pre = (walk_from t (walk-with t c.before.before.before.before.before.before.before.before.before)).requires in
+    let (chosen, remembered) = (walk-chose t c.before.before.before.before.before.before.before.before.before).choose-node.ensures in (
       omega (arith, entered-left entered, pre.0),
       (
         searched-fewer _ (omega arith) pre.1.0,
@@ -236,7 +236,7 @@ walk-same-length-6 t c =
 walk-returns-3 : walk-needs walk-lts.Need-returns
 walk-returns-3 t c =
     let (walks, remembered) = c.walk_asked.ensures in
-    let put = walk_put t c in
+    let put = walk_put t c.before.before.before.before in
     let told = node-goes (walk-entered t (walk-with t put)) (walk-chose t put).choose-node.ensures.0 put.put.ensures _
     (c.if-node-eq0.false) walks.walked walks.meets in
     (record { walked = told.0; meets = told.1 }, remembered)
@@ -271,7 +271,7 @@ walk-asked-add-wanted-here t c =
 
 walk-asked-wanted-here-requires : walk-asked-needs walk-asked-lts.Need-wanted_here-here-requires
 walk-asked-wanted-here-requires t c κs =
-    let pre = (walk-asked-from t c).requires.1 in
+    let pre = (walk-asked-from t c.before.before.before).requires.1 in
     let (_, _, passed, _, remembered) = c.loop-k.invariant in
     (pre.0, (pre.1.0, (pre.1.1.0, (remembered, (passed.few, omega (arith, c.loop-k-test.true))))))
 
@@ -289,7 +289,7 @@ walk-asked-array-read-walk-2 t c = walk-asked-near t c.before.before
 
 walk-asked-walk-requires : walk-asked-needs walk-asked-lts.Need-walk-walked-requires
 walk-asked-walk-requires t c κs =
-    let at = walk-asked-loop t c in
+    let at = walk-asked-loop t c.before.before.before.before in
     let pre = (walk-asked-from t at).requires in
     let wf = pre.1.0.well_formed in
     let wanted = family-wants pre.1.1.1.0 in
@@ -319,7 +319,7 @@ walk-asked-loop-less t c = search rules
 
 walk-asked-loop-again : walk-asked-needs walk-asked-lts.Need-loop-k-preserved
 walk-asked-loop-again t c =
-    let told = walk-asked-told t c in
+    let told = walk-asked-told t c.before.before.before.before.before.before in
     let at = walk-asked-loop t told in
     let pre = (walk-asked-from t at).requires.1 in
     let next = told.loop-k-test.true in
@@ -349,15 +349,15 @@ walk-asked-returns t c =
 walk-asked-same-length-3 : walk-asked-needs walk-asked-lts.Need-shape_of-memory-then-most-next
 walk-asked-same-length-3 t c =
     c.memory-in-loop-k-1.given ∙ c.memory-1.given
-    ∙ (walk-asked-loop t (walk-asked-told t c)).loop-k.invariant.3
+    ∙ (walk-asked-loop t (walk-asked-told t c.before.before.before.before.before)).loop-k.invariant.3
 
 walk-asked-same-length-4 : walk-asked-needs walk-asked-lts.Need-shape_of-rec-then-most-next
 walk-asked-same-length-4 t c =
-    c.walk-walked.ensures.0.walked.size ∙ (walk-asked-loop t (walk-asked-told t c)).loop-k.invariant.2.walked.size
+    c.walk-walked.ensures.0.walked.size ∙ (walk-asked-loop t (walk-asked-told t c.before.before.before.before.before)).loop-k.invariant.2.walked.size
 
 walk-asked-returns-2 : walk-asked-needs walk-asked-lts.Need-returns-then-most-next
 walk-asked-returns-2 t c =
-    let told = walk-asked-told t c in
+    let told = walk-asked-told t c.before.before.before.before.before in
     let at = walk-asked-loop t told in
     let pre = (walk-asked-from t at).requires.1 in
     let next = told.loop-k-test.true in

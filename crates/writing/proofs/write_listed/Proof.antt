@@ -80,7 +80,7 @@ cleared at = remembered-none _ _ _ _ (owed-fits (asked at).requires.0.well_forme
 write-settled-requires : tie.Need-write_settled-requires
 write-settled-requires c κs =
     let pre = (asked c.before.before.before.before.before).requires in
-    (pre.0, (pre.1, (filled c.before.before.before.before.before, (settled c.before.before.before.before.before, cleared c _ (omega arith) (zeros few_cells)))))
+    (pre.0, (pre.1, (filled c.before.before.before.before.before, (settled c.before.before.before.before.before, cleared c.before.before.before.before.before _ (omega arith) (zeros few_cells)))))
 
 same_length : tie.Need-shape_of-rec-then-is_small
 same_length c = search rules
@@ -97,7 +97,7 @@ slice-aggregate-write-settled-4 c = search rules
 write-settled-requires-2 : tie.Need-write_settled-requires-2
 write-settled-requires-2 c κs =
     let pre = (asked c.before.before.before.before.before).requires in
-    (pre.0, (pre.1, (filled c.before.before.before.before.before, (settled c.before.before.before.before.before, cleared c _ (omega arith) (zeros memory_cells)))))
+    (pre.0, (pre.1, (filled c.before.before.before.before.before, (settled c.before.before.before.before.before, cleared c.before.before.before.before.before _ (omega arith) (zeros memory_cells)))))
 
 same-length-2 : tie.Need-shape_of-rec
 same-length-2 c = search rules

@@ -40,9 +40,9 @@ loop-again c =
     let there : c.loop-j.j < credentials c.args.table.now =
     omega (arith, c.loop-j-test.true, c.credentials-n.ensures.same) in (
       omega arith,
-      ⊎_elim (λ w. rw w.3 (named_here _ _ _ _ so_far there (has ∙ w.0.true) (sym w.1.ensures ∙ w.2.true)))
-          (⊎_elim (λ w. rw w.3 (named-kept _ _ _ _ so_far (sym w.1.ensures ∙ w.2.false)))
-          (λ w. rw w.1 (named-out _ _ _ _ so_far (has ∙ w.0.false)))) c.if-has.branch-raw,
+      ⊎_elim (λ w. rw w.best-is (named_here _ _ _ _ so_far there (has ∙ w.if-has.true) (sym w.comes_before.ensures ∙ w.if-comes_before.true)))
+          (⊎_elim (λ w. rw w.best-is (named-kept _ _ _ _ so_far (sym w.comes_before.ensures ∙ w.if-comes_before.false)))
+          (λ w. rw w.best-is (named-out _ _ _ _ so_far (has ∙ w.if-has.false)))) c.if-has.branch-raw,
     )
 
 returns : tie.Need-returns invariant-loop decreases-loop
