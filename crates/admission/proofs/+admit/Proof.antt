@@ -371,7 +371,7 @@ module _ (t : ℕ) where
       c.lacking-lost.result
       ≡ lacking_of args.found args.terms.owed
       (bit_or args.terms.owed (owed_of args.table.now args.terms.allowed)) args.k
-  admits-found-lacking c = rw (admits-found-asked c).requires.1.1.Asked-is at c.lacking-lost.ensures
+  admits-found-lacking c = rw (admits-found-asked c).requires.1.1.asked_is at c.lacking-lost.ensures
 
   admits-found-less : (c : admits-found-lost) → (c.lacking-lost.result ≡ 0 → ⊥) → let args = (admits-found-asked c).args in
       without_all args.table.now args.terms.allowed c.lacking-lost.result < args.terms.allowed
@@ -411,9 +411,9 @@ admits-found-without-requires t c κs = (admits-found-asked t c.before).requires
 
 admits-found-admits-under-requires : admits-found-needs admits-found-lts.Need-admits_under-requires
 admits-found-admits-under-requires t c κs =
-    let pre = (admits-found-asked t c).requires in
+    let pre = c.requires in
     let u = pre.1.0 in
-    let fewer = rw (← c.without-fewer.ensures) at (admits-found-less t c c.if-lost-ne0.true) in
+    let fewer = rw (← c.without-fewer.ensures) at (admits-found-less t c.before.before c.if-lost-ne0.true) in
     (omega (arith, pre.0, fewer), (u.prepared, (u.marks-are, (u.there, u.few))))
 
 admits-found-returns-3 : admits-found-needs admits-found-lts.Need-returns-then-lost-ne0
@@ -431,7 +431,7 @@ admits-found-admits-by-requires t c κs =
 
 admits-found-returns-4 : admits-found-needs admits-found-lts.Need-returns
 admits-found-returns-4 t c =
-    let proved = sym (admits-found-told t (admits-found-asked t c)) ∙ admits-found-proved t c in
+    let proved = sym (admits-found-told t (admits-found-asked t c.before.before.before)) ∙ admits-found-proved t c.before.before.before in
     to-proved _ _ _ _ _ _ proved c.admits_by.ensures
 
 -- what `admits_over` needs, whatever its measure is
@@ -615,7 +615,7 @@ owes-one-returns t c =
     let (known, (is, marked)) = c.requires.1.1 in
     let asks = c.owing-more.ensures in
     let met = rw (asks.allowed-is, asks.every-is) at (sym c.admits_by.ensures ∙ c.if-admits_by.true) in
-    owes-met _ _ _ _ _ _ is marked asks.owed-is (sym (owes-one-told t c) ∙ c.if-covers.true) met
+    owes-met _ _ _ _ _ _ is marked asks.owed-is (sym (owes-one-told t c.before.before.before) ∙ c.if-covers.true) met
 
 owes-one-without-one-requires : owes-one-needs owes-one-lts.Need-without_one-fewer-requires
 owes-one-without-one-requires t c κs =
@@ -639,9 +639,9 @@ owes-one-returns-2 t c =
     spared-told _ _ _ _ _ _ c.without_one-fewer.ensures c.admits_under.ensures
     ∙ ⊎_elim
     (λ way. owes-unmet _ _ _ _ _ _ is marked asks.owed-is
-    (rw (asks.allowed-is, asks.every-is) at (sym way.1.ensures ∙ way.2.false)))
-    (λ way. owes-unproved _ _ _ _ _ _ is marked asks.owed-is (sym (owes-one-told t c) ∙ way.false))
-    c.if-covers.branch
+    (rw (asks.allowed-is, asks.every-is) at (sym way.admits_by.ensures ∙ way.if-admits_by.false)))
+    (λ way. owes-unproved _ _ _ _ _ _ is marked asks.owed-is (sym (owes-one-told t c.before.before.before) ∙ way.if-covers.false))
+    c.if-covers.branch-raw
 
 pub +admit_spec : {M : Type 1} → statement M
 +admit_spec =

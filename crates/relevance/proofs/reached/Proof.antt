@@ -29,7 +29,7 @@ with-requires : tie.Need-with-places-requires invariant-loop decreases-loop
 with-requires c κs = search rules
 
 loop-holds : tie.Need-loop-places-init invariant-loop decreases-loop
-loop-holds c = (c.with-places.type-inv, (with-has 0 _ _ c.with-places.ensures c.goal_role.ensures.0, round-first _ _ _))
+loop-holds c = (c.with-places.type_inv, (with-has 0 _ _ c.with-places.ensures c.goal_role.ensures.0, round-first _ _ _))
 
 more-places-requires : tie.Need-more_places-more-requires invariant-loop decreases-loop
 more-places-requires c κs = search rules
@@ -41,7 +41,7 @@ loop-again : tie.Need-loop-places-preserved invariant-loop decreases-loop
 loop-again c =
     let inv = c.loop-places.invariant.1 in
     let more = c.more_places-more.ensures in
-    (c.more_places-more.type-inv, (part-member _ _ _ more.grows inv.0, more))
+    (c.more_places-more.type_inv, (part-member _ _ _ more.grows inv.0, more))
 
 returns : tie.Need-returns invariant-loop decreases-loop
 returns c =

@@ -50,7 +50,7 @@ empty-requires c κs = search rules
 read-requires : tie.Need-read-rest-requires
 read-requires c κs =
     let pre = (start c.before.before.before.before.before.before).requires in
-    (pre.0, ((c.empty.ensures.0, levels-fit c.before.before.before.before.before.before), (omega (arith, (start c.before.before.before.before.before.before).well-formed.1.1), (refl, pre.1.1))))
+    (pre.0, ((c.empty.ensures.0, levels-fit c.before.before.before.before.before.before), (omega (arith, (start c.before.before.before.before.before.before).well_formed.1.1), (refl, pre.1.1))))
 
 reason-of-requires : tie.Need-reason_of-requires
 reason-of-requires c κs =
@@ -72,7 +72,7 @@ returns c =
 
 add-refused : tie.Need-overflow_add-nodes
 add-refused c =
-    omega (arith, c.read-rest.ensures.0.room c.if-refusal-ne0.false, (start (begun c.before.before.before.before)).well-formed.1.1)
+    omega (arith, c.read-rest.ensures.0.room c.if-refusal-ne0.false, (start (begun c.before.before.before.before)).well_formed.1.1)
 
 refused-requires-2 : tie.Need-refused-requires-then-rest-ne0
 refused-requires-2 c κs = search rules
