@@ -129,7 +129,7 @@ module _ (t : ℕ) where
   walk-chose at = at.before.before.before.before
 
   abbrev walk-with : walk-place walk-lts.After-put t → walk-place walk-lts.After-with-deeper t
-  walk-with at = (walk-chose at).before.before
+  walk-with at = (walk-chose at).before.before.before
 
   -- where what the node asks has been walked: the place where its numbers had been put
   abbrev walk_put : walk-place walk-lts.After-walk_asked t → walk-place walk-lts.After-put t
@@ -226,12 +226,11 @@ walk-walk-asked-requires t c κs =
 
 walk-same-length-5 : walk-needs walk-lts.Need-shape_of-memory
 walk-same-length-5 t c =
-    let chosen = (walk_put t c.before.before.before.before).before.before.before in
-    c.memory-2-1.given ∙ chosen.memory.given
+    c.memory-2-1.given ∙ c.memory-1.given
 
 walk-same-length-6 : walk-needs walk-lts.Need-shape_of-rec
 walk-same-length-6 t c =
-    c.walk_asked.ensures.0.walked.size ∙ walk_put t c.put.ensures.size
+    c.walk_asked.ensures.0.walked.size ∙ c.put.ensures.size
 
 walk-returns-3 : walk-needs walk-lts.Need-returns
 walk-returns-3 t c =
@@ -328,7 +327,7 @@ walk-asked-loop-again t c =
       omega (arith, next),
       omega (arith, room),
       asked-next pre.0.well_formed _ _ _ _ _ _ _ (family-wants pre.1.1.0) _ _ next at.loop-k.invariant.2 _
-          told.wanted-here.ensures.0 at.loop-k.invariant.1 walks.walked _ (walks.meets (omega (arith, room))),
+          told.wanted_here-here.ensures.0 at.loop-k.invariant.1 walks.walked _ (walks.meets (omega (arith, room))),
       c.memory-in-loop-k-1.given ∙ c.memory-1.given
           ∙ at.loop-k.invariant.3,
       remembered,
@@ -365,7 +364,7 @@ walk-asked-returns-2 t c =
       record {
         walked =
             asked-beyond pre.0.well_formed _ _ _ _ _ _ _ (family-wants pre.1.1.0) _ _ next at.loop-k.invariant.2 _
-            told.wanted-here.ensures.0 at.loop-k.invariant.1 walks.walked c.if-most-next.true;
+            told.wanted_here-here.ensures.0 at.loop-k.invariant.1 walks.walked c.if-most-next.true;
         meets = λ room. absurd (omega (arith, c.if-most-next.true));
       },
       remembered,

@@ -73,7 +73,7 @@ returns c =
     let place = c.goal_role.ensures.0 in (
       begins-walked pre.0 pre.1.0 _ _ pre.1.1.0.few pre.1.1.1.0 who place _
           c.only.ensures _ _ c.wide.ensures.0 c.start.ensures _ _ _ _
-          (rw c.nothing.ensures c walked.walked),
+          (rw c.nothing.ensures at walked.walked),
       remembered,
     )
 
