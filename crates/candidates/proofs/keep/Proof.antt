@@ -2,7 +2,6 @@
 -- nothing.
 use mathlib.Core.Logic.{⊎_elim}
 use mathlib.Core.Path.{sym, ◌∙◌}
-use borrow.Author.Tests.{not-false, not-true}
 use borrow.Author.Rules.{rules}
 use Rattle.candidates.proofs.Growing.{kept-least, kept-not}
 use Rattle.candidates.proofs.keep.Statement.{statement}
@@ -28,7 +27,7 @@ returns-2 c =
     let if1 = c.if-full in
     let insert = c.insert in
     kept-least
-    (⊎_elim (λ w. sym w.1.ensures ∙ not-false _ w.2.false) (λ w. pre.1.1.1.0 w.false) if1.branch-raw)
+    (⊎_elim (λ w. sym w.is_minimal.ensures ∙ w.if-not-is_minimal.false) (λ w. pre.1.1.1.0 w.if-full.false) if1.branch-raw)
     insert.ensures
 
 pub keep_spec : {M : Type 1} → statement M

@@ -103,9 +103,7 @@ outside-requires c κs = search rules
 
 mul-cuts : tie.Need-offset_bounds-cuts-count
 mul-cuts c =
-    let slice-known = c.slice_known-1 in
-    let if4 = c.if-count-cuts in
-    search (rules, c.well-formed.1.1.1.1.1.1.1.0, slice-known.given, c.requires.1.1.0.known.room, if4.false)
+    search (rules, c.slice_known-1.given, c.requires.1.1.0.known.room, c.if-count-cuts.false)
 
 slice-write-cuts : tie.Need-bounds-cuts-count
 slice-write-cuts c =
@@ -114,9 +112,7 @@ slice-write-cuts c =
 
 add-count : tie.Need-overflow_add-count
 add-count c =
-    let slice-known = c.slice_known-1 in
-    let if4 = c.if-count-cuts in
-    search (rules, c.well-formed.1.1.1.1.1.1.1.0, slice-known.given, c.requires.1.1.0.known.room, if4.false)
+    search (rules, c.slice_known-1.given, c.requires.1.1.0.known.room, c.if-count-cuts.false)
 
 same-length-6 : tie.Need-shape_of-cuts
 same-length-6 c = search rules
