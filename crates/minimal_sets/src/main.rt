@@ -3,53 +3,93 @@
 // error.
 #![tactic(auto)]
 
-ghost use Rattle.std.specs.Prelude.{◌≤◌, length};
+ghost use Rattle.std.specs.Prelude.{◌+◌, ◌≡◌, ◌≤◌, ◌<◌, drop, length, take, IfOk, IfSome, OnOk};
+ghost use Rattle.std.specs.Io.{ReadsAtMost};
+ghost use Rattle.std.specs.Io.KnownBytes.{Appends, Consumes, IsAtEnd};
+ghost use Rattle.printing.specs.Program.{program_prints};
 
-use libc::{STDERR_FILENO, STDIN_FILENO, STDOUT_FILENO};
+use std::io::{Read, Write};
+use std::{fmt, io};
 
-fn main() {
-    let mut input = io::buffer();
-    let got = read_input(&mut input);
-    if got < 0 {
-        io::write_all(STDERR_FILENO, b"minimal_sets: cannot read standard input\n");
-        return;
-    }
-    let count = io::count(got, &input);
-    print_answer(&input[..count]);
+const MOST_BYTES: usize = 4096;
+
+// What could not be done.
+#[derive(Clone, Copy, Debug)]
+enum Failure {
+    Read,
+    Write,
 }
 
-// Reads until the input ends, the buffer is full or a read fails, and answers as `libc::read` does: how many bytes are at the
-// start of the buffer, or a negative number.
-fn read_input(input: &mut [u8]) -> isize {
+impl fmt::Display for Failure {
+    fn fmt<W: fmt::Write>(&self, f: &mut fmt::Formatter<W>) -> fmt::Result {
+        match self {
+            Failure::Read => f.write_str("cannot read standard input"),
+            Failure::Write => f.write_str("cannot write standard output"),
+        }
+    }
+}
+
+// A failure is told, and the status is 0 all the same, as the definition has it. Where standard error cannot be written either,
+// nothing is left by which to tell it.
+fn main(rt: HostRuntime) {
+    if let Err(failure) = run(&mut rt.stdin(), &mut rt.stdout()) {
+        let _ = eprintln!(rt; "minimal_sets: {failure}");
+    }
+}
+
+// Prints what the definition says of the reader's bytes, and nothing else. A contract knows the bytes of readers and writers in
+// memory, not those of the system; so `main` does no more than to hand these over.
+fn run<R: Read, W: Write>(reader: &mut R, writer: &mut W) -> Result<(), Failure>
+    ensures { OnOk result (IfSome (R.remaining reader.old) (λ input.
+        Appends (W.contents writer.old) (W.contents writer.new) (program_prints input))) }
+{
+    let mut input = [0u8; MOST_BYTES];
+    let Ok(count) = read_input(reader, &mut input) else {
+        return Err(Failure::Read);
+    };
+    let Ok(()) = print_answer(writer, &input[..count]) else {
+        return Err(Failure::Write);
+    };
+    Ok(())
+}
+
+// Reads until the input ends, the buffer is full or a read fails, and answers how many bytes are at the start of the buffer. A
+// read that a signal interrupts counts as one that failed.
+fn read_input<R: Read>(reader: &mut R, input: &mut [u8]) -> io::Result<usize>
+    ensures bound { ReadsAtMost result input.new }
+    ensures bytes { IfOk result (λ n.
+        Consumes (R.remaining reader.old) (R.remaining reader.new) (take n input.new)) }
+    ensures end { IfOk result (λ n. n < length input.new → IsAtEnd (R.remaining reader.new)) }
+{
     let mut filled = 0;
     while filled < input.len() {
-        let got = read_more(input, filled);
-        if got < 0 {
-            return got;
-        }
-        let more = io::count(got, &input[filled..]);
+        let more = read_more(reader, input, filled)?;
         if more == 0 {
-            return filled as isize;
+            return Ok(filled);
         }
         filled += more;
     }
-    filled as isize
+    Ok(filled)
 }
 
 // Reads once, into the buffer from a place on.
-fn read_more(input: &mut [u8], filled: usize) -> isize
+fn read_more<R: Read>(reader: &mut R, input: &mut [u8], filled: usize) -> io::Result<usize>
     requires { filled ≤ length input.old }
+    ensures front { take filled input.new ≡ take filled input.old }
+    ensures fits { IfOk result (λ n. filled + n ≤ length input.new) }
+    ensures bytes { IfOk result (λ n.
+        Consumes (R.remaining reader.old) (R.remaining reader.new) (take n (drop filled input.new))) }
+    ensures end { IfOk result (λ n.
+        n ≡ 0 → filled < length input.new → IsAtEnd (R.remaining reader.new)) }
 {
-    libc::read(STDIN_FILENO, &mut input[filled..])
+    reader.read(&mut input[filled..])
 }
 
-fn print_answer(input: &[u8]) {
+fn print_answer<W: Write>(writer: &mut W, input: &[u8]) -> io::Result<()>
+    ensures { OnOk result
+        (Appends (W.contents writer.old) (W.contents writer.new) (program_prints input.now)) }
+{
     let mut out = [0u8; printing::ROOM];
     let count = printing::answer(input, &mut out);
-    if !io::write_all(STDOUT_FILENO, &out[..count]) {
-        io::write_all(
-            STDERR_FILENO,
-            b"minimal_sets: cannot write standard output\n",
-        );
-    }
+    writer.write_all(&out[..count])
 }
