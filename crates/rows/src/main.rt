@@ -6,8 +6,9 @@
 
 ghost use Rattle.std.specs.Prelude.{◌≤◌, ◌≡◌, length};
 
-use libc::{STDIN_FILENO, STDOUT_FILENO};
 use listing::Listing;
+use std::io;
+use std::io::{ErrorKind, Read};
 use table::{Name, Number, Principal, Query, Refusal, layout};
 use verifier::Verdict;
 use writing::Written;
@@ -33,38 +34,47 @@ const LIST: Number = 1;
 const VERIFY: Number = 2;
 
 // A proved loop has to end, and nothing says that the input does: no run uses up so many turns.
-fn main() {
-    let mut turns = u64::MAX;
-    while turns > 0 && run_block() {
-        turns -= 1;
+fn main(rt: HostRuntime) -> io::Result<()> {
+    for _ in 0..u64::MAX {
+        if !run_block(&mut rt.stdin(), &rt)? {
+            break;
+        }
     }
+    Ok(())
 }
 
 // Runs one case; false at the end of the input.
-fn run_block() -> bool {
+fn run_block(reader: &mut impl Read, out: &impl Print) -> io::Result<bool> {
     let mut block = [0u8; BLOCK_BYTES];
-    if io::read_full(STDIN_FILENO, &mut block) < BLOCK_BYTES {
-        return false;
+    if !read_block(reader, &mut block)? {
+        return Ok(false);
     }
     let mut case = [0; BLOCK];
     decoding::decode(&block, &mut case);
-    run(&case);
-    true
+    run(out, &case)?;
+    Ok(true)
 }
 
-fn run(case: &[Number])
+// Reads a whole block; false where the input ends before it does, so that an incomplete one at the end is no case.
+fn read_block(reader: &mut impl Read, block: &mut [u8]) -> io::Result<bool> {
+    match reader.read_exact(block) {
+        Ok(()) => Ok(true),
+        Err(e) if e.kind() == ErrorKind::UnexpectedEof => Ok(false),
+        Err(e) => Err(e),
+    }
+}
+
+fn run(out: &impl Print, case: &[Number]) -> io::Result<()>
     requires { length case.now ≡ 512 }
 {
     let cells = layout::wide(case[5]);
     let record_at = HEAD + layout::wide(case[6]);
     let end = record_at + layout::wide(case[7]);
     if MOST_CELLS < cells {
-        print_bad();
-        return;
+        return print_bad(out);
     }
     if BLOCK < end {
-        print_bad();
-        return;
+        return print_bad(out);
     }
     let query = Query {
         principal: Principal(case[1]),
@@ -73,131 +83,158 @@ fn run(case: &[Number])
         depth: case[4],
     };
     match case[0] {
-        LIST => run_list(&case[HEAD..record_at], query, cells),
-        VERIFY => run_verify(&case[HEAD..record_at], query, &case[record_at..end]),
-        _ => print_bad(),
+        LIST => run_list(out, &case[HEAD..record_at], query, cells),
+        VERIFY => run_verify(out, &case[HEAD..record_at], query, &case[record_at..end]),
+        _ => print_bad(out),
     }
 }
 
-fn run_list(table: &[Number], query: Query, cells: usize)
+fn run_list(out: &impl Print, table: &[Number], query: Query, cells: usize) -> io::Result<()>
     requires { cells ≤ 64 }
 {
     let mut sets = [UNTOUCHED; MOST_CELLS];
-    run_lists(table, query, &mut sets[..cells]);
+    run_lists(out, table, query, &mut sets[..cells])
 }
 
 // As users list, and then with room for 0, 1 and 2 cuts, which is soon full: the same line each time.
-fn run_lists(table: &[Number], query: Query, sets: &mut [u32])
+fn run_lists(out: &impl Print, table: &[Number], query: Query, sets: &mut [u32]) -> io::Result<()>
     requires { length sets.old ≤ 64 }
 {
     let cells = sets.len();
-    run_list_into(table, query, sets);
-    let mut room = 0;
-    while room < ROOMS {
-        run_list_with(table, query, room, cells);
-        room += 1;
+    run_list_into(out, table, query, sets)?;
+    for room in 0..ROOMS {
+        run_list_with(out, table, query, room, cells)?;
     }
-    run_writes(table, query, sets);
+    run_writes(out, table, query, sets)
 }
 
-fn run_list_into(table: &[Number], query: Query, sets: &mut [u32]) {
+fn run_list_into(
+    out: &impl Print,
+    table: &[Number],
+    query: Query,
+    sets: &mut [u32],
+) -> io::Result<()> {
     match listing::list(table, query, sets) {
-        Listing::Listed(count) => print_row(0, count, sets),
-        Listing::Refused(why) => print_refused(why, sets),
+        Listing::Listed(count) => print_row(out, 0, count, sets),
+        Listing::Refused(why) => print_refused(out, why, sets),
     }
 }
 
-fn run_list_with(table: &[Number], query: Query, room: usize, cells: usize)
+fn run_list_with(
+    out: &impl Print,
+    table: &[Number],
+    query: Query,
+    room: usize,
+    cells: usize,
+) -> io::Result<()>
     requires { cells ≤ 64 }
 {
     let mut sets = [UNTOUCHED; MOST_CELLS];
-    run_list_with_into(table, query, room, &mut sets[..cells]);
+    run_list_with_into(out, table, query, room, &mut sets[..cells])
 }
 
-fn run_list_with_into(table: &[Number], query: Query, room: usize, sets: &mut [u32]) {
+fn run_list_with_into(
+    out: &impl Print,
+    table: &[Number],
+    query: Query,
+    room: usize,
+    sets: &mut [u32],
+) -> io::Result<()> {
     match listing::list_with(table, query, room, sets) {
-        Listing::Listed(count) => print_row(0, count, sets),
-        Listing::Refused(why) => print_refused(why, sets),
+        Listing::Listed(count) => print_row(out, 0, count, sets),
+        Listing::Refused(why) => print_refused(out, why, sets),
     }
 }
 
 // Records of the first two cells of the list, with room for 12 numbers and for 5, and of two sets that may not be on it.
-fn run_writes(table: &[Number], query: Query, sets: &[u32]) {
+fn run_writes(out: &impl Print, table: &[Number], query: Query, sets: &[u32]) -> io::Result<()> {
     if 1 <= sets.len() {
-        run_write(table, query, sets[0], MOST_NUMBERS);
-        run_write(table, query, sets[0], 5);
+        run_write(out, table, query, sets[0], MOST_NUMBERS)?;
+        run_write(out, table, query, sets[0], 5)?;
     }
     if 2 <= sets.len() {
-        run_write(table, query, sets[1], MOST_NUMBERS);
+        run_write(out, table, query, sets[1], MOST_NUMBERS)?;
     }
-    run_write(table, query, 0, 1);
-    run_write(table, query, 15, 1);
+    run_write(out, table, query, 0, 1)?;
+    run_write(out, table, query, 15, 1)
 }
 
-fn run_write(table: &[Number], query: Query, set: u32, cells: usize)
+fn run_write(
+    out: &impl Print,
+    table: &[Number],
+    query: Query,
+    set: u32,
+    cells: usize,
+) -> io::Result<()>
     requires { cells ≤ 12 }
 {
     let mut rec = [UNTOUCHED_NUMBER; MOST_NUMBERS];
-    run_write_into(table, query, set, &mut rec[..cells]);
+    run_write_into(out, table, query, set, &mut rec[..cells])
 }
 
-fn run_write_into(table: &[Number], query: Query, set: u32, rec: &mut [Number]) {
+fn run_write_into(
+    out: &impl Print,
+    table: &[Number],
+    query: Query,
+    set: u32,
+    rec: &mut [Number],
+) -> io::Result<()> {
     match writing::write(table, query, set, rec) {
-        Written::Length(len) => print_record(0, len, rec),
-        Written::Refused(why) => print_unwritten(why, rec),
+        Written::Length(len) => print_record(out, 0, len, rec),
+        Written::Refused(why) => print_unwritten(out, why, rec),
     }
 }
 
-fn print_unwritten(why: Refusal, rec: &[Number]) {
+fn print_unwritten(out: &impl Print, why: Refusal, rec: &[Number]) -> io::Result<()> {
     let reason = why.reason;
-    print_record(reason.number(), why.position, rec);
+    print_record(out, reason.number(), why.position, rec)
 }
 
 // As `print_row`, with the cells of a record.
-fn print_record(number: u32, value: usize, rec: &[Number]) {
-    io::print_decimal(STDOUT_FILENO, number as u64);
-    print_next(value as u64);
-    for i in 0..rec.len() {
-        print_next(layout::wide(rec[i]) as u64);
+fn print_record(out: &impl Print, number: u32, value: usize, rec: &[Number]) -> io::Result<()> {
+    print!(out; "{number}")?;
+    print_next(out, value as u64)?;
+    for cell in rec {
+        print_next(out, layout::wide(*cell) as u64)?;
     }
-    io::write_all(STDOUT_FILENO, b"\n");
+    println!(out;)
 }
 
-fn run_verify(table: &[Number], query: Query, rec: &[Number]) {
+fn run_verify(out: &impl Print, table: &[Number], query: Query, rec: &[Number]) -> io::Result<()> {
     match verifier::verify(table, query, rec) {
-        Verdict::Accepted(used) => print_row(0, used as usize, &[]),
-        Verdict::Refused(why) => print_refused(why, &[]),
+        Verdict::Accepted(used) => print_row(out, 0, used as usize, &[]),
+        Verdict::Refused(why) => print_refused(out, why, &[]),
     }
 }
 
-fn print_refused(why: Refusal, cells: &[u32]) {
+fn print_refused(out: &impl Print, why: Refusal, cells: &[u32]) -> io::Result<()> {
     let reason = why.reason;
-    print_row(reason.number(), why.position, cells);
+    print_row(out, reason.number(), why.position, cells)
 }
 
 // 0 and a value, or a refusal's number and position; then every cell of the buffer afterwards.
-fn print_row(number: u32, value: usize, cells: &[u32]) {
-    io::print_decimal(STDOUT_FILENO, number as u64);
-    print_next(value as u64);
-    print_cells(cells);
-    io::write_all(STDOUT_FILENO, b"\n");
+fn print_row(out: &impl Print, number: u32, value: usize, cells: &[u32]) -> io::Result<()> {
+    print!(out; "{number}")?;
+    print_next(out, value as u64)?;
+    print_cells(out, cells)?;
+    println!(out;)
 }
 
-fn print_cells(cells: &[u32]) {
-    for i in 0..cells.len() {
-        print_next(wide(cells[i]));
+fn print_cells(out: &impl Print, cells: &[u32]) -> io::Result<()> {
+    for cell in cells {
+        print_next(out, wide(*cell))?;
     }
+    Ok(())
 }
 
-fn print_next(number: u64) {
-    io::write_all(STDOUT_FILENO, b" ");
-    io::print_decimal(STDOUT_FILENO, number);
+fn print_next(out: &impl Print, number: u64) -> io::Result<()> {
+    print!(out; " {number}")
 }
 
 fn wide(cell: u32) -> u64 {
     cell as u64
 }
 
-fn print_bad() {
-    io::write_all(STDOUT_FILENO, b"bad\n");
+fn print_bad(out: &impl Print) -> io::Result<()> {
+    println!(out; "bad")
 }
