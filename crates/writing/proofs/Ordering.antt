@@ -17,11 +17,18 @@ pub data Order : List ℕ → List ℕ → Type 0 where
   same : {xs : List ℕ} → Order xs xs
   before : {xs ys : List ℕ} → Before xs ys → Order xs ys
 
+before-apart : {xs ys xs' ys' : List ℕ} → Before xs ys → Before ys' xs' → xs ≡ xs' → ys ≡ ys' → ⊥
+before-apart (smaller {x = x} {y = y} l) (smaller {x = y'} {y = x'} l') e e' =
+    let a : x ≡ x' = cc in let b : y ≡ y' = cc in omega arith
+before-apart (smaller {x = x} {y = y} l) (further {x = z} b) e e' =
+    let a : x ≡ z = cc in let b' : y ≡ z = cc in omega arith
+before-apart (further {x = z} b) (smaller {x = y} {y = x} l) e e' =
+    let a : z ≡ x = cc in let b' : z ≡ y = cc in omega arith
+before-apart (further {xs = xs} {ys = ys} b) (further {xs = ys'} {ys = xs'} b') e e' =
+    let tails : xs ≡ xs' = cc in let tails' : ys ≡ ys' = cc in before-apart b b' tails tails'
+
 pub before-once : {xs ys : List ℕ} → Before xs ys → Before ys xs → ⊥
-before-once (smaller l) (smaller l') = omega arith
-before-once (smaller l) (further b) = omega arith
-before-once (further b) (smaller l) = omega arith
-before-once (further b) (further b') = before-once b b'
+before-once b b' = before-apart b b' refl refl
 
 pub apart-before : {xs ys : List ℕ} → Order xs ys → (ys ≡ xs → ⊥) → Before xs ys
 apart-before same other = absurd (other refl)

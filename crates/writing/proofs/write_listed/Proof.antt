@@ -67,7 +67,7 @@ settled at = settled-by _ (asked at).requires.0.well_formed _ at.automata_of-bor
 -- the members of the set, as they have been found
 filled : (at : Ready) → let from = (asked at).args in
     let fill = at.fill-last in
-    Members from.table.now from.set from.query.depth fill.result fill.new.1.1.1.1.0
+    Members from.table.now from.set from.query.depth fill.result fill.new.rows
 filled at =
     rw at.wide.ensures.0 at at.fill-last.ensures
 

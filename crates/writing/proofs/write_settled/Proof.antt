@@ -79,7 +79,7 @@ returns-2 c =
     let pre = (asked c.before.before.before.before.before.before.before.before.before.before.before.before.before).requires.1 in
     let counted = c.from_goal-len.ensures.0 in
     counted-written _ pre.1.1.0 _ pre.0 refl counted c.if-cells-len.false
-    (rw (passed-by counted (cells c.before.before.before.before.before.before.before.before.before.before.before.before.before)) c c.from_goal.ensures.0)
+    (rw (passed-by counted (cells c.before.before.before.before.before.before.before.before.before.before.before.before.before)) at c.from_goal.ensures.0)
 
 pub write_settled_spec : {M : Type 1} → statement M
 write_settled_spec =
