@@ -43,7 +43,7 @@ abbrev decoding : NumbersDecoded → List ℕ
 decoding c = counting (read (whole-read c))
 
 abbrev places : NumbersDecoded → List ℕ
-places c = c.decode.new.1.0
+places c = c.decode.new.numbers
 
 few : (c : Read) → length (counting c) / 2 ≤ 2048
 few c = read-few (bytes c) _ c.counted-read.ensures
