@@ -18,7 +18,7 @@ Installs the C header, the static and the shared library, the pkg-config file an
   --help         print this text
 
 It needs a C compiler, cc or what CC names, and target/staticlib/libbwlchareg.a, which
-`rt staticlib bwlchareg` makes; BWLCHAREG_LIB_DIR names another directory that has the archive.
+`tools/build.sh library` makes; BWLCHAREG_LIB_DIR names another directory that has the archive.
 With DESTDIR set, the files go below that directory instead, as packages need it.
 END
 }
@@ -138,7 +138,7 @@ source=$(cd "$(dirname "$0")" && pwd)
 root=$(dirname "$source")
 cc=${CC:-cc}
 archive=${BWLCHAREG_LIB_DIR:-$root/target/staticlib}/libbwlchareg.a
-remedy="run \`rt staticlib bwlchareg\` in $root; nothing is installed"
+remedy="run \`tools/build.sh library\` in $root; nothing is installed"
 version=$(sed -n 's/^#define BWLCHAREG_VERSION "\(.*\)"$/\1/p' "$source/c/bwlchareg.h")
 library=libbwlchareg.so.$version
 soname=${library%.*}

@@ -96,7 +96,7 @@ check 'relative prefix' refused 2 '--prefix must be an absolute path: target' --
 check 'space in prefix' refused 2 '--prefix must not have spaces' "--prefix=$work/a b"
 check 'prefix not writable' refused 1 'cannot make the directory /proc/new' --prefix=/proc/new
 check 'no compiler' refused 1 'there is no C compiler no-cc' "$to" CC=no-cc
-check 'no archive' refused 1 'libbwlchareg.a is missing: run `rt staticlib bwlchareg` in' \
+check 'no archive' refused 1 'libbwlchareg.a is missing: run `tools/build.sh library` in' \
     "$to" BWLCHAREG_LIB_DIR="$work/archive"
 echo 'unsigned bwlchareg_version(void) { return 600; }' >"$work/old.c"
 cc -c "$work/old.c" -o "$work/archive/libbwlchareg.a"

@@ -12,7 +12,7 @@ fn main() {
     let archive = directory.join("libbwlchareg.a");
     if !archive.exists() {
         println!(
-            "cargo:warning={} is not there; `rt staticlib bwlchareg` writes it to \
+            "cargo:warning={} is not there; `tools/build.sh library` writes it to \
              target/staticlib, and BWLCHAREG_LIB_DIR names another directory",
             archive.display()
         );

@@ -1,11 +1,11 @@
 //! The cases that the test program `crates/rows` runs.
 //!
 //! They are for what neither a theorem nor the comparison shows: that the
-//! programs which the kit's interpreter and its compiler make of the proved code
-//! give the right answers. So they are few and small: all rows of the shop
-//! example, then every refusal, kind, label and size of buffer, a club, whose
-//! role comes again on a branch, automata that share edges, and automata of both
-//! marks. Each list is made with little room for cuts too, which no call of the bindings does, and
+//! programs which the kit's two compilers make of the proved code give the right
+//! answers. So they are few and small: all rows of the shop example, then every
+//! refusal, kind, label and size of buffer, a club, whose role comes again on a
+//! branch, automata that share edges, and automata of both marks. Each list is
+//! made with little room for cuts too, which no call of the bindings does, and
 //! after it records are written for the first sets of the list and for others.
 //!
 //! To add a case, add a line to [`cases`], at the end of its part, and make the
@@ -18,10 +18,8 @@
 //! $blocks output > crates/rows/stdout
 //! ```
 //!
-//! The answers are this implementation's. `rt check rows` then compares them
-//! with those of the proved program, and `rt try rows` with the interpreter's
-//! and the compiler's at every level; the interpreter stops after ten million
-//! steps.
+//! The answers are this implementation's. `rt ci rows` then compares them with
+//! those of the proved program, as each of the kit's two compilers makes it.
 
 mod by_mark;
 

@@ -1,6 +1,6 @@
 //! The listing program on its standard input, against the reference: whole, in
 //! pieces, too short, of odd length and too long; and a read or a write that
-//! fails. `rt check minimal_sets` builds it, as the gate does before these tests.
+//! fails. `tools/build.sh program` builds it, as the gate does before these tests.
 
 use std::fmt::Write as _;
 use std::fs::File;
@@ -37,7 +37,7 @@ fn printed(pieces: &[&[u8]]) -> String {
         .stdin(Stdio::piped())
         .stdout(Stdio::piped())
         .spawn()
-        .expect("the listing program: build it with `rt check minimal_sets`");
+        .expect("the listing program: build it with `tools/build.sh program`");
     let mut stdin = child.stdin.take().expect("its standard input");
     for (i, piece) in pieces.iter().enumerate() {
         if i > 0 {

@@ -1,5 +1,5 @@
 //! The listing program and the checker give the same answers, and the words for
-//! them have all that they should. `rt check minimal_sets` builds the program, as
+//! them have all that they should. `tools/build.sh program` builds the program, as
 //! the gate does before.
 
 mod common;

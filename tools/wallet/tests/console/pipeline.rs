@@ -166,7 +166,7 @@ fn program(name: &str) -> Result<PathBuf, String> {
         "wallet" => Ok(PathBuf::from(env!("CARGO_BIN_EXE_wallet"))),
         "minimal_sets" => {
             let path = super::root().join("target/bin/minimal_sets");
-            let missing = "target/bin/minimal_sets is missing; `rt check minimal_sets` builds it";
+            let missing = "target/bin/minimal_sets is missing; `tools/build.sh program` builds it";
             path.exists().then_some(path).ok_or(missing.to_string())
         }
         _ => Err(format!("{name} is not one of the programs that pages run")),
