@@ -29,6 +29,7 @@ APART = "-- APART"
 # the public calls, whose contracts say what is proved of the code
 CALLS = {
     "bwlchareg": None,
+    "bwlchareg_c": None,
     "checks": ["check_table", "check_query", "check_request"],
     "verifier": ["verify"],
     "listing": ["list"],
@@ -40,9 +41,9 @@ CALLS = {
 SAID = {
     ("verifier", "Verdict", "verdict"): "DemandOne, DemandTwo, EveryRefusal",
     ("listing", "Minimal", "listing"): "DemandOne, DemandThree",
-    ("listing", "Minimal", "bufferAfter"): "DemandOne, DemandThree",
+    ("listing", "Minimal", "buffer_after"): "DemandOne, DemandThree",
     ("writing", "Writing", "writing"): "WritesFirst",
-    ("writing", "Writing", "recordAfter"): "WritesFirst",
+    ("writing", "Writing", "record_after"): "WritesFirst",
 }
 
 KEYWORDS = ("use ", "pub mod ", "mod ", "infixr ", "infixl ", "infix ", "unfolding ", "module ")
@@ -82,12 +83,9 @@ def imported(module, line):
     path = path.strip().rstrip(";")
     path, _, alias = path.partition(" as ")
     parts = path.split(".")
-    if not parts[0].startswith("Rattle·"):
+    if len(parts) < 4 or parts[0] != "Rattle" or parts[2] != "specs":
         return
-    crate = parts[0][len("Rattle·"):].split("·")[0]
-    kind, inside = parts[1], parts[2:]
-    if kind != "specs":
-        return
+    crate, inside = parts[1], parts[3:]
     if not names:
         module.modules[alias or inside[-1]] = (crate, inside)
         return
@@ -140,7 +138,7 @@ def read_declared(crate, folder):
 
 class Product:
     def __init__(self):
-        self.crates = [l.split(":")[0] for l in (ROOT / "crates.txt").read_text().splitlines() if l and l[0] != "#"]
+        self.crates = [l.split(":")[0].split()[0] for l in (ROOT / "crates.txt").read_text().splitlines() if l and l[0] != "#"]
         self.specs, self.declared = {}, {}
         for crate in self.crates:
             folder = ROOT / "crates" / crate
@@ -153,7 +151,7 @@ class Product:
         """The definition of a name that a path leads to; a constructor leads to its type."""
         if inside[0] == "declared":
             for part in [name] + inside[::-1]:
-                if part in self.declared[crate]:
+                if part in self.declared.get(crate, {}):
                     return self.declared[crate][part]
             return None
         module = self.specs.get((crate, inside[0]))
@@ -166,8 +164,7 @@ class Product:
 
     def named(self, module, token):
         """The definition that a token of a file means, or None for the kit's names and for variables."""
-        token = token.strip("⌜⌝")
-        for spelling in (token, "_" + token + "_"):
+        for spelling in (token, f"◌{token}◌"):
             if spelling in module.defined:
                 return module.defined[spelling]
             if spelling in module.imports:
@@ -178,7 +175,8 @@ class Product:
         if dot and first in module.modules:
             crate, inside = module.modules[first]
             return self.at(crate, inside, rest)
-        return None
+        # a field, which stands right after what has it
+        return self.named(module, first) if dot and first else None
 
     def references(self, definition):
         crate, stem, _ = definition.place
