@@ -10,7 +10,10 @@ name=$2
 order='cat'
 if [ "${3:-}" = turned ]; then order='tac'; fi
 
-functions=$(objdump -h "$archive" | awk '$2 ~ /^\.text\./ { print $2 }' | $order)
+# A generic function's section has its types in its name, with spaces and other characters: so names are quoted, and what a
+# pattern would read otherwise stands for any character.
+functions=$(objdump -hw "$archive" |
+    sed -nE 's/^ *[0-9]+ (\.text\..*[^ ]) +[0-9a-f]{8} +[0-9a-f]{16} .*/\1/p' | sed 's/[][*?\"]/?/g' | $order)
 if [ -z "$functions" ]; then
     echo "$archive: no function has a section of its own" >&2
     exit 1
@@ -19,8 +22,7 @@ fi
 for at in 0 16 32 48; do
     {
         echo 'SECTIONS { .code : {'
-        # shellcheck disable=SC2059,SC2086 # a line for each function
-        printf ". = ALIGN(64) + $at; *(%s)\n" $functions
+        echo "$functions" | sed "s/.*/. = ALIGN(64) + $at; *(\"&\")/"
         echo '} } INSERT AFTER .text;'
     } > "$name.ld"
     cc -shared -o "$name-$at.so" -Wl,-T,"$name.ld" \
