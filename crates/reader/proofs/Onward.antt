@@ -118,6 +118,11 @@ pub record Node (t : List ℕ) (levels : ℕ) (branch : Branch) (g : Goal) (rec 
   pub enters : stepped step rec ≡ entry t (may levels (above branch) g) g rec
   pub goes : step.refusal ≡ 0
 
+pub entered-node : {t : List ℕ} {levels : ℕ} {branch : Branch} {g : Goal} {rec : List ℕ} {step : Step} → WellFormed t
+    → GoalsFit most_parts step.len step.goals × (stepped step rec ≡ entry t (may levels (above branch) g) g rec)
+    → step.refusal ≡ 0 → Node t levels branch g rec step
+entered-node table told goes = record { table = table; held = told.0; enters = told.1; goes = goes }
+
 -- what the code keeps for its children
 pub record Down (t : List ℕ) (branch : Branch) (g : Goal) (s : StateSets) (step : Step) (used every some : ℕ)
     (deeper : List Goal) (below : StateSets) (used₀ every₀ some₀ : ℕ) : Type 0 where
@@ -201,6 +206,16 @@ module _ {t : List ℕ} {levels : ℕ} {branch : Branch} {g : Goal} {s : StateSe
         → (refusal'' ≡ 0 → ⊥) → ReadOn t levels (above branch) g s rec used nodes every some rec used'' nodes'' every'' some'' refusal''
     child-stops less child stops =
         stops-told stops (onward_stops o less child stops ∙ node-whole)
+
+-- what is kept of a node for its children, by what the code has called
+pub kept-down : {t : List ℕ} {levels : ℕ} {branch : Branch} {g : Goal} {rec : List ℕ} {step : Step}
+    → Node t levels branch g rec step → {c : ℕ} → c ≡ step.credential → (s : StateSets) {x : Moved}
+    → x ≡ moved_on t (credential t (suc (c - 1))).role s → {used every some used₀ every₀ some₀ : ℕ}
+    → used₀ ≡ bit_or used (2 ^ (step.credential - 1))
+    → (every₀ ≡ after_node bit_and t every x.states step.len) × (some₀ ≡ after_node bit_or t some x.states step.len)
+    → {deeper : List Goal} → deeper ≡ g ∷ above branch → Down t branch g s step used every some deeper x.states used₀ every₀ some₀
+kept-down n place s moves uses keeps branches =
+    record { branches = branches; moves = node-moves n place s moves; uses = uses; keeps = keeps }
 
 -- a node that the code could not enter
 pub node-halts : {t : List ℕ} {levels : ℕ} {g : Goal} {s : StateSets} {rec : List ℕ} {used nodes every some : ℕ}

@@ -81,7 +81,8 @@ pub fn read<'a>(
             some,
             refusal,
         );
-        if *refusal != 0 {
+        let refused = *refusal != 0;
+        if refused {
             return rec;
         }
         rest = next;
