@@ -1,12 +1,11 @@
 -- Two meanings that agree accept the same records, renumbered, as far as these use none but the credentials on which they agree.
 -- So they have the same used sets, the same sets that admit a record, and the same minimal sets, renumbered.
-use mathlib.Core.Path.{◌≡◌, refl, sym, ap, ◌∙◌}
+use mathlib.Core.Path.{◌≡◌, ap, ◌∙◌}
 use mathlib.Core.List.{List}
 use mathlib.Core.Bool.{Bool, true}
-use Prim.Native.Nat.{ℕ, suc, ◌-◌, ◌≤◌}
+use Prim.Native.Nat.{ℕ, suc, ◌-◌}
 use native.Mathlib.Omega.{arith}
 use borrow.Author.Tests.{eqb-true}
-use Rattle.sets.specs.Sets.{in_set, part}
 use Rattle.sets.proofs.Tests.{false-true, or-either}
 use Rattle.sets.proofs.Members.{part-member}
 use Rattle.table.specs.Layout.{Numbered}

@@ -1,6 +1,6 @@
 -- An accepted table of today's layout means what its records mean.
 use mathlib.Core.Path.{◌≡◌, refl, sym, ap, ap₂, fun_ext, ◌∙◌}
-use mathlib.Core.List.{List, [], ◌∷◌}
+use mathlib.Core.List.{List}
 use mathlib.Core.Bool.{Bool, true, false}
 use mathlib.Core.Option.{Option, none}
 use Prim.Native.Nat.{ℕ, zero, suc, ◌≤◌}
@@ -23,7 +23,7 @@ use Rattle.table.specs.declared.Goal.{Goal}
 use Rattle.table.specs.declared.Role.{Role}
 use Rattle.table.proofs.Fields.{range-within, within-range}
 use Rattle.table.proofs.WellFormed.{wf-cell, wf-credential}
-use Rattle.automata.specs.Automata.{accepts, accepts_from, moved, moved_by, run_by, starting}
+use Rattle.automata.specs.Automata.{accepts, accepts_from, moved, moved_by, starting}
 use Rattle.derivation.specs.Rules.{asks, asks_by, premises, premises_by, usable, usable_by}
 use Rattle.derivation.specs.Words.{demanded_by, is_met}
 use Rattle.agreement.specs.Meaning.{demands_of, meaning}

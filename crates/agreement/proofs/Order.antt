@@ -9,7 +9,7 @@ use native.Mathlib.Numerals.{sub-one}
 use native.Mathlib.Decide.{dec_lt, ℕ_discrete}
 use lib.Dec.{ltb}
 use Rattle.sets.specs.Logic.{◌and◌}
-use Rattle.sets.specs.Sets.{in_set, set_of}
+use Rattle.sets.specs.Sets.{in_set}
 use Rattle.sets.proofs.Tests.{false-true, refuted}
 use Rattle.sets.proofs.Members.{even, member-next, odd, same-members, set_of-members}
 use Rattle.agreement.specs.Agrees.{Among, KeepsOrder, Renumbers, renumbered}

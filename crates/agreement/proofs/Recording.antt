@@ -1,18 +1,17 @@
 -- Credentials that say the same ask, end and demand the same; so tables whose credentials are alike agree.
 use mathlib.Core.Path.{◌≡◌, refl, sym, ap, ap₂, fun_ext, ◌∙◌}
 use mathlib.Core.List.{List, [], ◌∷◌}
-use mathlib.Core.Bool.{Bool, true, false}
-use mathlib.Core.Option.{Option, none}
-use Prim.Native.Nat.{ℕ, suc}
+use mathlib.Core.Bool.{Bool, true}
+use Prim.Native.Nat.{ℕ}
 use native.Mathlib.Omega.{arith}
 use native.Mathlib.Decide.{ℕ_discrete}
 use lib.Dec.{eqb}
 use borrow.Author.Tests.{eqb-true, eq-eqb, ne_eqb}
-use Rattle.sets.specs.Logic.{◌and◌, ◌or◌, pick}
+use Rattle.sets.specs.Logic.{◌or◌, pick}
 use Rattle.sets.specs.Sets.{in_set}
 use Rattle.sets.proofs.Tests.{and_both, and_first, and_second, same_test}
 use Rattle.sets.proofs.Members.{same-members}
-use Rattle.table.specs.Layout.{Numbered, automata, automaton, credential, credentials, edge, edges, parts, same_role}
+use Rattle.table.specs.Layout.{credential, credentials, edge, edges, parts}
 use Rattle.table.proofs.Fields.{range-within}
 use Rattle.table.specs.declared.Goal.{Goal}
 use Rattle.table.specs.declared.Role.{Role}

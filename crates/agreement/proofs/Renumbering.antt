@@ -1,22 +1,17 @@
 -- Sets of credentials, renumbered: there and back, parts and used sets; so the least used sets are those of the counterparts.
-use mathlib.Core.Path.{◌≡◌, refl, sym, ap, ◌∙◌}
-use mathlib.Core.List.{List, [], ◌∷◌}
-use mathlib.Core.Bool.{Bool, true, false}
-use Prim.Native.Nat.{ℕ, zero, suc, ◌-◌, ◌^◌, ◌<◌, ◌≤◌}
+use mathlib.Core.Path.{◌≡◌, sym, ap, ◌∙◌}
+use mathlib.Core.Bool.{Bool, true}
+use Prim.Native.Nat.{ℕ, suc, ◌-◌, ◌≤◌}
 use native.Mathlib.Omega.{arith}
 use native.Mathlib.Numerals.{sub-one}
-use lib.Bits.{bit_or}
-use lib.Dec.{eqb, eqb-suc-suc}
-use borrow.Author.Tests.{eqb-false, lt-ltb}
-use Rattle.sets.specs.Logic.{◌and◌, ◌or◌}
-use Rattle.sets.specs.Sets.{in_set, part, set_of}
-use Rattle.sets.proofs.Tests.{and_both, and_first, and_second, or_assoc, or-false, or-none, refuted, same_test}
-use Rattle.sets.proofs.Members.{in_set-or, in_set-pow, in_set-zero, part-member, part-shown, same-members, set_of-members}
-use Rattle.table.specs.Layout.{Numbered}
-use Rattle.derivation.specs.Forest.{Forest, names, used_from, used_set}
-use Rattle.derivation.specs.Forest.Forest.{end, node}
+use borrow.Author.Tests.{lt-ltb}
+use Rattle.sets.specs.Logic.{◌or◌}
+use Rattle.sets.specs.Sets.{in_set, part}
+use Rattle.sets.proofs.Tests.{and_both, and_first, and_second, refuted, same_test}
+use Rattle.sets.proofs.Members.{in_set-zero, part-member, part-shown, same-members, set_of-members}
+use Rattle.derivation.specs.Forest.{Forest, names, used_set}
 use Rattle.derivation.proofs.Using.{used-member}
-use Rattle.agreement.specs.Agrees.{Among, Leads, MinimalOf, Renumbers, renamed, renumbered}
+use Rattle.agreement.specs.Agrees.{Among, MinimalOf, Renumbers, renamed, renumbered}
 use Rattle.agreement.proofs.Carrying.{named-on}
 
 -- a forest that names no 0 has in its used set those that it names

@@ -9,7 +9,7 @@ use native.Mathlib.Numerals.{add-one}
 use native.Mathlib.Decide.{ℕ_discrete}
 use lib.ListN.{get_or}
 use lib.Bits.{bit_and, bit_or}
-use Rattle.sets.specs.Logic.{◌and◌, ◌or◌, any_below, pick}
+use Rattle.sets.specs.Logic.{◌and◌, any_below, pick}
 use Rattle.sets.specs.Sets.{in_set, meets, part}
 use Rattle.sets.proofs.Tests.{and_both, and_first, and-is-off, and_second, any_next, any_none, any-not, any-reached}
 use Rattle.sets.proofs.Tests.{refuted, same_test}

@@ -10,7 +10,6 @@ use lib.ListN.{length, take}
 use borrow.Author.Tests.{eqb-true}
 use Rattle.sets.specs.Logic.{◌and◌, pick}
 use Rattle.table.specs.Layout.{Numbered, cell, chain, credential, credentials, parts, parts_by, role, same_role}
-use Rattle.table.specs.Checks.{within}
 use Rattle.table.specs.declared.Role.{Role}
 use Rattle.table.specs.declared.Goal.{Goal}
 use Rattle.sets.proofs.Tests.{and_first, and_second}

@@ -3,13 +3,12 @@
 use mathlib.Core.Path.{◌≡◌, refl, sym, ◌∙◌}
 use mathlib.Core.List.{List, [], ◌∷◌}
 use mathlib.Core.Bool.{Bool, true, false, not}
-use mathlib.Core.Logic.{◌↔◌}
 use Prim.Native.Nat.{ℕ, zero, suc, ◌<◌}
 use native.Mathlib.Omega.{arith}
 use lib.ListN.{get_or, length}
 use Rattle.sets.specs.Logic.{◌or◌, pick}
 use Rattle.sets.proofs.Tests.{and_both, and_first, and_second, false-true, or-either, or-first, or-second, refuted}
-use Rattle.table.specs.Layout.{Numbered, automata, automaton, credential}
+use Rattle.table.specs.Layout.{Numbered, automata, credential}
 use Rattle.table.specs.Holding.{WellFormed}
 use Rattle.table.specs.declared.Goal.{Goal}
 use Rattle.table.specs.declared.Role.{Role}

@@ -1,5 +1,4 @@
 -- The depth of a valid query is at least one level, and a branch has room for all of them.
-use mathlib.Core.Path.{◌≡◌}
 use Prim.Native.Nat.{◌≤◌}
 use borrow.Author.Tests.{leb-true}
 use Rattle.sets.proofs.Tests.{and_first, and_second}

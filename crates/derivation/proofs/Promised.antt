@@ -7,7 +7,6 @@ use Prim.Native.Nat.{ℕ, zero, suc, ◌<◌}
 use native.Mathlib.Omega.{arith}
 use lib.ListN.{get_or, length}
 use borrow.Author.Tests.{eq-eqb, eqb-true, not-true}
-use Rattle.sets.specs.Logic.{◌and◌}
 use Rattle.sets.proofs.Tests.{and_both, and_first, and_second, false-true, refuted}
 use Rattle.table.specs.Layout.{principal, same_role}
 use Rattle.table.specs.declared.Goal.{Goal}

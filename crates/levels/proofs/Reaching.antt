@@ -17,7 +17,6 @@ use Rattle.sets.proofs.Members.{part-member, set_of-members}
 use Rattle.table.specs.Limits.{most_credentials, most_depth}
 use Rattle.table.specs.Layout.{credential, credentials, same_role}
 use Rattle.table.specs.Holding.{WellFormed}
-use Rattle.table.specs.declared.Role.{Role}
 use Rattle.table.specs.declared.Goal.{Goal}
 use Rattle.members.specs.Places.{person_at, role_at}
 use Rattle.members.specs.Trying.{every_goal, may_use, proves_by}

@@ -1,16 +1,14 @@
 -- Verdicts, sets that admit a record and minimal sets of tables that are alike.
-use mathlib.Core.Path.{◌≡◌}
 use mathlib.Core.List.{List}
 use mathlib.Core.Bool.{Bool}
 use Prim.Native.Nat.{ℕ}
-use Rattle.sets.specs.Sets.{part}
 use Rattle.table.specs.Layout.{credentials}
 use Rattle.table.specs.Checks.{AcceptedTable, Valid}
 use Rattle.table.specs.declared.Query.{Query}
 use Rattle.verifier.proofs.DemandTwo.{demand-two}
-use Rattle.listing.specs.Demands.{Admitted, Minimal, Used}
+use Rattle.listing.specs.Demands.{Minimal, Used}
 use Rattle.agreement.specs.Meaning.{UsedIn, meaning}
-use Rattle.agreement.specs.Agrees.{Agrees, Among, MinimalOf}
+use Rattle.agreement.specs.Agrees.{Agrees, MinimalOf}
 use Rattle.agreement.proofs.Tables.{accepted-in, in-accepted}
 use Rattle.agreement.proofs.Agreeing.{admitted-carried, minimal-agrees}
 use Rattle.agreement.proofs.Recording.{alike-agrees}

@@ -1,18 +1,16 @@
 -- The kept credentials are renumbered: each new number is one of as many as are kept, and leads back.
-use mathlib.Core.Path.{◌≡◌, refl, sym, ap, ◌∙◌}
+use mathlib.Core.Path.{◌≡◌, refl, ap, ◌∙◌}
 use mathlib.Core.List.{List, [], ◌∷◌, ◌++◌}
 use mathlib.Core.Bool.{Bool, true}
-use Prim.Native.Nat.{ℕ, suc, ◌+◌, ◌-◌, ◌<◌, ◌≤◌}
+use Prim.Native.Nat.{ℕ, suc, ◌-◌, ◌<◌}
 use native.Mathlib.Omega.{arith}
 use native.Mathlib.Numerals.{sub-one}
 use lib.ListN.{get_or, length, length-append, get_or-append}
 use lib.Seq.{get_or_at}
-use Rattle.sets.specs.Logic.{◌and◌}
 use Rattle.sets.proofs.Tests.{and_both, and_first, and_second}
 use Rattle.sorted.specs.Sorted.{those}
 use Rattle.sorted.proofs.Lists.{those-begin, those-takes}
 use Rattle.sorted.proofs.Ascending.{one_place, those-numbers}
-use Rattle.table.specs.Layout.{Numbered}
 use Rattle.table.specs.Checks.{within}
 use Rattle.table.proofs.Fields.{range-within, within-range}
 use Rattle.agreement.specs.Agrees.{KeepsOrder, Renumbers}

@@ -1,13 +1,11 @@
 -- Where every accepted record uses none but such credentials, the lists of tables that are alike have each other's sets.
-use mathlib.Core.Path.{◌≡◌, refl, sym, ap, ◌∙◌}
+use mathlib.Core.Path.{◌≡◌, refl, ap, ◌∙◌}
 use mathlib.Core.List.{List, [], ◌∷◌, map}
-use mathlib.Core.Bool.{Bool, true, false}
-use Prim.Native.Nat.{ℕ, zero, suc, ◌^◌, ◌<◌, ◌≤◌}
+use mathlib.Core.Bool.{Bool, true}
+use Prim.Native.Nat.{ℕ, zero, suc, ◌^◌, ◌<◌}
 use native.Mathlib.Omega.{arith}
 use lib.ListN.{get_or, length, length-map}
-use lib.Dec.{eqb}
 use borrow.Author.Tests.{eqb-true, eq-eqb}
-use Rattle.sets.specs.Logic.{◌or◌}
 use Rattle.sets.proofs.Tests.{false-true, or-either, or-first, or-second}
 use Rattle.sorted.proofs.Ascending.{Ascending, Stands, one_list, those-numbers}
 use Rattle.table.specs.Layout.{credentials}

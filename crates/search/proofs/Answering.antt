@@ -12,36 +12,35 @@ use lib.ListN.{get_or, length, set}
 use lib.Seq.{get_or-set_same, get_or-set_other}
 use lib.Bits.{bit_and, bit_or}
 use lib.Dec.{eqb}
-use borrow.Author.Tests.{eq-eqb, ne_eqb}
-use Rattle.sets.specs.Logic.{◌and◌, ◌or◌, any_below}
+use borrow.Author.Tests.{ne_eqb}
+use Rattle.sets.specs.Logic.{◌and◌, any_below}
 use Rattle.sets.specs.Sets.{in_set, part}
 use Rattle.sets.proofs.Tests.{and_both, and_first, and_is, and-is-off, and_none, and_second, any-shows, false-true, or-first, refuted}
 use Rattle.sets.proofs.Members.{in_set-or, part-le, part-or, part-or-left, part-or-right, part-refl, part-trans, part-zero}
-use Rattle.families.specs.Families.{FamilyOf, all_sets, covers, in_family, joins}
+use Rattle.families.specs.Families.{FamilyOf, all_sets, in_family, joins}
 use Rattle.families.specs.declared.Family.{Family}
-use Rattle.table.specs.Limits.{most_parts}
 use Rattle.table.specs.Layout.{credential, credentials}
 use Rattle.automata.specs.Together.{accepting_set}
 use Rattle.automata.specs.declared.StateSets.{StateSets}
 use Rattle.members.specs.Above.{nothing_above}
 use Rattle.members.specs.declared.above.Above.{Above}
-use Rattle.members.specs.Members.{asked_cell, roles_asked}
+use Rattle.members.specs.Members.{asked_cell}
 use Rattle.failures.specs.Failures.{Joined}
 use Rattle.goals.specs.Goals.{Trimmed}
-use Rattle.search.specs.Asking.{Fits, Pair, SameLater, asked_pairs, pair, pairs_from, role_pairs}
+use Rattle.search.specs.Asking.{Pair, SameLater, asked_pairs, pair, pairs_from, role_pairs}
 use Rattle.search.specs.declared.asking.Asked.{Asked}
 use Rattle.search.specs.Search.{AllStand, Searchable, Stands, Tried, ends, proves_at, shares}
 use Rattle.families.proofs.Covering.{covers-only}
 use Rattle.search.specs.Failing.{Bounds, Covers, Fails, Finds, Judged, LaterJudged, goal_test, no_family, own_test, shared_test}
 use Rattle.search.proofs.Pairs.{asked-end, asked-from}
-use Rattle.search.proofs.Owing.{ends-less, proves-less}
+use Rattle.search.proofs.Owing.{proves-less}
 use Rattle.search.proofs.Sharing.{part_none, shares-member, shares-reached}
 use Rattle.search.proofs.Placing.{cell-middles, cell-named}
 use Rattle.search.proofs.Trying.{stands-part}
 use Rattle.search.proofs.Below.{linked_test}
-use Rattle.search.proofs.Failing.{covered-both, covers-none, fails-first, fails-second}
+use Rattle.search.proofs.Failing.{covered-both, fails-first, fails-second}
 use Rattle.search.proofs.Judging.{and_left, and_right, judged-enough, judged-failed, judged-joined, judged-more, judged-never, judged-only, part-and}
-use Rattle.search.proofs.Judging.{judged-same, judged-trimmed, no-sets, none-covered, some-covered}
+use Rattle.search.proofs.Judging.{judged-same, judged-trimmed, no-sets, none-covered}
 
 -- where nothing is owed there is one set to be met, the empty one
 module _ {O : ℕ} (unowed : O ≡ 0) {test : ℕ → Above → Bool} {above : Above} {found : Family} {blocking : Above} where

@@ -4,21 +4,18 @@
 use mathlib.Core.Path.{◌≡◌, refl, sym, ap, ◌∙◌}
 use mathlib.Core.List.{List, [], ◌∷◌}
 use mathlib.Core.Bool.{Bool, true, false, not}
-use mathlib.Core.Logic.{◌⊎◌}
-use Prim.Native.Nat.{ℕ, suc, ◌+◌, ◌-◌, ◌^◌, ◌<◌, ◌≤◌}
+use Prim.Native.Nat.{ℕ, suc, ◌+◌, ◌-◌, ◌<◌}
 use native.Mathlib.Omega.{arith}
-use lib.ListN.{get_or}
 use lib.Bits.{bit_or}
 use lib.Dec.{eqb, ltb}
 use borrow.Author.Tests.{eqb-true, eqb-false, ltb-true, ltb-false, not-true}
-use Rattle.sets.specs.Logic.{◌and◌, ◌or◌, any_below}
-use Rattle.sets.specs.Sets.{in_set, part}
+use Rattle.sets.specs.Logic.{◌or◌, any_below}
 use Rattle.sets.proofs.Tests.{and_both, and_first, and_is, and_none, and_second, any-reached, any-shows, false-true, or-either}
 use Rattle.sets.proofs.Tests.{passed}
 use Rattle.sets.proofs.Tests.{or-second, refuted}
-use Rattle.sets.proofs.Members.{in_set-or, part-le, part-member, part-zero}
+use Rattle.sets.proofs.Members.{in_set-or, part-le, part-member}
 use Rattle.sets.proofs.Without.{part-fails}
-use Rattle.families.specs.Families.{FamilyOf, all_sets, covers, in_family, is_part}
+use Rattle.families.specs.Families.{FamilyOf, all_sets, in_family, is_part}
 use Rattle.families.specs.declared.Family.{Family}
 use Rattle.families.proofs.Covering.{covers_more}
 use Rattle.families.proofs.Words.{part-within}
@@ -28,13 +25,11 @@ use Rattle.automata.specs.declared.Moved.{Moved}
 use Rattle.automata.specs.declared.StateSets.{StateSets}
 use Rattle.members.specs.Above.{nothing_above, pair_above, with_pair}
 use Rattle.members.specs.declared.above.Above.{Above}
-use Rattle.masks.specs.Masks.{asked_members}
-use Rattle.members.specs.Members.{Indexed, asked_cell, lesser}
-use Rattle.members.specs.Places.{is_person}
+use Rattle.members.specs.Members.{Indexed}
 use Rattle.failures.specs.Failures.{Joined, Spared}
 use Rattle.goals.specs.Goals.{Left, may_be_proved, stepped, stepped_on, usable}
 use Rattle.search.specs.Asking.{Pair, pair}
-use Rattle.search.specs.Search.{Searchable, Stands, Tried, ends, goal_at, proves, proves_at, proves_with, shares}
+use Rattle.search.specs.Search.{Searchable, Stands, ends, goal_at, proves, proves_at, proves_with, shares}
 use Rattle.search.specs.Failing.{Bounds, Covers, Fails, Finds, Judged, Sought, Wide, any_test, goal_test}
 use Rattle.search.specs.Failing.{own_test, shared_test}
 use Rattle.search.proofs.Failing.{covered-above, covers-none, failed-again, fails-above}

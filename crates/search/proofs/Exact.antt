@@ -11,7 +11,7 @@ use lib.ListN.{length}
 use lib.Bits.{bit_or}
 use lib.Dec.{eqb}
 use borrow.Author.Tests.{eqb-true}
-use Rattle.sets.specs.Logic.{◌and◌, ◌or◌}
+use Rattle.sets.specs.Logic.{◌and◌}
 use Rattle.sets.proofs.Tests.{and_both, and_first, and_second, any-reached, false-true, or-either, refuted, same_test}
 use Rattle.sets.proofs.Members.{part-or, part-zero}
 use Rattle.table.specs.Limits.{most_credentials}

@@ -1,23 +1,22 @@
 -- Answers: which sets can be met, and the pairs that block all others. How answers are put together: for one more credential, for
 -- goals that share out what is owed, for a goal that comes on the branch.
 use mathlib.Core.Path.{◌≡◌, refl, sym, ap, ◌∙◌}
-use mathlib.Core.List.{List, [], ◌∷◌}
+use mathlib.Core.List.{List, ◌∷◌}
 use mathlib.Core.Bool.{Bool, true, false, not}
-use Prim.Native.Nat.{ℕ, ◌<◌, ◌≤◌}
-use native.Mathlib.Omega.{arith}
+use Prim.Native.Nat.{ℕ, ◌<◌}
 use lib.Bits.{bit_and, bit_or}
 use lib.Dec.{eqb}
-use borrow.Author.Tests.{eq-eqb, eqb-true, not-false, not-true}
-use Rattle.sets.specs.Logic.{◌and◌, ◌or◌, any_below}
-use Rattle.sets.specs.Sets.{in_set, part}
-use Rattle.sets.proofs.Tests.{and_both, and_first, and_second, any_none, any-not, any-reached, any-shows, false-true, or-either}
+use borrow.Author.Tests.{eqb-true, not-false, not-true}
+use Rattle.sets.specs.Logic.{◌or◌, any_below}
+use Rattle.sets.specs.Sets.{part}
+use Rattle.sets.proofs.Tests.{and_both, and_first, and_second, any-not, any-shows, false-true, or-either}
 use Rattle.sets.proofs.Tests.{or-first, or_off, or-second, refuted}
-use Rattle.sets.proofs.Members.{in_set-and, in_set-or, part-antisym, part-le, part-member, part-or, part-refl, part-shown}
+use Rattle.sets.proofs.Members.{in_set-and, in_set-or, part-le, part-member, part-refl, part-shown}
 use Rattle.sets.proofs.Members.{part-trans}
 use Rattle.sets.proofs.Members.{part-zero}
-use Rattle.families.specs.Families.{FamilyOf, Inside, Within, all_sets, covers, in_family, is_part, joins}
+use Rattle.families.specs.Families.{FamilyOf, all_sets, covers, in_family, joins}
 use Rattle.families.specs.declared.Family.{Family}
-use Rattle.families.proofs.Covering.{covers-joined, covers_more, covers-only, covers-own, covers-reached, covers-shows}
+use Rattle.families.proofs.Covering.{covers-joined, covers_more, covers-only, covers-reached, covers-shows}
 use Rattle.families.proofs.Covering.{inside-joined}
 use Rattle.families.proofs.Covering.{inside-none, inside-only, inside-or, joins-shows, or-before, or-other}
 use Rattle.members.specs.Above.{nothing_above}
@@ -25,7 +24,7 @@ use Rattle.members.specs.declared.above.Above.{Above}
 use Rattle.failures.specs.Failures.{Joined}
 use Rattle.goals.specs.Goals.{Trimmed}
 use Rattle.search.specs.Search.{shares}
-use Rattle.search.specs.Failing.{Bounds, Covers, Fails, Finds, Judged, Sought, FoundBelow, Wide}
+use Rattle.search.specs.Failing.{Covers, Fails, Finds, Judged, FoundBelow, Wide}
 use Rattle.search.proofs.Sharing.{shares_less, shares-reached, shares-shows}
 use Rattle.search.proofs.Failing.{covered-both, covers-none, fails-first, fails-second}
 

@@ -1,12 +1,11 @@
 -- What can be met: who can meet more can meet less, and with more levels no less.
-use mathlib.Core.Path.{◌≡◌, refl}
+use mathlib.Core.Path.{◌≡◌}
 use mathlib.Core.List.{List}
-use mathlib.Core.Bool.{Bool, true, false}
+use mathlib.Core.Bool.{true}
 use Prim.Native.Nat.{ℕ, zero, suc, ◌≤◌}
 use native.Mathlib.Omega.{arith}
 use native.Mathlib.Decide.{ℕ_discrete}
 use lib.Bits.{bit_or}
-use Rattle.sets.specs.Logic.{◌and◌}
 use Rattle.sets.specs.Sets.{part}
 use Rattle.sets.proofs.Tests.{and_both, and_first, and_second, any-mono, false-true}
 use Rattle.sets.proofs.Members.{part-or, part-or-left, part-or-right, part-trans}

@@ -1,6 +1,6 @@
 -- Where no constraint is imposed and none owed members by levels are exact: what the table has is proved with nothing above (Exact.antt), hence
 -- derived (Searching.antt), and what is derived is in the table (Deriving.antt).
-use mathlib.Core.Path.{◌∙◌, refl, sym}
+use mathlib.Core.Path.{◌∙◌, sym}
 use native.Mathlib.Omega.{arith}
 use mathlib.Core.List.{[]}
 use Rattle.sets.proofs.Tests.{and_first}

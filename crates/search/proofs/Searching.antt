@@ -15,7 +15,7 @@ use lib.ListN.{length}
 use lib.Bits.{bit_or}
 use lib.Dec.{eqb}
 use borrow.Author.Tests.{eq-eqb, eqb-true, ne_eqb, lt-leb, le-leb, le-ltb, lt-ltb}
-use Rattle.sets.specs.Logic.{◌and◌, ◌or◌, any_below, pick}
+use Rattle.sets.specs.Logic.{◌and◌, any_below, pick}
 use Rattle.table.specs.Layout.{automata, credential, credentials}
 use Rattle.table.specs.Holding.{WellFormed}
 use Rattle.table.specs.Checks.{within}

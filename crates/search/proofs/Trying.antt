@@ -15,7 +15,7 @@ use Rattle.sets.specs.Sets.{in_set}
 use Rattle.sets.proofs.Tests.{and_both, and_is, and-is-off, and_second, any-all, any_next, any-not, any-reached, any-shows}
 use Rattle.sets.proofs.Tests.{failed, false-true, or-false, refuted, same_test}
 use Rattle.sets.proofs.Members.{in_set-and}
-use Rattle.table.specs.Layout.{credential, credentials, principal, role, same_role}
+use Rattle.table.specs.Layout.{credential, credentials, principal, same_role}
 use Rattle.table.specs.declared.Goal.{Goal}
 use Rattle.automata.specs.declared.StateSets.{StateSets}
 use Rattle.derivation.specs.Rules.{goal}

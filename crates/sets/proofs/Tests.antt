@@ -1,11 +1,11 @@
 -- Laws of the tests that definitions are made of. A code's `flag` is what a callee's contract equates with a test p.
 use mathlib.Core.Path.{◌≡◌, refl, sym, ap, ◌∙◌}
-use mathlib.Core.Bool.{Bool, true, false, not}
+use mathlib.Core.Bool.{Bool, true, false}
 use Prim.Native.Nat.{ℕ, zero, suc, ◌+◌, ◌<◌, ◌≤◌}
 use native.Mathlib.Omega.{arith}
 use native.Mathlib.Decide.{ℕ_discrete}
 use lib.Dec.{ltb}
-use borrow.Author.Tests.{ltb-false, ltb-true, not-true, not-false}
+use borrow.Author.Tests.{ltb-false, ltb-true}
 use Rattle.sets.specs.Logic.{◌and◌, ◌or◌, any_below, pick}
 
 -- what `if !flag { .. }` tells of p, in its body and after it

@@ -7,12 +7,11 @@ use Prim.Native.Nat.{ℕ, ◌<◌}
 use native.Mathlib.Omega.{arith}
 use native.Mathlib.Decide.{ℕ_discrete}
 use borrow.Author.Tests.{eq-eqb, eqb-true, le-leb, leb-true}
-use Rattle.sets.specs.Logic.{◌and◌}
 use Rattle.sets.proofs.Tests.{and_both, and_parts, false-true, refuted}
 use Rattle.table.specs.Outcome.{Outcome, ◌and_then◌, demand_each}
 use Rattle.table.specs.Outcome.Outcome.{accepted, refused}
 use Rattle.table.specs.Limits.{last_state, most_names, most_principals}
-use Rattle.table.specs.Layout.{Numbered, automata, cells, credentials, edge, edges}
+use Rattle.table.specs.Layout.{Numbered, automata, cells, credentials, edges}
 use Rattle.table.specs.Checks.{edge_ok, edge_to, good_cell, good_chain, good_credential, good_edge, good_edge_to, good_mark}
 use Rattle.table.specs.Checks.{head_outcome, is_name_to}
 use Rattle.table.specs.Checks.{is_principal, is_principal_to, is_role, is_role_to, label_ok, table_outcome_to, within}

@@ -1,6 +1,6 @@
 -- A table of the base layout and the table that it is upgraded to have the same records (crates/table/proofs/Upgrading.antt), so
 -- they have the same answers.
-use mathlib.Core.Path.{◌≡◌, refl, sym, ap, ◌∙◌}
+use mathlib.Core.Path.{◌≡◌, refl, ap, ◌∙◌}
 use mathlib.Core.List.{List}
 use Prim.Native.Nat.{ℕ}
 use lib.ListN.{length}
@@ -9,7 +9,7 @@ use Rattle.table.specs.Limits.{most_principals}
 use Rattle.table.specs.Outcome.{Outcome, ◌and_then◌}
 use Rattle.table.specs.Outcome.Outcome.{accepted, refused}
 use Rattle.table.specs.Layout.{automata, cell, cells, credential, credentials, edges}
-use Rattle.table.specs.Checks.{AcceptedTable, request_outcome, table_outcome}
+use Rattle.table.specs.Checks.{AcceptedTable, request_outcome}
 use Rattle.table.specs.Upgraded.{base_automaton, base_edge, base_head_outcome, base_length, base_outcome, upgraded}
 use Rattle.table.specs.declared.Query.{Query}
 use Rattle.table.proofs.Stages.{demand-true, each-value, then-alike, then-first, then-second}

@@ -1,10 +1,9 @@
 -- An accepted table's verdicts are those of its records.
-use mathlib.Core.Path.{◌≡◌, refl, sym, ap, fun_ext, subst, subst⁻¹, ◌∙◌}
+use mathlib.Core.Path.{◌≡◌, refl, sym, fun_ext, subst, subst⁻¹}
 use mathlib.Core.List.{List, [], ◌∷◌}
 use mathlib.Core.Logic.{◌↔◌}
 use Prim.Native.Nat.{ℕ}
 use lib.Dec.{eqb}
-use Rattle.sets.specs.Logic.{◌or◌}
 use Rattle.table.specs.Limits.{most_principals}
 use Rattle.table.specs.Outcome.{Outcome}
 use Rattle.table.specs.Layout.{Numbered, automata}

@@ -1,13 +1,10 @@
 -- What is written is the first record, which the verifier accepts; what it accepts has no pair twice on a branch.
 use mathlib.Core.Path.{◌≡◌, sym, ◌∙◌}
-use mathlib.Core.List.{List, ◌++◌}
 use Prim.Native.Nat.{ℕ}
-use lib.ListN.{drop, length, take}
 use lib.Seq.{take-append_seam}
 use Rattle.table.specs.Outcome.Outcome.{accepted}
 use Rattle.table.proofs.Stages.{refused-accepted}
 use Rattle.verifier.proofs.Promised.{read-none-twice}
-use Rattle.writing.specs.Writing.{record_after}
 use Rattle.writing.specs.Promised.{WrittenNoneTwice}
 use Rattle.writing.proofs.WritesFirst.{writes-first}
 

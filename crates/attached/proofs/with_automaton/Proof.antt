@@ -1,6 +1,6 @@
 -- `attached::with_automaton` meets its contract: one automaton is added, or none. Assumes nothing.
 use borrow.Author.Rules.{rules}
-use borrow.Author.Tests.{eq-eqb, ne_eqb, not-false, not-true}
+use borrow.Author.Tests.{eq-eqb, ne_eqb}
 use Rattle.sets.specs.Logic.{◌and◌, pick}
 use Rattle.attached.proofs.with_automaton.Statement.{statement}
 use Rattle.attached.proofs.with_automaton.Tie as tie

@@ -1,5 +1,4 @@
 -- `failures::recalls` meets its contract: what it tells where no test fails. Assumes nothing.
-use borrow.Author.Tests.{not-false}
 use Rattle.sets.proofs.Tests.{false-true}
 use Rattle.failures.proofs.Slots.{recalled}
 use borrow.Author.Rules.{rules}

@@ -2,7 +2,6 @@
 -- nothing is new the last row is closed under all credentials, so that nothing more is proved within any number. Assumes nothing.
 use Prim.Native.Nat.{◌-◌, ◌<◌, ◌≤◌}
 use native.Mathlib.Omega.{arith}
-use borrow.Author.Tests.{not-true}
 use Rattle.table.specs.Limits.{most_depth}
 use Rattle.levels.proofs.Reaching.{Reached, reached-all, reached-first, reached-last, reached-next}
 use borrow.Author.Rules.{rules}

@@ -2,16 +2,12 @@
 -- of them, with the others still to be read, is the whole (`Onward`), and the index of arcs stays one of the table. The levels
 -- fall with each call. Assumes nothing.
 use mathlib.Core.Path.{◌≡◌, refl, ◌∙◌}
-use mathlib.Core.List.{List, ◌∷◌}
-use Prim.Native.Nat.{ℕ, ◌+◌, ◌-◌, ◌<◌, ◌≤◌}
+use Prim.Native.Nat.{ℕ, ◌-◌, ◌<◌}
 use native.Mathlib.Omega.{arith}
 use lib.ListN.{length}
 use borrow.Fn.Kinds.{In}
 use borrow.Fn.PlainCycle.{Measures, and, falls, is}
-use Rattle.table.specs.Limits.{most_depth}
-use Rattle.table.specs.declared.Goal.{Goal}
 use Rattle.moves.specs.Arcs.{Arcs}
-use Rattle.derivation.specs.Held.{GoalsFit}
 use Rattle.branches.specs.Held.{above}
 use Rattle.reader.proofs.Onward.{Onward, child-stops, children-read, entered-node, kept-down, onward-goes, onward-starts, room-below}
 use Rattle.reader.proofs.Onward.{node-credential, node-halts, node-level, node-long, node-place}

@@ -12,7 +12,6 @@ use Rattle.search.specs.Failing.{Remembered}
 use Rattle.search.proofs.Placing.{below-most}
 use Rattle.search.proofs.Failing.{remembered-none}
 use Rattle.search.proofs.Starting.{goal-missing, goal-searched, goal-stands, goal-told, goal-unnamed, tells-nothing}
-use borrow.Author.Tests.{not-true}
 use borrow.Author.Rules.{rules}
 use Rattle.search.proofs.query_search.Statement.{statement}
 use Rattle.search.proofs.query_search.Tie as tie

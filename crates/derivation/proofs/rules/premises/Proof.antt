@@ -3,7 +3,6 @@
 use mathlib.Core.List.{List}
 use mathlib.Core.Bool.{true}
 use mathlib.Core.Path.{◌≡◌, ◌∙◌, ap}
-use native.Mathlib.Omega.{arith}
 use borrow.Author.Rules.{rules}
 use Rattle.table.specs.Layout.{Numbered, credential, credentials}
 use Rattle.table.specs.declared.Role.{Role}

@@ -1,8 +1,8 @@
 -- `families::Family::raised` meets its contract: the first j words have gone where they belong. Assumes nothing.
-use Prim.Native.Nat.{◌-◌, ◌<◌, ◌≤◌}
+use Prim.Native.Nat.{◌-◌, ◌≤◌}
 use native.Mathlib.Omega.{arith}
 use Rattle.families.specs.Families.{family_words}
-use Rattle.families.proofs.Raising.{RaisedTo, goes-inside, goes_to, raised_all, raised-next, raised-none}
+use Rattle.families.proofs.Raising.{RaisedTo, goes-inside, raised_all, raised-next, raised-none}
 use borrow.Author.Rules.{rules}
 use Rattle.families.proofs.Family.raised.Statement.{statement}
 use Rattle.families.proofs.Family.raised.Tie as tie

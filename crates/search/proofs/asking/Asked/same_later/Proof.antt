@@ -2,7 +2,6 @@
 use mathlib.Core.Path.{refl}
 use Prim.Native.Nat.{◌-◌, ◌<◌}
 use native.Mathlib.Omega.{arith}
-use borrow.Author.Tests.{eqb-true}
 use borrow.Author.Rules.{rules}
 use Rattle.search.proofs.asking.Asked.same_later.Statement.{statement}
 use Rattle.search.proofs.asking.Asked.same_later.Tie as tie
