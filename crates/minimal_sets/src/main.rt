@@ -1,6 +1,5 @@
 // The listing program: reads at most 4,096 bytes of standard input, the query's four numbers and then the table, and prints what
-// `printing::answer` makes of them (docs/DEFINITION.md, "The listing program"). A read or a write that fails is told on standard
-// error.
+// `printing::answer` makes of them (docs/DEFINITION.md, "The listing program"). It reports a failed read or write on standard error.
 #![tactic(auto)]
 
 ghost use Rattle.std.specs.Prelude.{◌+◌, ◌≡◌, ◌≤◌, ◌<◌, drop, length, take, IfOk, IfSome, OnOk};
@@ -29,16 +28,16 @@ impl fmt::Display for Failure {
     }
 }
 
-// A failure is told, and the status is 0 all the same, as the definition has it. Where standard error cannot be written either,
-// nothing is left by which to tell it.
+// Reports a failure on standard error. The status is 0 in every case (docs/DEFINITION.md), also where standard error cannot be
+// written.
 fn main(rt: HostRuntime) {
     if let Err(failure) = run(&mut rt.stdin(), &mut rt.stdout()) {
         let _ = eprintln!(rt; "minimal_sets: {failure}");
     }
 }
 
-// Prints what the definition says of the reader's bytes, and nothing else. A contract knows the bytes of readers and writers in
-// memory, not those of the system; so `main` does no more than to hand these over.
+// Prints what the definition says of the reader's bytes, and nothing else. A contract can name the bytes of readers and writers in
+// memory, but not those of the system, so `main` only passes the system's streams on.
 fn run<R: Read, W: Write>(reader: &mut R, writer: &mut W) -> Result<(), Failure>
     ensures { OnOk result (IfSome (R.remaining reader.old) (λ input.
         Appends (W.contents writer.old) (W.contents writer.new) (program_prints input))) }

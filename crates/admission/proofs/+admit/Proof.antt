@@ -363,28 +363,28 @@ module _ (t : ℕ) where
   admits-found-told at = tells-owed _ at.requires.1.0.prepared.well_formed _ _ _ _ _ at.requires.1.1.tells
 
   -- leaving out the credentials of what cannot be met leaves fewer, and admits the same
-  admits-found-proved : (c : admits-found-lost) → let args = (admits-found-asked c).args in
+  admits-found-proved : (c : admits-found-lost) → let args = c.args in
       covers args.found args.terms.owed ≡ true
   admits-found-proved c = passed c.covers.ensures c.if-not-covers.false
 
-  admits-found-lacking : (c : admits-found-lost) → let args = (admits-found-asked c).args in
+  admits-found-lacking : (c : admits-found-lost) → let args = c.args in
       c.lacking-lost.result
       ≡ lacking_of args.found args.terms.owed
       (bit_or args.terms.owed (owed_of args.table.now args.terms.allowed)) args.k
-  admits-found-lacking c = rw (admits-found-asked c).requires.1.1.asked_is at c.lacking-lost.ensures
+  admits-found-lacking c = rw c.requires.1.1.asked_is at c.lacking-lost.ensures
 
-  admits-found-less : (c : admits-found-lost) → (c.lacking-lost.result ≡ 0 → ⊥) → let args = (admits-found-asked c).args in
+  admits-found-less : (c : admits-found-lost) → (c.lacking-lost.result ≡ 0 → ⊥) → let args = c.args in
       without_all args.table.now args.terms.allowed c.lacking-lost.result < args.terms.allowed
   admits-found-less c =
-      let pre = (admits-found-asked c).requires.1 in
+      let pre = c.requires.1 in
       lost-less _ pre.0.prepared.well_formed _ _ _ _ _ pre.1.tells (admits-found-proved c) _ (admits-found-lacking c)
 
-  admits-found-same : (c : admits-found-lost) → let args = (admits-found-asked c).args in
+  admits-found-same : (c : admits-found-lost) → let args = c.args in
       admits_to args.table.now args.query (without_all args.table.now args.terms.allowed c.lacking-lost.result)
       args.terms.constraints args.terms.owed args.k
       ≡ admits_to args.table.now args.query args.terms.allowed args.terms.constraints args.terms.owed args.k
   admits-found-same c =
-      let pre = (admits-found-asked c).requires.1 in
+      let pre = c.requires.1 in
       lost-without _ pre.0.prepared.well_formed _ _ _ _ _ pre.1.tells (admits-found-proved c) _ (admits-found-lacking c)
 
 admits-found-covers-requires : admits-found-needs admits-found-lts.Need-covers-requires
@@ -407,7 +407,7 @@ admits-found-lacking-requires t c κs =
     (u.few, few-left u)
 
 admits-found-without-requires : admits-found-needs admits-found-lts.Need-without-fewer-requires
-admits-found-without-requires t c κs = (admits-found-asked t c.before).requires.1.0.prepared.well_formed
+admits-found-without-requires t c κs = c.requires.1.0.prepared.well_formed
 
 admits-found-admits-under-requires : admits-found-needs admits-found-lts.Need-admits_under-requires
 admits-found-admits-under-requires t c κs =
@@ -426,12 +426,13 @@ admits-found-automata-of-requires t c κs = search rules
 
 admits-found-admits-by-requires : admits-found-needs admits-found-lts.Need-admits_by-requires
 admits-found-admits-by-requires t c κs =
-    let pre = (admits-found-asked t c.before.before).requires in
+    let pre = c.requires in
     (omega (arith, pre.0), (pre.1.0, record { bears = c.automata_of-borne.ensures; tells = pre.1.1.tells }))
 
 admits-found-returns-4 : admits-found-needs admits-found-lts.Need-returns
 admits-found-returns-4 t c =
-    let proved = sym (admits-found-told t (admits-found-asked t c.before.before.before)) ∙ admits-found-proved t c.before.before.before in
+    let at = c.before.before.before in
+    let proved = sym (admits-found-told t (admits-found-asked t at)) ∙ admits-found-proved t at in
     to-proved _ _ _ _ _ _ proved c.admits_by.ensures
 
 -- what `admits_over` needs, whatever its measure is

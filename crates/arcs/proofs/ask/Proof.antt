@@ -9,11 +9,8 @@ use Rattle.arcs.proofs.ask.Statement.{statement}
 use Rattle.arcs.proofs.ask.Tie as tie
 
 -- where there is an index, which has a mark for the row
-abbrev start : tie.Else-arcs-eq0 → tie.Start
-start at = at.before.before.before
-
-mark : (at : tie.Else-arcs-eq0) → let from = (start at).args in made_cell from.place < length from.arcs.now
-mark at = let (wf, (index, there)) = (start at).requires in made-cell wf index there at.if-arcs-eq0.false
+mark : (at : tie.Else-arcs-eq0) → let from = at.args in made_cell from.place < length from.arcs.now
+mark at = let (wf, (index, there)) = at.requires in made-cell wf index there at.if-arcs-eq0.false
 
 returns : tie.Need-returns-then-arcs-eq0
 returns c = search rules
@@ -50,12 +47,12 @@ same_length c = search rules
 
 returns-3 : tie.Need-returns-then-asked
 returns-3 c =
-    let (wf, (index, there)) = (start c.before.before.before).requires in
+    let (wf, (index, there)) = c.requires in
     asked-again wf index there c.if-arcs-eq0.false c.if-asked.true
 
 fill-requires : tie.Need-fill-requires
 fill-requires c κs =
-    let (wf, (index, there)) = (start c.before.before.before.before).requires in
+    let (wf, (index, there)) = c.requires in
     (wf, (index, (there, (index-whole index.room c.if-arcs-eq0.false, c.if-asked-eq-MADE.false))))
 
 same-length-2 : tie.Need-shape_of-arcs

@@ -17,11 +17,8 @@ abbrev decreases-loop : tie.decreases-loop-k
 decreases-loop table arcs₀ a k₀ arcs k = a - k
 
 -- the index has all its cells, however many accepting sets stand
-abbrev start : tie.At-loop-k invariant-loop decreases-loop → tie.Start invariant-loop decreases-loop
-start at = at.before.before.before.before
-
 whole : (at : tie.At-loop-k invariant-loop decreases-loop) → length at.loop-k.arcs ≡ index_cells
-whole at = begun-whole (start at).requires.1 at.loop-k.invariant.1
+whole at = begun-whole at.requires.1 at.loop-k.invariant.1
 
 automata-requires : tie.Need-automata-a-requires invariant-loop decreases-loop
 automata-requires c κs = search rules
@@ -61,7 +58,7 @@ same_length c = c.loop-k.invariant.1.size
 
 returns : tie.Need-returns invariant-loop decreases-loop
 returns c =
-    let pre = (start c.before).requires in
+    let pre = c.requires in
     begun_all _ _ _ _ pre.0 pre.1 (omega arith) c.loop-k.invariant.1
 
 pub begin_spec : {M : Type 1} → statement M

@@ -49,7 +49,7 @@ edges-requires c κs = search rules
 
 loop-holds : tie.Need-loop-k-init invariant-loop decreases-loop
 loop-holds c =
-    let (wf, (index, (there, (full, unmade)))) = (start c).requires in
+    let (wf, (index, (there, (full, unmade)))) = c.requires in
     (omega arith, making-none c.clear.ensures _ wf index there full unmade)
 
 add-k : tie.Need-overflow_add-k invariant-loop decreases-loop
@@ -65,14 +65,14 @@ shl-find : tie.Need-overflow_shl-edge invariant-loop decreases-loop
 shl-find c = omega (arith, (in-range (read c)).1.1)
 
 find-requires : tie.Need-find-l-requires invariant-loop decreases-loop
-find-requires c κs = making-room (loop (read c)).loop-k.invariant.1
+find-requires c κs = making-room c.loop-k.invariant.1
 
 put-requires : tie.Need-put-requires invariant-loop decreases-loop
 put-requires c κs =
     let at = read c.before.before in
     let states = (in-range at).1 in
     let mask = one_bit 16 at.edge-edge.result.to (omega (arith, states.1)) in
-    let m = (loop at).loop-k.invariant.1 in
+    let m = at.loop-k.invariant.1 in
     (making-room m, (making-found m _ at.edge-edge.ensures _ mask c.find-l.ensures states.1, in-range at))
 
 loop-less : tie.Need-loop-k-smaller-then-matches invariant-loop decreases-loop
@@ -85,7 +85,7 @@ loop-again c =
     let on = sym c.matches.ensures ∙ c.if-matches.true in
     let mask = one_bit 16 at.edge-edge.result.to (omega (arith, to)) in (
       omega arith,
-      making-more (loop at).loop-k.invariant.1 _ at.edge-edge.ensures _ mask c.find-l.ensures to own on
+      making-more at.loop-k.invariant.1 _ at.edge-edge.ensures _ mask c.find-l.ensures to own on
           c.put.ensures,
     )
 
@@ -95,7 +95,7 @@ loop-less-2 c = search rules
 loop-again-2 : tie.Need-loop-k-preserved invariant-loop decreases-loop
 loop-again-2 c =
     let off = sym c.matches.ensures ∙ c.if-matches.false in
-    (omega arith, making-past (loop c.before.before).loop-k.invariant.1 _ c.edge-edge.ensures off)
+    (omega arith, making-past c.loop-k.invariant.1 _ c.edge-edge.ensures off)
 
 add-arcs : tie.Need-overflow_add-arcs invariant-loop decreases-loop
 add-arcs c = search rules
@@ -107,7 +107,7 @@ slice-write-arcs : tie.Need-bounds-arcs-place invariant-loop decreases-loop
 slice-write-arcs c = let room = making-room c.loop-k.invariant.1 in omega (arith, room.0, room.1)
 
 same_length : tie.Need-shape_of-arcs invariant-loop decreases-loop
-same_length c = making-length c.loop-k.invariant.1 _ ∙ sym (start c.before.before).requires.1.1.1.0
+same_length c = making-length c.loop-k.invariant.1 _ ∙ sym c.requires.1.1.1.0
 
 returns : tie.Need-returns invariant-loop decreases-loop
 returns c =

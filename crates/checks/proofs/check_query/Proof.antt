@@ -55,8 +55,9 @@ bad-field-requires-3 c κs = search rules
 
 returns-3 : tie.Need-returns-then-not-is_name
 returns-3 c =
+    let at = c.before.before.before.before in
     let bad = failed c.is_name.ensures c.if-not-is_name.true in
-    c.bad_field-then-not-is_name.ensures ∙ name-refused _ (principal-ok (owner-asked c.before.before.before.before)) (owner-ok c.before.before.before.before) bad
+    c.bad_field-then-not-is_name.ensures ∙ name-refused _ (principal-ok (owner-asked at)) (owner-ok at) bad
 
 cast-within : tie.Need-overflow_cast-within
 cast-within c = search rules
@@ -69,9 +70,10 @@ bad-field-requires-4 c κs = search rules
 
 returns-4 : tie.Need-returns-then-not-within
 returns-4 c =
-    let owner = name-asked c.before.before.before in
+    let at = c.before.before.before in
+    let owner = name-asked at in
     let bad = failed c.within.ensures c.if-not-within.true in
-    c.bad_field-then-not-within.ensures ∙ depth-refused _ (principal-ok (owner-asked owner)) (owner-ok owner) (name-ok c.before.before.before) bad
+    c.bad_field-then-not-within.ensures ∙ depth-refused _ (principal-ok (owner-asked owner)) (owner-ok owner) (name-ok at) bad
 
 returns-5 : tie.Need-returns
 unfolding query_told

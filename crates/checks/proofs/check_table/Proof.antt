@@ -195,7 +195,8 @@ unfolding row_outcome records table_told
 returns-5 c =
     let edges = c.edges.ensures in
     let automata = c.automata.ensures in
-    rows_empty _ (omega (arith, c.if-edges-automata-eq0.true, edges.same)) (omega (arith, c.if-edges-automata-eq0.true, automata.same)) ∙ edges-left c.before.before.before
+    let none = c.if-edges-automata-eq0.true in
+    rows_empty _ (omega (arith, none, edges.same)) (omega (arith, none, automata.same)) ∙ edges-left c.before.before.before
 
 first-bad-requires-3 : tie.Need-first_bad-edge-requires
 first-bad-requires-3 c κs = edges-sized (edges-asked c)

@@ -17,30 +17,23 @@ add-credential c = search rules
 credential-requires : tie.Need-credential-credential-requires
 credential-requires c κs = search rules
 
--- the place where the least credential has been read, and the one where the function was asked
-abbrev Read : Type 0
-Read = tie.After-credential-credential
-
-abbrev asked : Read → tie.Start
-asked at = at.before.before.before.before.before.before.before.before.before.before
-
 roles-asked-requires : tie.Need-roles_asked-requires
 roles-asked-requires c κs =
-    let pre = (asked c.before.before).requires.0 in
+    let pre = c.requires.0 in
     let there = c.least_credential-i.ensures.0.0 in
     (pre.well_formed, (pre.indexed, (there, not-linking _ _ _ c.credential-credential.ensures c.if-credential-ne-LINKING_CONTAINMENT.true)))
 
 made-requires : tie.Need-made-requires
 made-requires c κs =
     let there = c.least_credential-i.ensures.0.0 in
-    (below-most (asked c.before.before.before).requires.0.well_formed _ there, c.roles_asked.ensures.0)
+    (below-most c.requires.0.well_formed _ there, c.roles_asked.ensures.0)
 
 same_length : tie.Need-shape_of-memory-then-credential-ne-LINKING_CONTAINMENT
 same_length c = search rules
 
 returns : tie.Need-returns-then-credential-ne-LINKING_CONTAINMENT
 returns c =
-    let pre = (asked c.before.before.before.before).requires in
+    let pre = c.requires in
     let (least, remembered) = c.least_credential-i.ensures in
     let other = not-linking _ _ _ c.credential-credential.ensures c.if-credential-ne-LINKING_CONTAINMENT.true in (
       chosen_plain pre.0 pre.1.0.0 _ _ _ _ _ least.0 least.1 other _
@@ -50,7 +43,7 @@ returns c =
 
 least-middle-requires : tie.Need-least_middle-j-requires
 least-middle-requires c κs =
-    let pre = (asked c.before.before.before).requires in
+    let pre = c.requires in
     let (least, remembered) = c.least_credential-i.ensures in (
       pre.0,
       (
@@ -61,7 +54,7 @@ least-middle-requires c κs =
 
 linked-requires : tie.Need-linked-requires
 linked-requires c κs =
-    let pre = (asked c.before.before.before.before.before.before).requires.0 in
+    let pre = c.requires.0 in
     let there = c.least_credential-i.ensures.0.0 in
     (pre.well_formed, (pre.indexed.placed, (there, c.least_middle-j.ensures.0.there)))
 
@@ -70,7 +63,7 @@ same-length-2 c = search rules
 
 returns-2 : tie.Need-returns
 returns-2 c =
-    let pre = (asked c.before.before.before.before.before.before.before).requires in
+    let pre = c.requires in
     let least = c.least_credential-i.ensures.0 in
     let three = kind-read _ _ _ c.credential-credential.ensures 3 c.if-credential-ne-LINKING_CONTAINMENT.false in
     let (middle, remembered) = c.least_middle-j.ensures in

@@ -48,17 +48,17 @@ wide at = search rules
 
 loop-holds : tie.Need-loop-i-init invariant-loop decreases-loop
 unfolding any_below
-loop-holds c = (omega arith, refl, (refl, (asked c).requires.1.1.1.0))
+loop-holds c = (omega arith, refl, (refl, c.requires.1.1.1.0))
 
 may-use-requires : tie.Need-may_use-requires invariant-loop decreases-loop
 may-use-requires c κs = search rules
 
-inside : (at : Found) (i : ℕ) → i < at.last_usable-last.result → i < credentials (asked at).args.table.now
+inside : (at : Found) (i : ℕ) → i < at.last_usable-last.result → i < credentials at.args.table.now
 inside at i l = omega (arith, l, at.last_usable-last.ensures.few, at.credentials.ensures.same)
 
 credential-search-requires : tie.Need-credential_search-answer-requires invariant-loop decreases-loop
 credential-search-requires c κs =
-    let pre = (asked c.before.before.before.before.before).requires in
+    let pre = c.requires in
     (pre.0, (tried-at pre.1.0.0 _ (inside c.before.before.before.before.before _ c.loop-i-test.true), c.loop-i.invariant.2.1))
 
 meets-requires : tie.Need-meets-requires invariant-loop decreases-loop
@@ -70,10 +70,11 @@ same_length c =
 
 returns : tie.Need-returns-then-meets invariant-loop decreases-loop
 returns c =
-    let pre = (asked c.before.before.before.before.before.before.before.before.before.before.before).requires in
-    let there = inside c.before.before.before.before.before.before.before.before.before.before.before _ c.loop-i-test.true in
+    let at = c.before.before.before.before.before.before.before.before.before.before.before in
+    let pre = c.requires in
+    let there = inside at _ c.loop-i-test.true in
     let (judged, remembered) = c.credential_search-answer.ensures in
-    let proved = own-wanted _ _ _ _ _ _ _ _ pre.1.1.0 (judged-told (wide (asked c.before.before.before.before.before.before.before.before.before.before.before)) judged) c.meets.ensures in (
+    let proved = own-wanted _ _ _ _ _ _ _ _ pre.1.1.0 (judged-told (wide (asked at)) judged) c.meets.ensures in (
       chosen-here pre.0.indexed pre.1.0.0 pre.1.0.1 _ _ _ _ there c.loop-i.invariant.1
           (passes-here pre.0.indexed pre.1.0.0 pre.1.0.1 _ _ _ _ there c.may_use.ensures
           c.if-may_use.true proved c.if-meets.true),
@@ -88,17 +89,20 @@ loop-less c = search rules
 
 loop-again : tie.Need-loop-i-preserved invariant-loop decreases-loop
 loop-again c =
-    let pre = (asked c.before.before.before.before).requires in
+    let at = c.before.before.before.before in
+    let pre = c.requires in
     let (_, so_far, remembered) = c.loop-i.invariant in
     let next = c.loop-i-test.true in
-    let there = inside c.before.before.before.before _ next in
+    let there = inside at _ next in
     let may-use = c.may_use.ensures in (
       omega (arith, next),
       ⊎_elim (λ way. next-failed pre.0.indexed pre.1.0.0 pre.1.0.1 _ _ _ _ there may-use way.if-may_use.true
-          (own-wanted _ _ _ _ _ _ _ _ pre.1.1.0 (judged-told (wide (asked c.before.before.before.before)) way.credential_search-answer.ensures.0) way.meets.ensures) so_far way.if-meets.false)
+          (own-wanted _ _ _ _ _ _ _ _ pre.1.1.0 (judged-told (wide (asked at)) way.credential_search-answer.ensures.0)
+          way.meets.ensures) so_far way.if-meets.false)
           (λ way. next-skipped pre.0.indexed pre.1.0.0 pre.1.0.1 _ _ _ _ there may-use so_far way.if-may_use.false)
           c.if-may_use.branch-raw,
-      ⊎_elim (λ way. rw way.memory-is (way.memory-1.given ∙ remembered.0, way.credential_search-answer.ensures.1)) (λ way. rw way.memory-is remembered) c.if-may_use.branch-raw,
+      ⊎_elim (λ way. rw way.memory-is (way.memory-1.given ∙ remembered.0, way.credential_search-answer.ensures.1))
+          (λ way. rw way.memory-is remembered) c.if-may_use.branch-raw,
     )
 
 same-length-2 : tie.Need-shape_of-memory invariant-loop decreases-loop
@@ -106,7 +110,7 @@ same-length-2 c = search rules
 
 returns-2 : tie.Need-returns invariant-loop decreases-loop
 returns-2 c =
-    let pre = (asked c.before.before).requires in
+    let pre = c.requires in
     let (within, so_far, (same, remembered)) = c.loop-i.invariant in (
       chosen_last pre.0.indexed pre.1.0.0 pre.1.0.1 _ _ _ _ _ _ c.credentials.ensures.same
           c.last_usable-last.ensures (omega (arith, c.loop-i-test.false, within)) so_far pre.1.1.1.1,

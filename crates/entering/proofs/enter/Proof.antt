@@ -15,14 +15,8 @@ use Rattle.entering.proofs.Entering.{halts-with, may-fresh, may_none}
 use Rattle.entering.proofs.enter.Statement.{statement}
 use Rattle.entering.proofs.enter.Tie as tie
 
--- where two numbers are there, and where the credential applies: what it asks are the premises
-abbrev start : tie.Else-rec-lt2 → tie.Start
-start at = at.before.before.before
-
-abbrev two : tie.Else-not-premises → tie.Else-rec-lt2
-two at = at.before.before.before.before.before
-
-asked : (at : tie.Else-not-premises) → let from = (start (two at)).args in
+-- where the credential applies, what it asks are the premises
+asked : (at : tie.Else-not-premises) → let from = at.args in
     let found = at.premises-premises.result in
     premises from.table.now from.goal (get_or from.rec.now 0 0) (get_or from.rec.now 1 0)
     ≡ some (take found.len found.goals)
@@ -57,7 +51,7 @@ halted-requires-3 c κs = search rules
 returns-3 : tie.Need-returns-then-levels-eq0
 returns-3 c =
     let no-level = may_none _ _ _ c.if-levels-eq0.true in
-    halts-with _ (omega arith) c.halted-then-levels-eq0.ensures (entry_closed _ _ _ _ (two c.before.before).if-rec-lt2.false (asked c.before.before) no-level)
+    halts-with _ (omega arith) c.halted-then-levels-eq0.ensures (entry_closed _ _ _ _ c.if-rec-lt2.false (asked c.before.before) no-level)
 
 is-fresh-requires : tie.Need-is_fresh-requires
 is-fresh-requires c κs = search rules
@@ -68,7 +62,7 @@ halted-requires-4 c κs = search rules
 returns-4 : tie.Need-returns-then-not-is_fresh
 returns-4 c =
     let again = may-fresh _ _ _ c.if-levels-eq0.false ∙ failed c.is_fresh.ensures c.if-not-is_fresh.true in
-    halts-with _ (omega arith) c.halted-then-not-is_fresh.ensures (entry_closed _ _ _ _ (two c.before.before.before.before).if-rec-lt2.false (asked c.before.before.before.before) again)
+    halts-with _ (omega arith) c.halted-then-not-is_fresh.ensures (entry_closed _ _ _ _ c.if-rec-lt2.false (asked c.before.before.before.before) again)
 
 shared-slice-read-t13 : tie.Need-bounds-rec-0-2
 shared-slice-read-t13 c = search rules
@@ -80,7 +74,7 @@ returns-5 : tie.Need-returns
 unfolding stepped pick
 returns-5 c =
     let free = may-fresh _ _ _ c.if-levels-eq0.false ∙ passed c.is_fresh.ensures c.if-not-is_fresh.false in
-    (c.premises-premises.ensures.0, entry-asks _ _ _ _ (two c.before.before.before.before.before.before).if-rec-lt2.false (asked c.before.before.before.before.before.before) free)
+    (c.premises-premises.ensures.0, entry-asks _ _ _ _ c.if-rec-lt2.false (asked c.before.before.before.before.before.before) free)
 
 pub enter_spec : {M : Type 1} → statement M
 enter_spec =

@@ -69,7 +69,8 @@ loop-again c =
     let read = c.credential-credential.ensures in (
       omega arith,
       filled_next _ few _ (omega arith) _ read _ _ _ _ _ c.put.ensures
-          (⊎_elim (λ w. rw w.index-is (links-written _ _ _ _ _ w.links.ensures)) (λ w. rw w.index-is (links-none _ _ _ _ w.if-credential-eq-LINKING_CONTAINMENT.false))
+          (⊎_elim (λ w. rw w.index-is (links-written _ _ _ _ _ w.links.ensures))
+          (λ w. rw w.index-is (links-none _ _ _ _ w.if-credential-eq-LINKING_CONTAINMENT.false))
           c.if-credential-eq-LINKING_CONTAINMENT.branch-raw)
           c.role_at.ensures c.asked.ensures c.loop-i.invariant.1,
     )

@@ -56,7 +56,8 @@ loop-again c =
     let room = c.requires.1 in (
       omega arith,
       ⊎_elim (λ w. rw w.index-is (linked-next _ _ _ _ _ _ so_far _ read room (omega arith) _ w.role_at.ensures))
-          (λ w. rw w.index-is (linked-other _ _ _ _ _ _ so_far _ read w.if-credential-eq-SIMPLE_MEMBERSHIP.false)) c.if-credential-eq-SIMPLE_MEMBERSHIP.branch-raw,
+          (λ w. rw w.index-is (linked-other _ _ _ _ _ _ so_far _ read w.if-credential-eq-SIMPLE_MEMBERSHIP.false))
+          c.if-credential-eq-SIMPLE_MEMBERSHIP.branch-raw,
     )
 
 same_length : tie.Need-shape_of-index invariant-loop decreases-loop

@@ -23,9 +23,6 @@ WholeRead = tie.Else-half-lt-QUERY_SIZE
 abbrev NumbersDecoded : Type 0
 NumbersDecoded = tie.After-decode
 
-abbrev start : Read → tie.Start
-start c = c.before.before.before
-
 abbrev read : WholeRead → Read
 read c = c.before.before
 
@@ -34,7 +31,7 @@ whole-read c = c.before.before
 
 -- what is known there: the bytes, those that count, and the places that the numbers are decoded into
 abbrev bytes : Read → List ℕ
-bytes c = (start c).args.bytes.now
+bytes c = c.args.bytes.now
 
 abbrev counting : Read → List ℕ
 counting c = c.counted-read.result.now
@@ -81,15 +78,16 @@ slice-aggregate-list-numbers c = whole_length c.before.before
 
 list-numbers-requires : tie.Need-list_numbers-requires
 list-numbers-requires c κs =
-    omega (arith, (whole-read c.before.before.before).if-half-lt-QUERY_SIZE.false, whole_length c.before.before.before)
+    omega (arith, c.if-half-lt-QUERY_SIZE.false, whole_length c.before.before.before)
 
 same_length : tie.Need-shape_of-sets
 same_length c = search rules
 
 returns-3 : tie.Need-returns
 returns-3 c =
-    let from = read (whole-read c.before.before.before.before.before.before) in
-    answers-whole (bytes from) _ from.counted-read.ensures _ _ _ _ (is-whole (whole-read c.before.before.before.before.before.before))
+    let at = c.before.before.before.before.before.before in
+    let from = read (whole-read at) in
+    answers-whole (bytes from) _ from.counted-read.ensures _ _ _ _ (is-whole (whole-read at))
     (decoded-first _ _ _ c.decode.ensures) c.list_numbers.ensures
 
 pub list_input_spec : {M : Type 1} → statement M

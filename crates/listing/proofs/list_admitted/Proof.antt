@@ -8,10 +8,6 @@ use borrow.Author.Rules.{rules}
 use Rattle.listing.proofs.list_admitted.Statement.{statement}
 use Rattle.listing.proofs.list_admitted.Tie as tie
 
--- where the sets have been searched, and what was asked
-abbrev asked : tie.After-below → tie.Start
-asked at = at.before.before.before.before.before.before.before.before.before.before
-
 below-requires : tie.Need-below-requires
 below-requires c κs =
     let pre = c.requires in
@@ -30,7 +26,7 @@ same-length-2 c = search rules
 returns : tie.Need-returns-then-cells-found
 unfolding number_of
 returns c =
-    let pre = (asked c.before.before.before.before.before.before).requires in
+    let pre = c.requires in
     let bears = relevant-admits _ pre.0.well_formed _ _ pre.1.0 in
     let held = start-ended _ _ _ pre.1.0.fits bears c.below.ensures in
     told-instead c.refused.ensures (longer-told _ _ _ _ _ held c.if-cells-found.true)
@@ -44,7 +40,7 @@ same-length-4 c = search rules
 returns-2 : tie.Need-returns
 unfolding listing_told
 returns-2 c =
-    let pre = (asked c.before.before.before.before.before).requires in
+    let pre = c.requires in
     let bears = relevant-admits _ pre.0.well_formed _ _ pre.1.0 in
     let held = start-ended _ _ _ pre.1.0.fits bears c.below.ensures in
     listed-told _ _ _ _ _ held (some-found _ _ _ held pre.1.0.fits pre.1.1) c.if-cells-found.false

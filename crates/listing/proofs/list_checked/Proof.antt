@@ -13,13 +13,7 @@ use borrow.Author.Rules.{rules}
 use Rattle.listing.proofs.list_checked.Statement.{statement}
 use Rattle.listing.proofs.list_checked.Tie as tie
 
--- where the query was asked, where its index is made, and where what bears on it is found and admitted
-abbrev indexed : tie.After-relevant-usable → tie.After-index-index
-indexed at = at.before.before
-
-abbrev start : tie.After-relevant-usable → tie.Start
-start at = (indexed at).before.before.before
-
+-- where what bears on the query has been found
 abbrev bearing : tie.Else-not-admits → tie.After-relevant-usable
 bearing at = at.before.before.before.before
 
@@ -43,7 +37,7 @@ slice-aggregate-admits-2 c = search rules
 
 admits-requires : tie.Need-admits-requires
 admits-requires c κs =
-    prepared-by (start c.before.before).requires (indexed c.before.before).index-index.ensures (no-arcs _ _ (simp length-take (omega arith)))
+    prepared-by c.requires c.index-index.ensures (no-arcs _ _ (simp length-take (omega arith)))
 
 refused-requires : tie.Need-refused-requires
 refused-requires c κs = search rules
@@ -52,10 +46,10 @@ returns : tie.Need-returns-then-not-admits
 unfolding number_of
 returns c =
     let relevant = c.relevant-usable.ensures in
-    let bears = relevant-admits _ (start c.before.before.before.before.before).requires.0 _ _ relevant in
+    let bears = relevant-admits _ c.requires.0 _ _ relevant in
     let unproved = failed c.admits.ensures c.if-not-admits.true in
     told-instead c.refused.ensures
-    (none_told _ _ _ _ _ (start_none _ _ _ relevant.fits bears (start c.before.before.before.before.before).requires.0 unproved _) refl)
+    (none_told _ _ _ _ _ (start_none _ _ _ relevant.fits bears c.requires.0 unproved _) refl)
 
 automata-of-requires : tie.Need-automata_of-requires
 automata-of-requires c κs = search rules
@@ -72,7 +66,7 @@ slice-aggregate-list-over-2 c = search rules
 list-over-requires : tie.Need-list_over-requires
 list-over-requires c κs =
     let at = bearing c.before.before.before.before.before in (
-      prepared-by (start at).requires (indexed at).index-index.ensures (no-arcs _ _ (simp length-take (omega arith))),
+      prepared-by at.requires at.index-index.ensures (no-arcs _ _ (simp length-take (omega arith))),
       (at.relevant-usable.ensures, passed c.admits.ensures c.if-not-admits.false),
     )
 
@@ -100,7 +94,7 @@ slice-aggregate-list-over-4 c = search rules
 list-over-requires-2 : tie.Need-list_over-requires-2
 list-over-requires-2 c κs =
     let at = bearing c.before.before.before.before.before.before.before.before.before in (
-      prepared-by (start at).requires (indexed at).index-index.ensures c.make_arcs.ensures.0,
+      prepared-by at.requires at.index-index.ensures c.make_arcs.ensures.0,
       (at.relevant-usable.ensures, passed c.admits.ensures c.if-not-admits.false),
     )
 

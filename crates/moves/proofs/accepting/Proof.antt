@@ -21,11 +21,8 @@ abbrev decreases-loop : tie.decreases-loop-k
 decreases-loop table arcs states mask₀ k₀ mask k = most_automata - k
 
 -- where there is an index
-abbrev start : tie.Else-arcs-eq0 invariant-loop decreases-loop → tie.Start invariant-loop decreases-loop
-start at = at.before.before.before
-
-whole : (at : tie.Else-arcs-eq0 invariant-loop decreases-loop) → length (start at).args.arcs.now ≡ index_cells
-whole at = index-whole (start at).requires.1.room at.if-arcs-eq0.false
+whole : (at : tie.Else-arcs-eq0 invariant-loop decreases-loop) → length at.args.arcs.now ≡ index_cells
+whole at = index-whole at.requires.1.room at.if-arcs-eq0.false
 
 accepting-by-table-requires : tie.Need-accepting_by_table-requires invariant-loop decreases-loop
 accepting-by-table-requires c κs = search rules
@@ -67,7 +64,7 @@ loop-again c =
 
 returns-2 : tie.Need-returns invariant-loop decreases-loop
 returns-2 c =
-    let pre = (start c.before.before).requires in
+    let pre = c.requires in
     c.loop-k.invariant.1 ∙ accepting-in _ pre.0 pre.1 (whole c.before.before) _ (omega arith)
 
 pub accepting_spec : {M : Type 1} → statement M

@@ -8,22 +8,18 @@ use Rattle.automata.proofs.Together.{role-moves}
 use Rattle.moves.proofs.next.Statement.{statement}
 use Rattle.moves.proofs.next.Tie as tie
 
--- where the row has been made
-abbrev start : tie.Then-is_made → tie.Start
-start at = at.before.before.before.before
-
 is-made-requires : tie.Need-is_made-requires
 is-made-requires c κs = search rules
 
 by-arcs-requires : tie.Need-by_arcs-requires
 by-arcs-requires c κs =
-    let index = (start c).requires.1 in
+    let index = c.requires.1 in
     let (whole, row) = row_made _ index.0 index.1 c.is_made.ensures c.if-is_made.true in
     ((whole, omega arith), row.ended)
 
 returns : tie.Need-returns-then-is_made
 returns c =
-    let index = (start c.before).requires.1 in
+    let index = c.requires.1 in
     let (whole, row) = row_made _ index.0 index.1 c.is_made.ensures c.if-is_made.true in
     c.by_arcs.ensures ∙ row-moves _ _ _ _ _ row
 

@@ -6,16 +6,10 @@ use Rattle.placing.proofs.Putting.{Fits, put_is, put-room}
 use Rattle.placing.proofs.put.Statement.{statement}
 use Rattle.placing.proofs.put.Tie as tie
 
--- where the two cells are written, and before that where the automaton has been read
-abbrev automaton : tie.After-struct_known-2-1 → tie.After-wide
-automaton at = at.before.before.before
-
-abbrev start : tie.After-struct_known-2-1 → tie.Start
-start at = (automaton at).before.before
-
-fits : (at : tie.After-struct_known-2-1) → let from = (start at).args in Fits from.arcs.now from.place from.l from.edge
+-- where the two cells are written
+fits : (at : tie.After-struct_known-2-1) → let from = at.args in Fits from.arcs.now from.place from.l from.edge
 fits at =
-    let ((size, there), (less, (own, states))) = (start at).requires in
+    let ((size, there), (less, (own, states))) = at.requires in
     record { size = size; there = there; less = less; own = own; state = omega (arith, states.1) }
 
 mul_at : tie.Need-overflow_mul-at
@@ -64,13 +58,13 @@ mul-arcs-2 : tie.Need-offset_bounds-arcs-own-2
 mul-arcs-2 c = search rules
 
 slice-write-arcs-2 : tie.Need-bounds-arcs-own-2
-slice-write-arcs-2 c = put-room (fits c) _ (automaton c).wide.ensures.0
+slice-write-arcs-2 c = put-room (fits c) _ c.wide.ensures.0
 
 same_length : tie.Need-shape_of-arcs
 same_length c = search rules
 
 returns : tie.Need-returns
-returns c = put_is _ _ _ _ (automaton c).wide.ensures.0 (one_bit 16 _ (omega arith)) (one_bit 16 _ (omega arith))
+returns c = put_is _ _ _ _ c.wide.ensures.0 (one_bit 16 _ (omega arith)) (one_bit 16 _ (omega arith))
 
 pub put_spec : {M : Type 1} → statement M
 put_spec =

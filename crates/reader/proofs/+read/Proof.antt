@@ -158,7 +158,9 @@ read-read-requires t c κs =
     let inv = c.loop-i.invariant in
     let room = room-below here down _ inv.0 pre.1.1.1.0 in
     let one_more = c.with-deeper.ensures.1.0 in
-    (omega (arith, pre.0, node-level here), (pre.1.0, ((c.with-deeper.ensures.0, omega (arith, one_more, pre.1.1.0.1, node-level here)), (room, (inv.0.no-refusal, inv.1)))))
+    let level = node-level here in
+    let fits : _ × _ = (c.with-deeper.ensures.0, omega (arith, one_more, pre.1.1.0.1, level)) in
+    (omega (arith, pre.0, level), (pre.1.0, (fits, (room, (inv.0.no-refusal, inv.1)))))
 
 read-same-length-2 : (t : ℕ) → read-lts.Need-shape_of-arcs-then-refused (read-claims t) (read_at t) read.Post read-Inv-loop read-μ-loop
 read-same-length-2 t c = c.arcs-in-loop-i-1.given ∙ c.loop-i.invariant.2 ∙ c.arcs-1.given

@@ -15,10 +15,6 @@ invariant-loop table index set arcs₀ n i₀ arcs i = RowMaking table index set
 abbrev decreases-loop : tie.decreases-loop-i
 decreases-loop table index set arcs₀ n i₀ arcs i = n - i
 
--- where the rows were asked for
-abbrev start : tie.At-loop-i invariant-loop decreases-loop → tie.Start invariant-loop decreases-loop
-start at = at.before.before.before.before.before.before.before.before.before
-
 begin-requires : tie.Need-begin-requires invariant-loop decreases-loop
 begin-requires c κs = search rules
 
@@ -37,7 +33,7 @@ role-cell-requires c κs = search rules
 
 make-requires : tie.Need-make-requires invariant-loop decreases-loop
 make-requires c κs =
-    let (wf, (indexed, blank)) = (start c.before.before.before.before.before).requires in
+    let (wf, (indexed, blank)) = c.requires in
     let m = c.loop-i.invariant in
     (wf, (m.whole, (own-place indexed (omega arith) c.role_cell.ensures.0, m.full)))
 
@@ -49,7 +45,7 @@ loop-less c = search rules
 
 loop-again : tie.Need-loop-i-preserved invariant-loop decreases-loop
 loop-again c =
-    let (wf, (indexed, blank)) = (start c.before.before.before).requires in
+    let (wf, (indexed, blank)) = c.requires in
     let m = c.loop-i.invariant in
     ⊎_elim
     (λ w. rw w.arcs-is (rows_more m (omega arith) wf indexed w.role_cell.ensures.0 w.make.ensures.0 w.make.ensures.1 w.arcs-then-has-1.given))
@@ -58,7 +54,7 @@ loop-again c =
 
 same_length : tie.Need-shape_of-arcs invariant-loop decreases-loop
 same_length c =
-    c.loop-i.invariant.full ∙ sym (blank-full _ (start c.before).requires.1.1)
+    c.loop-i.invariant.full ∙ sym (blank-full _ c.requires.1.1)
 
 returns : tie.Need-returns invariant-loop decreases-loop
 returns c = let m = c.loop-i.invariant in (m.whole, rows_all m (omega arith))

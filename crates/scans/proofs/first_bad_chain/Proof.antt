@@ -27,16 +27,6 @@ invariant-credentials table n i₀ i = (i ≤ n) × ((number : ℕ) → demand_e
 abbrev decreases-credentials : tie.decreases-credentials
 decreases-credentials table n i₀ i = n - i
 
--- what is known where a chain is walked: the walk so far, and before it the credentials passed, and rows 4 and 5
-abbrev Walking : Type 0
-Walking = tie.At-loop-j invariant-loop decreases-loop invariant-credentials decreases-credentials
-
-abbrev outer : Walking → tie.At-credentials invariant-loop decreases-loop invariant-credentials decreases-credentials
-outer at = at.before.before.before.before.before
-
-abbrev start : Walking → tie.Start invariant-loop decreases-loop invariant-credentials decreases-credentials
-start at = (outer at).before.before.before.before.before
-
 cells-requires : tie.Need-cells-requires invariant-loop decreases-loop invariant-credentials decreases-credentials
 cells-requires c κs = search rules
 
@@ -82,7 +72,7 @@ wide-requires c κs = search rules
 
 cell-requires : tie.Need-cell-j-requires invariant-loop decreases-loop invariant-credentials decreases-credentials
 cell-requires c κs =
-    ((start c.before.before.before).requires.0, omega (arith, c.loop-j.invariant.1.inside))
+    (c.requires.0, omega (arith, c.loop-j.invariant.1.inside))
 
 loop-less : tie.Need-loop-j-smaller invariant-loop decreases-loop invariant-credentials decreases-credentials
 loop-less c = search rules
@@ -90,7 +80,7 @@ loop-less c = search rules
 loop-again : tie.Need-loop-j-preserved invariant-loop decreases-loop invariant-credentials decreases-credentials
 loop-again c =
     let walked = c.loop-j.invariant.1 in
-    let inside = next-inside _ (start c.before.before.before.before).requires.1.1 c.loop-j.j (omega (arith, walked.inside)) in
+    let inside = next-inside _ c.requires.1.1 c.loop-j.j (omega (arith, walked.inside)) in
     let on = walk-goes-on _ _ _ _ walked inside c.loop-j-test.true (omega arith) in
     (c.loop-j.invariant.0, rw (c.cell-j.ensures, c.wide.ensures.0) on)
 
@@ -100,7 +90,7 @@ credentials-less-2 c = search rules
 credentials-again-2 : tie.Need-credentials-preserved invariant-loop decreases-loop invariant-credentials decreases-credentials
 credentials-again-2 c =
     let whole = long-enough _ _ _ _ c.loop-j.invariant.1 c.loop-j-test.false c.if-met-lt-LEAST_PARTS.false in
-    (omega arith, λ number. each-passes _ number _ ((outer c.before.before).credentials.invariant.1 number) (c.loop-j.invariant.0 ∙ whole))
+    (omega arith, λ number. each-passes _ number _ (c.credentials.invariant.1 number) (c.loop-j.invariant.0 ∙ whole))
 
 returns-2 : tie.Need-returns-then-i-n invariant-loop decreases-loop invariant-credentials decreases-credentials
 returns-2 c = bad-none _ _ _ c.credentials.invariant.1 (omega arith)
@@ -108,12 +98,12 @@ returns-2 c = bad-none _ _ _ c.credentials.invariant.1 (omega arith)
 returns-3 : tie.Need-returns-then-met-gt-MOST_PARTS invariant-loop decreases-loop invariant-credentials decreases-credentials
 returns-3 c =
     let long = too_long _ _ _ _ c.loop-j.invariant.1 c.loop-j-test.true c.if-met-gt-MOST_PARTS.true in
-    bad-next _ _ _ (outer c.before.before).credentials.invariant.1 (omega arith) (c.loop-j.invariant.0 ∙ long)
+    bad-next _ _ _ c.credentials.invariant.1 (omega arith) (c.loop-j.invariant.0 ∙ long)
 
 returns-4 : tie.Need-returns-then-met-lt-LEAST_PARTS invariant-loop decreases-loop invariant-credentials decreases-credentials
 returns-4 c =
     let short = too_short _ _ _ _ c.loop-j.invariant.1 c.loop-j-test.false c.if-met-lt-LEAST_PARTS.true in
-    bad-next _ _ _ (outer c.before.before).credentials.invariant.1 (omega arith) (c.loop-j.invariant.0 ∙ short)
+    bad-next _ _ _ c.credentials.invariant.1 (omega arith) (c.loop-j.invariant.0 ∙ short)
 
 pub first_bad_chain_spec : {M : Type 1} → statement M
 first_bad_chain_spec =

@@ -37,12 +37,12 @@ wide-requires c κs = search rules
 abbrev from : tie.After-wide-levels → tie.Start
 from at = at.before.before.before.before.before.before.before.before
 
-there : (at : tie.After-wide-levels) → at.goal_person-person.result < credentials (from at).args.table.now
+there : (at : tie.After-wide-levels) → at.goal_person-person.result < credentials at.args.table.now
 there at = omega (arith, at.if-credentials-person.false, at.credentials.ensures.same)
 
 may-be-proved-requires : tie.Need-may_be_proved-requires
 may-be-proved-requires c κs =
-    let pre = (from c).requires in (
+    let pre = c.requires in (
       pre.0.0,
       ((pre.1.1.room, pre.1.1.few), (below-most pre.0.0 _ (there c), c.goal_role-place.ensures.1)),
     )
@@ -50,7 +50,7 @@ may-be-proved-requires c κs =
 returns-2 : tie.Need-returns
 returns-2 c =
     goal-listed (prepared (from c.before)) c.goal_person-person.ensures.0 (there c.before)
-    c.goal_role-place.ensures.0 _ _ c.wide-levels.ensures.0 (from c.before).requires.1.1 c.may_be_proved.ensures
+    c.goal_role-place.ensures.0 _ _ c.wide-levels.ensures.0 c.requires.1.1 c.may_be_proved.ensures
 
 pub is_member_spec : {M : Type 1} → statement M
 is_member_spec =

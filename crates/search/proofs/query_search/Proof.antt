@@ -38,15 +38,12 @@ wide-requires : tie.Need-wide-levels-requires
 wide-requires c κs = search rules
 
 -- the query's principal has a place, its role is looked up, and its depth is read
-abbrev from : tie.After-wide-levels → tie.Start
-from at = at.before.before.before.before.before.before.before.before.before
-
-there : (at : tie.After-wide-levels) → at.goal_person-person.result < credentials (from at).args.table.now
+there : (at : tie.After-wide-levels) → at.goal_person-person.result < credentials at.args.table.now
 there at = omega (arith, at.if-credentials-person.false, at.credentials.ensures.same)
 
 may-be-proved-requires : tie.Need-may_be_proved-requires
 may-be-proved-requires c κs =
-    let pre = (from c).requires in (
+    let pre = c.requires in (
       pre.0.well_formed,
       ((pre.1.0.room, pre.1.0.few), (below-most pre.0.well_formed _ (there c), c.goal_role-place.ensures.1)),
     )
@@ -58,8 +55,8 @@ returns-2 : tie.Need-returns-then-not-may_be_proved
 returns-2 c =
     let off = c.if-not-may_be_proved.true in
     tells-nothing _ _ _ _ _ _ c.none-then-not-may_be_proved.ensures
-    (λ X. goal-missing (from c.before.before.before).requires.0 c.goal_person-person.ensures.0 (there c.before.before.before)
-    c.goal_role-place.ensures.0 _ _ c.wide-levels.ensures.0 (from c.before.before.before).requires.1.0 c.may_be_proved.ensures _ X off)
+    (λ X. goal-missing c.requires.0 c.goal_person-person.ensures.0 (there c.before.before.before)
+    c.goal_role-place.ensures.0 _ _ c.wide-levels.ensures.0 c.requires.1.0 c.may_be_proved.ensures _ X off)
 
 is-small-requires : tie.Need-is_small-requires
 is-small-requires c κs = search rules
@@ -68,16 +65,16 @@ slice-aggregate-from-start : tie.Need-slice_bounds-from_start-end
 slice-aggregate-from-start c = search rules
 
 -- the goal may be sought with a memory that has nothing yet, whatever its length
-seekable : (at : tie.After-wide-levels) (memory : List ℕ) → SlotIn memory 0 → Blank memory → let args = (from at).args in
+seekable : (at : tie.After-wide-levels) (memory : List ℕ) → SlotIn memory 0 → Blank memory → let args = at.args in
     Searchable args.table.now args.index.now args.arcs.now args.rows.now args.terms.allowed at.wide-levels.result args.terms.last
     × (Stands args.table.now at.goal_person-person.result at.goal_role-place.result
     × Remembered args.table.now args.terms.allowed args.terms.constraints args.terms.owed memory)
 seekable at memory room blank =
     let who = at.goal_person-person.ensures.0 in (
-      goal-searched (from at).requires.0 at.wide-levels.ensures.0 (from at).requires.1.0,
+      goal-searched at.requires.0 at.wide-levels.ensures.0 at.requires.1.0,
       (
-        goal-stands (from at).requires.0 who (there at) at.goal_role-place.ensures.0,
-        remembered-none _ _ _ _ (from at).requires.1.1 memory room blank,
+        goal-stands at.requires.0 who (there at) at.goal_role-place.ensures.0,
+        remembered-none _ _ _ _ at.requires.1.1 memory room blank,
       ),
     )
 
@@ -86,7 +83,7 @@ from-start-requires c κs = seekable c.before.before.before.before.before _ (ome
 
 returns-3 : tie.Need-returns-then-is_small
 returns-3 c =
-    goal-told (from c.before.before.before.before.before.before.before).requires.0 c.goal_person-person.ensures.0 (there c.before.before.before.before.before.before.before)
+    goal-told c.requires.0 c.goal_person-person.ensures.0 (there c.before.before.before.before.before.before.before)
     c.goal_role-place.ensures.0 _ _ _ _ c.wide-levels.ensures.0 c.from_start.ensures
 
 slice-aggregate-from-start-2 : tie.Need-slice_bounds-from_start-end-2
@@ -97,7 +94,7 @@ from-start-requires-2 c κs = seekable c.before.before.before.before.before _ (o
 
 returns-4 : tie.Need-returns
 returns-4 c =
-    goal-told (from c.before.before.before.before.before.before.before).requires.0 c.goal_person-person.ensures.0 (there c.before.before.before.before.before.before.before)
+    goal-told c.requires.0 c.goal_person-person.ensures.0 (there c.before.before.before.before.before.before.before)
     c.goal_role-place.ensures.0 _ _ _ _ c.wide-levels.ensures.0 c.from_start-2.ensures
 
 pub query_search_spec : {M : Type 1} → statement M

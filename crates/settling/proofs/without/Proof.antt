@@ -55,8 +55,10 @@ loop-again c =
     let told = sym c.has.ensures in (
       omega arith,
       three_ways
-          (λ w. w.kept-is ∙ w.with-kept.ensures ∙ without_more _ _ _ _ _ so_far (told ∙ w.if-has.true) _ w.credential-credential.ensures w.is_among.ensures w.if-not-is_among.true)
-          (λ w. w.kept-is ∙ without-bearer _ _ _ _ _ so_far (told ∙ w.if-has.true) _ w.credential-credential.ensures w.is_among.ensures w.if-not-is_among.false)
+          (λ w. w.kept-is ∙ w.with-kept.ensures
+          ∙ without_more _ _ _ _ _ so_far (told ∙ w.if-has.true) _ w.credential-credential.ensures w.is_among.ensures w.if-not-is_among.true)
+          (λ w. w.kept-is
+          ∙ without-bearer _ _ _ _ _ so_far (told ∙ w.if-has.true) _ w.credential-credential.ensures w.is_among.ensures w.if-not-is_among.false)
           (λ w. w.kept-is ∙ without-outside _ _ _ _ _ so_far (told ∙ w.if-has.false)) c.if-has.branch-raw,
     )
 

@@ -19,7 +19,9 @@ decreases-loop numbers₀ found number cells place₀ numbers place = place
 
 loop-holds : tie.Need-loop-place-init invariant-loop decreases-loop
 loop-holds c =
-    placing-starts _ _ _ _ (⊎_elim (λ w. omega (arith, w.if-cells-place.true, w.place-is)) (λ w. omega (arith, w.if-cells-place.false, w.place-is)) c.if-cells-place.branch-raw)
+    placing-starts _ _ _ _
+    (⊎_elim (λ w. omega (arith, w.if-cells-place.true, w.place-is)) (λ w. omega (arith, w.if-cells-place.false, w.place-is))
+    c.if-cells-place.branch-raw)
 
 sub-if2 : tie.Need-overflow_sub-place invariant-loop decreases-loop
 sub-if2 c = search rules
@@ -78,7 +80,9 @@ returns c =
     let known = c.loop-place.invariant in
     placed-inserted _ _ _ _ _ (placing-ends _ _ _ _ _ _ known
     (λ some. ⊎_elim (λ w. w.if-number-numbers.false) (λ w. absurd (omega (arith, w.loop-place-test.false))) c.loop-place-test.branch-raw)
-    (⊎_elim (λ w. w.numbers-is) (λ w. w.numbers-is ∙ sym (set_out _ _ _ (omega (arith, w.if-place-cells-2.false, known.size)))) c.if-place-cells-2.branch-raw)) refl
+    (⊎_elim (λ w. w.numbers-is)
+    (λ w. w.numbers-is ∙ sym (set_out _ _ _ (omega (arith, w.if-place-cells-2.false, known.size))))
+    c.if-place-cells-2.branch-raw)) refl
 
 pub insert_spec : {M : Type 1} → statement M
 insert_spec =

@@ -11,14 +11,11 @@ use Rattle.verifier.proofs.Judged.{Begins, stops-number, verdict-leftover, verdi
 use Rattle.verifier.proofs.judge_by.Statement.{statement}
 use Rattle.verifier.proofs.judge_by.Tie as tie
 
--- where the record is to be read, and where it has been read
-abbrev start : tie.After-empty → tie.Start
-start at = at.before.before.before.before.before.before.before
-
+-- where the record is to be read
 abbrev levels : tie.After-empty → ℕ
 levels at = at.wide-levels.result
 
-begins : (at : tie.After-empty) → let from = (start at).args in
+begins : (at : tie.After-empty) → let from = at.args in
     let asked = at.goal_of-goal.result in
     Begins from.table.now from.query (levels at) (above at.empty.result) asked at.start-start.result
 begins at =
@@ -30,7 +27,7 @@ begins at =
     }
 
 levels-fit : (at : tie.After-empty) → at.empty.result.len + levels at ≤ most_depth
-levels-fit at = omega (arith, depth-fits _ (start at).requires.1.0, (begins at).all-levels, at.empty.ensures.1.0)
+levels-fit at = omega (arith, depth-fits _ at.requires.1.0, (begins at).all-levels, at.empty.ensures.1.0)
 
 abbrev begun : tie.After-read-rest → tie.After-empty
 begun at = at.before.before.before.before.before.before.before
@@ -49,13 +46,13 @@ empty-requires c κs = search rules
 
 read-requires : tie.Need-read-rest-requires
 read-requires c κs =
-    let pre = (start c.before.before.before.before.before.before).requires in
-    (pre.0, ((c.empty.ensures.0, levels-fit c.before.before.before.before.before.before), (omega (arith, (start c.before.before.before.before.before.before).well_formed.1.1), (refl, pre.1.1))))
+    let pre = c.requires in
+    (pre.0, ((c.empty.ensures.0, levels-fit c.before.before.before.before.before.before), (omega (arith, c.well_formed.1.1), (refl, pre.1.1))))
 
 reason-of-requires : tie.Need-reason_of-requires
 reason-of-requires c κs =
     let at = begun c.before.before.before in
-    stops-number (start at).requires.0 (begins at) c.read-rest.ensures.0 c.if-refusal-ne0.true
+    stops-number at.requires.0 (begins at) c.read-rest.ensures.0 c.if-refusal-ne0.true
 
 refused-requires : tie.Need-refused-requires
 refused-requires c κs = search rules
@@ -68,11 +65,11 @@ returns c =
     let at = begun c.before.before.before.before.before in
     let number = c.reason_of.ensures in
     rw number at c.refused.ensures
-    ∙ verdict-stops (start at).requires.0 (begins at) c.read-rest.ensures.0 c.if-refusal-ne0.true
+    ∙ verdict-stops at.requires.0 (begins at) c.read-rest.ensures.0 c.if-refusal-ne0.true
 
 add-refused : tie.Need-overflow_add-nodes
 add-refused c =
-    omega (arith, c.read-rest.ensures.0.room c.if-refusal-ne0.false, (start (begun c.before.before.before.before)).well_formed.1.1)
+    omega (arith, c.read-rest.ensures.0.room c.if-refusal-ne0.false, c.well_formed.1.1)
 
 refused-requires-2 : tie.Need-refused-requires-then-rest-ne0
 refused-requires-2 c κs = search rules
@@ -84,7 +81,7 @@ returns-2 : tie.Need-returns-then-rest-ne0
 unfolding number_of
 returns-2 c =
     let at = begun c.before.before.before.before.before in
-    let left_over = verdict-leftover (start at).requires.0 (begins at) c.read-rest.ensures.0 in
+    let left_over = verdict-leftover at.requires.0 (begins at) c.read-rest.ensures.0 in
     c.refused-then-rest-ne0.ensures ∙ left_over c.if-refusal-ne0.false c.if-rest-ne0.true
 
 judge-words-requires : tie.Need-judge_words-requires
@@ -97,7 +94,7 @@ returns-3 : tie.Need-returns
 returns-3 c =
     let at = begun c.before.before.before.before.before in
     c.judge_words.ensures
-    ∙ verdict-words (start at).requires.0 (begins at) c.read-rest.ensures.0 c.if-refusal-ne0.false c.if-rest-ne0.false
+    ∙ verdict-words at.requires.0 (begins at) c.read-rest.ensures.0 c.if-refusal-ne0.false c.if-rest-ne0.false
 
 pub judge_by_spec : {M : Type 1} → statement M
 judge_by_spec =

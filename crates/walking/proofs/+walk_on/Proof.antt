@@ -104,16 +104,13 @@ walk-asked-needs need = (t : ℕ) → walk-asked-place need t
 
 module _ (t : ℕ) where
   -- branch and state sets are one role on
-  abbrev walk_from : walk-place walk-lts.After-with-deeper t → walk-place walk-lts.Start t
-  walk_from at = at.before.before.before.before.before.before.before.before.before
-
-  walk-entered : (at : walk-place walk-lts.After-with-deeper t) → let from = (walk_from at).args in
+  walk-entered : (at : walk-place walk-lts.After-with-deeper t) → let from = at.args in
       Entered from.table.now from.terms.allowed from.terms.constraints from.terms.owed from.levels
       from.above
       at.with-deeper.result from.states at.stepped-below.result.states (in_family from.wanted) from.person
       from.place
   walk-entered at =
-      let pre = (walk_from at).requires.1 in
+      let pre = at.requires.1 in
       record {
         well_formed = pre.0.well_formed;
         stands = pre.1.0.0;
@@ -151,24 +148,24 @@ walk-sub-choose t c = omega (arith, entered-left (walk-entered t c))
 
 walk-choose-requires : walk-needs walk-lts.Need-choose-node-requires
 walk-choose-requires t c κs =
-    let pre = (walk_from t c.before.before).requires.1 in (
+    let pre = c.requires.1 in (
       searched-fewer _ (omega arith) pre.0,
       (pre.1.0, (pre.1.1.0, (pre.1.1.1.0, node-found (walk-entered t c.before.before)))),
     )
 
 walk-put-requires : walk-needs walk-lts.Need-put-requires
 walk-put-requires t c κs =
-    let room = (walk_from t c.before.before.before.before.before.before).requires.1.1.1.1.1.1 in
+    let room = c.requires.1.1.1.1.1.1 in
     omega (arith, room.0, room.1)
 
 walk-add-next : walk-needs walk-lts.Need-overflow_add-next
 walk-add-next t c =
-    let room = (walk_from t (walk-with t c.before.before)).requires.1.1.1.1.1.1 in
+    let room = c.requires.1.1.1.1.1.1 in
     record { fits = omega (arith, room.0, room.1) }
 
 walk-accepting-requires : walk-needs walk-lts.Need-accepting-requires
 walk-accepting-requires t c κs =
-    let searched = (walk_from t (walk-with t c.before.before.before.before.before)).requires.1.0 in
+    let searched = c.requires.1.0 in
     (searched.well_formed, searched.moving)
 
 walk-same-length : walk-needs walk-lts.Need-shape_of-memory-then-node-eq0
@@ -179,7 +176,7 @@ walk-same-length-2 t c = c.put.ensures.size
 
 walk-returns : walk-needs walk-lts.Need-returns-then-node-eq0
 walk-returns t c =
-    let (chosen, remembered) = (walk-chose t c.before.before.before.before.before.before.before).choose-node.ensures in
+    let (chosen, remembered) = c.choose-node.ensures in
     let told = node-ends (walk-entered t (walk-with t c.before.before.before.before.before.before.before)) chosen c.put.ensures _ c.if-node-eq0.true
     c.accepting.ensures in
     (record { walked = told.0; meets = told.1 }, remembered)
@@ -192,7 +189,7 @@ walk-same-length-4 t c = c.put.ensures.size
 
 walk-returns-2 : walk-needs walk-lts.Need-returns-then-most-next
 walk-returns-2 t c =
-    let (chosen, remembered) = (walk-chose t c.before.before.before.before.before).choose-node.ensures in
+    let (chosen, remembered) = c.choose-node.ensures in
     let told = node_over (walk-entered t (walk-with t c.before.before.before.before.before)) chosen c.put.ensures _ c.if-most-next.true 0 in
     (record { walked = told.0; meets = told.1 }, remembered)
 
@@ -203,8 +200,8 @@ walk-sub-walk-asked t c =
 walk-walk-asked-requires : walk-needs walk-lts.Need-walk_asked-requires
 walk-walk-asked-requires t c κs =
     let entered = walk-entered t (walk-with t c.before.before.before.before.before.before.before.before.before) in
-    let pre = (walk_from t (walk-with t c.before.before.before.before.before.before.before.before.before)).requires in
-    let (chosen, remembered) = (walk-chose t c.before.before.before.before.before.before.before.before.before).choose-node.ensures in (
+    let pre = c.requires in
+    let (chosen, remembered) = c.choose-node.ensures in (
       omega (arith, entered-left entered, pre.0),
       (
         searched-fewer _ (omega arith) pre.1.0,
@@ -236,15 +233,11 @@ walk-returns-3 : walk-needs walk-lts.Need-returns
 walk-returns-3 t c =
     let (walks, remembered) = c.walk_asked.ensures in
     let put = walk_put t c.before.before.before.before in
-    let told = node-goes (walk-entered t (walk-with t put)) (walk-chose t put).choose-node.ensures.0 put.put.ensures _
+    let told = node-goes (walk-entered t (walk-with t put)) put.choose-node.ensures.0 put.put.ensures _
     (c.if-node-eq0.false) walks.walked walks.meets in
     (record { walked = told.0; meets = told.1 }, remembered)
 
 module _ (t : ℕ) where
-  -- the loop's place, and the one where the call was c
-  abbrev walk-asked-from : walk-asked-place walk-asked-lts.At-loop-k t → walk-asked-place walk-asked-lts.Start t
-  walk-asked-from at = at.before.before.before.before.before.before.before.before.before
-
   -- where a child has been walked: the place where it was told what it may meet, and the loop's
   abbrev walk-asked-told : walk-asked-place walk-asked-lts.After-walk-walked t → walk-asked-place walk-asked-lts.After-wanted_here-here t
   walk-asked-told at = at.before.before.before.before.before
@@ -253,9 +246,9 @@ module _ (t : ℕ) where
   walk-asked-loop at = at.before.before.before.before
 
   -- the child is one of at most four
-  walk-asked-near : (at : walk-asked-place walk-asked-lts.After-wanted_here-here t) → (walk-asked-loop at).loop-k.k < 4
+  walk-asked-near : (at : walk-asked-place walk-asked-lts.After-wanted_here-here t) → at.loop-k.k < 4
   walk-asked-near at =
-      let pre = (walk-asked-from (walk-asked-loop at)).requires.1 in
+      let pre = at.requires.1 in
       omega (arith, at.loop-k-test.true, pre.1.0.fits.few)
 
 walk-asked-loop-holds : walk-asked-needs walk-asked-lts.Need-loop-k-init
@@ -265,12 +258,12 @@ walk-asked-loop-holds t c =
 
 walk-asked-add-wanted-here : walk-asked-needs walk-asked-lts.Need-overflow_add-k
 walk-asked-add-wanted-here t c =
-    let pre = (walk-asked-from t c.before.before).requires.1 in
+    let pre = c.requires.1 in
     record { fits = omega (arith, c.loop-k-test.true, pre.1.0.fits.few) }
 
 walk-asked-wanted-here-requires : walk-asked-needs walk-asked-lts.Need-wanted_here-here-requires
 walk-asked-wanted-here-requires t c κs =
-    let pre = (walk-asked-from t c.before.before.before).requires.1 in
+    let pre = c.requires.1 in
     let (_, _, passed, _, remembered) = c.loop-k.invariant in
     (pre.0, (pre.1.0, (pre.1.1.0, (remembered, (passed.few, omega (arith, c.loop-k-test.true))))))
 
@@ -289,7 +282,7 @@ walk-asked-array-read-walk-2 t c = walk-asked-near t c.before.before
 walk-asked-walk-requires : walk-asked-needs walk-asked-lts.Need-walk-walked-requires
 walk-asked-walk-requires t c κs =
     let at = walk-asked-loop t c.before.before.before.before in
-    let pre = (walk-asked-from t at).requires in
+    let pre = at.requires in
     let wf = pre.1.0.well_formed in
     let wanted = family-wants pre.1.1.1.0 in
     let next = c.loop-k-test.true in
@@ -320,7 +313,7 @@ walk-asked-loop-again : walk-asked-needs walk-asked-lts.Need-loop-k-preserved
 walk-asked-loop-again t c =
     let told = walk-asked-told t c.before.before.before.before.before.before in
     let at = walk-asked-loop t told in
-    let pre = (walk-asked-from t at).requires.1 in
+    let pre = at.requires.1 in
     let next = told.loop-k-test.true in
     let (walks, remembered) = c.walk-walked.ensures in
     let room = c.if-most-next.false in (
@@ -348,17 +341,17 @@ walk-asked-returns t c =
 walk-asked-same-length-3 : walk-asked-needs walk-asked-lts.Need-shape_of-memory-then-most-next
 walk-asked-same-length-3 t c =
     c.memory-in-loop-k-1.given ∙ c.memory-1.given
-    ∙ (walk-asked-loop t (walk-asked-told t c.before.before.before.before.before)).loop-k.invariant.3
+    ∙ c.loop-k.invariant.3
 
 walk-asked-same-length-4 : walk-asked-needs walk-asked-lts.Need-shape_of-rec-then-most-next
 walk-asked-same-length-4 t c =
-    c.walk-walked.ensures.0.walked.size ∙ (walk-asked-loop t (walk-asked-told t c.before.before.before.before.before)).loop-k.invariant.2.walked.size
+    c.walk-walked.ensures.0.walked.size ∙ c.loop-k.invariant.2.walked.size
 
 walk-asked-returns-2 : walk-asked-needs walk-asked-lts.Need-returns-then-most-next
 walk-asked-returns-2 t c =
     let told = walk-asked-told t c.before.before.before.before.before in
     let at = walk-asked-loop t told in
-    let pre = (walk-asked-from t at).requires.1 in
+    let pre = at.requires.1 in
     let next = told.loop-k-test.true in
     let (walks, remembered) = c.walk-walked.ensures in (
       record {

@@ -25,16 +25,9 @@ start-requires c κs = search rules
 nothing-requires : tie.Need-nothing-requires
 nothing-requires c κs = search rules
 
--- the place where all that the walk begins with has been read, and the one where the call was asked
-abbrev Ready : Type 0
-Ready = tie.After-start
-
-abbrev asked : Ready → tie.Start
-asked at = at.before.before.before.before.before.before.before.before.before.before.before
-
 walk-requires : tie.Need-walk-walked-requires
 walk-requires c κs =
-    let pre = (asked c.before.before.before).requires in
+    let pre = c.requires in
     let who = c.goal_person.ensures.0 in
     let place = c.goal_role.ensures.0 in
     let only = c.only.ensures in
@@ -68,7 +61,7 @@ same-length-2 c = search rules
 returns : tie.Need-returns
 returns c =
     let (walked, remembered) = c.walk-walked.ensures in
-    let pre = (asked c.before.before.before.before.before.before.before.before).requires in
+    let pre = c.requires in
     let who = c.goal_person.ensures.0 in
     let place = c.goal_role.ensures.0 in (
       begins-walked pre.0 pre.1.0 _ _ pre.1.1.0.few pre.1.1.1.0 who place _

@@ -36,7 +36,7 @@ only-requires c κs = omega arith
 
 loop-holds : tie.Need-loop-k-init invariant-loop decreases-loop
 loop-holds c =
-    let pre = (start c).requires in
+    let pre = c.requires in
     (pre.1.1.0, omega arith, later-none _ _ _ _ _ _ _ _ _ c.only-met.ensures, refl, pre.1.1.1)
 
 sub-k : tie.Need-overflow_sub-k invariant-loop decreases-loop
@@ -50,7 +50,7 @@ array-read-goal-search c = omega (
   arith,
   c.loop-k-test.true,
   c.loop-k.invariant.1,
-  (start c.before.before).requires.1.0.fits.few,
+  c.requires.1.0.fits.few,
 )
 
 mul-goal-search-2 : tie.Need-offset_bounds-places-k invariant-loop decreases-loop
@@ -61,12 +61,12 @@ array-read-goal-search-2 c = omega (
   arith,
   c.loop-k-test.true,
   c.loop-k.invariant.1,
-  (start c.before.before).requires.1.0.fits.few,
+  c.requires.1.0.fits.few,
 )
 
 goal-search-requires : tie.Need-goal_search-answer-requires invariant-loop decreases-loop
 goal-search-requires c κs =
-    let pre = (start c.before.before.before).requires in
+    let pre = c.requires in
     let (_, few, _, _, remembered) = c.loop-k.invariant in
     (pre.0, (asked-stands _ pre.1.0.stands _ (omega (arith, c.loop-k-test.true, few)), remembered))
 
@@ -81,7 +81,7 @@ loop-again c =
     let (one, remembered) = c.goal_search-answer.ensures in
     let test = c.loop-k-test.true in
     let (_, few, behind, same, _) = c.loop-k.invariant in
-    let there = child-there (start c.before.before.before.before.before.before.before.before).requires.1.0 in (
+    let there = child-there c.requires.1.0 in (
       omega (arith, test),
       omega (arith, few),
       later-next _ _ _ _ _ _ _ _ _ _ (omega (arith, test)) few (there _ (omega (arith, test, few))) c.joined-met.ensures
@@ -96,7 +96,7 @@ same_length c = c.loop-k.invariant.3
 returns : tie.Need-returns invariant-loop decreases-loop
 returns c =
     let (from, _, told, _, remembered) = c.loop-k.invariant in
-    let last : c.loop-k.k ≡ (start c.before.before).args.from = omega (arith, c.loop-k-test.false, from) in
+    let last : c.loop-k.k ≡ c.args.from = omega (arith, c.loop-k-test.false, from) in
     (rw last at told, remembered)
 
 pub met_from_spec : {M : Type 1} → statement M

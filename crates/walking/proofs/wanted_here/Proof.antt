@@ -8,31 +8,27 @@ use borrow.Author.Rules.{rules}
 use Rattle.walking.proofs.wanted_here.Statement.{statement}
 use Rattle.walking.proofs.wanted_here.Tie as tie
 
--- the place before anything is made, and the one where the call was asked
-abbrev start : tie.After-struct_known-1 → tie.Start
-start at = at.before.before.before.before.before.before
-
 returns : tie.Need-returns-then-terms-eq0
 returns c =
-    let (_, (children, (wanted, (remembered, (owed, from))))) = (start c.before).requires in
+    let (_, (children, (wanted, (remembered, (owed, from))))) = c.requires in
     (here-none _ _ _ (family-wants wanted) _ owed _ c.if-terms-eq0.true (children-nothing children _ from), remembered)
 
 only-requires : tie.Need-only-now-requires
 only-requires c κs =
-    let (_, (_, (wanted, (_, (owed, _))))) = (start c.before).requires in
+    let (_, (_, (wanted, (_, (owed, _))))) = c.requires in
     omega (arith, part-le _ _ owed, wanted.few)
 
 has-requires : tie.Need-has-requires
 has-requires c κs =
-    let (_, (_, (wanted, (_, (owed, _))))) = (start c.before.before).requires in
+    let (_, (_, (wanted, (_, (owed, _))))) = c.requires in
     omega (arith, part-le _ _ owed, wanted.few)
 
 left-by-requires : tie.Need-left_by-requires
-left-by-requires c κs = (start c.before.before.before.before).requires.1.1.0.few
+left-by-requires c κs = c.requires.1.1.0.few
 
 returns-2 : tie.Need-returns-then-has
 returns-2 c =
-    let (_, (children, (wanted, (remembered, (owed, from))))) = (start c.before.before.before.before.before).requires in (
+    let (_, (children, (wanted, (remembered, (owed, from))))) = c.requires in (
       here-all _ _ _ (family-wants wanted) _ owed _ _ c.only-now.ensures (children-nothing children _ from)
           (sym c.has.ensures ∙ c.if-has.true) _ c.left_by.ensures,
       remembered,
@@ -40,7 +36,7 @@ returns-2 c =
 
 met-from-requires : tie.Need-met_from-later-requires
 met-from-requires c κs =
-    let (searched, (children, (_, (remembered, (_, from))))) = (start c.before.before.before.before.before).requires in
+    let (searched, (children, (_, (remembered, (_, from))))) = c.requires in
     (searched, (children, (from, remembered)))
 
 joined-requires : tie.Need-joined-requires
@@ -48,7 +44,7 @@ joined-requires c κs = search rules
 
 left-by-requires-2 : tie.Need-left_by-requires-2
 left-by-requires-2 c κs =
-    (start c.before.before.before.before.before.before.before.before.before).requires.1.1.0.few
+    c.requires.1.1.0.few
 
 same_length : tie.Need-shape_of-memory
 same_length c = search rules
@@ -56,7 +52,7 @@ same_length c = search rules
 returns-3 : tie.Need-returns
 returns-3 c =
     let (told, remembered) = c.met_from-later.ensures in
-    let (_, (_, (wanted, (_, (owed, _))))) = (start c.before.before.before.before.before.before.before.before.before.before).requires in (
+    let (_, (_, (wanted, (_, (owed, _))))) = c.requires in (
       here-left _ _ _ (family-wants wanted) _ owed _ _ c.only-now.ensures _ _ (λ X. refl) _ _ _ told
           c.joined.ensures c.left_by-2.ensures,
       remembered,

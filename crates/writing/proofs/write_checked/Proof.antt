@@ -8,10 +8,6 @@ use borrow.Author.Rules.{rules}
 use Rattle.writing.proofs.write_checked.Statement.{statement}
 use Rattle.writing.proofs.write_checked.Tie as tie
 
--- where the record was asked for
-abbrev start : tie.After-index-index → tie.Start
-start at = at.before.before.before
-
 index-requires : tie.Need-index-index-requires
 index-requires c κs = search rules
 
@@ -29,7 +25,7 @@ slice-aggregate-write-over-2 c = search rules
 
 write-over-requires : tie.Need-write_over-requires
 write-over-requires c κs =
-    prepared-by (start c.before.before.before.before.before).requires c.index-index.ensures (no-arcs _ _ (simp length-take (omega arith)))
+    prepared-by c.requires c.index-index.ensures (no-arcs _ _ (simp length-take (omega arith)))
 
 same_length : tie.Need-shape_of-rec-then-automata_of-eq0
 same_length c = search rules
@@ -54,7 +50,7 @@ slice-aggregate-write-over-4 c = search rules
 
 write-over-requires-2 : tie.Need-write_over-requires-2
 write-over-requires-2 c κs =
-    prepared-by (start c.before.before.before.before.before.before.before.before.before).requires c.index-index.ensures c.make_arcs.ensures.0
+    prepared-by c.requires c.index-index.ensures c.make_arcs.ensures.0
 
 same-length-2 : tie.Need-shape_of-rec
 same-length-2 c = search rules

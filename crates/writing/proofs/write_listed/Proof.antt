@@ -52,35 +52,33 @@ slice-aggregate-write-settled c = search rules
 slice-aggregate-write-settled-2 : tie.Need-slice_bounds-write_settled-end-then-is_small
 slice-aggregate-write-settled-2 c = search rules
 
--- the place where the terms are known, and the one where the call was asked
+-- the place where the terms are known
 abbrev Ready : Type 0
 Ready = tie.After-marked-owed
 
-abbrev asked : Ready → tie.Start
-asked at = at.before.before.before.before.before.before.before.before.before.before
-
 -- the automata of the set by their marks
-settled : (at : Ready) → let from = (asked at).args in
+settled : (at : Ready) → let from = at.args in
     Settled from.table.now from.set (bit_xor at.automata_of-borne.result at.marked-owed.result) at.marked-owed.result
-settled at = settled-by _ (asked at).requires.0.well_formed _ at.automata_of-borne.ensures at.marked-owed.ensures
+settled at = settled-by _ at.requires.0.well_formed _ at.automata_of-borne.ensures at.marked-owed.ensures
 
 -- the members of the set, as they have been found
-filled : (at : Ready) → let from = (asked at).args in
+filled : (at : Ready) → let from = at.args in
     let fill = at.fill-last in
     Members from.table.now from.set from.query.depth fill.result fill.new.rows
 filled at =
     rw at.wide.ensures.0 at at.fill-last.ensures
 
 -- a cleared memory, of any length
-cleared : (at : Ready) (memory : List ℕ) → SlotIn memory 0 → Blank memory → let from = (asked at).args in
+cleared : (at : Ready) (memory : List ℕ) → SlotIn memory 0 → Blank memory → let from = at.args in
     Remembered from.table.now from.set (bit_xor at.automata_of-borne.result at.marked-owed.result) at.marked-owed.result
     memory
-cleared at = remembered-none _ _ _ _ (owed-fits (asked at).requires.0.well_formed (settled at))
+cleared at = remembered-none _ _ _ _ (owed-fits at.requires.0.well_formed (settled at))
 
 write-settled-requires : tie.Need-write_settled-requires
 write-settled-requires c κs =
-    let pre = (asked c.before.before.before.before.before).requires in
-    (pre.0, (pre.1, (filled c.before.before.before.before.before, (settled c.before.before.before.before.before, cleared c.before.before.before.before.before _ (omega arith) (zeros few_cells)))))
+    let at = c.before.before.before.before.before in
+    let pre = c.requires in
+    (pre.0, (pre.1, (filled at, (settled at, cleared at _ (omega arith) (zeros few_cells)))))
 
 same_length : tie.Need-shape_of-rec-then-is_small
 same_length c = search rules
@@ -96,8 +94,9 @@ slice-aggregate-write-settled-4 c = search rules
 
 write-settled-requires-2 : tie.Need-write_settled-requires-2
 write-settled-requires-2 c κs =
-    let pre = (asked c.before.before.before.before.before).requires in
-    (pre.0, (pre.1, (filled c.before.before.before.before.before, (settled c.before.before.before.before.before, cleared c.before.before.before.before.before _ (omega arith) (zeros memory_cells)))))
+    let at = c.before.before.before.before.before in
+    let pre = c.requires in
+    (pre.0, (pre.1, (filled at, (settled at, cleared at _ (omega arith) (zeros memory_cells)))))
 
 same-length-2 : tie.Need-shape_of-rec
 same-length-2 c = search rules

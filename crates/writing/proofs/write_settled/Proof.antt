@@ -19,30 +19,27 @@ slice-relend-prefix-from-goal c = search rules
 slice-aggregate-from-goal : tie.Need-slice_bounds-from_goal-end-2
 slice-aggregate-from-goal c = simp length-take (omega arith)
 
--- the place before the first walk, and the one where the call was asked
+-- the place before the first walk
 abbrev Ready : Type 0
 Ready = tie.After-from_goal-arg-2-1
 
-abbrev asked : Ready → tie.Start
-asked at = at.before.before.before.before.before.before.before.before
-
 abbrev cells : Ready → List ℕ
-cells at = (asked at).args.rec.now
+cells at = at.args.rec.now
 
 -- a slice is no longer than this
 room : (at : Ready) → length (cells at) < 2 ^ 63
 room at = search rules
 
 -- what each walk asks: the set proves the query under its automata
-walkable : (at : Ready) → let from = (asked at).args in
+walkable : (at : Ready) → let from = at.args in
     provable from.table.now from.query from.terms.allowed from.terms.constraints from.terms.owed ≡ true
 walkable at =
-    let pre = (asked at).requires in
+    let pre = at.requires in
     proves-under pre.0.well_formed pre.1.1.1.0 _ pre.0.valid pre.1.0
 
 from-goal-requires : tie.Need-from_goal-len-requires
 from-goal-requires c κs =
-    let pre = (asked c).requires in
+    let pre = c.requires in
     (pre.0, (pre.1.1.0, (pre.1.1.1.1, (walkable c, room c))))
 
 refused-requires : tie.Need-refused-requires
@@ -57,15 +54,16 @@ same-length-2 c = search rules
 returns : tie.Need-returns-then-cells-len
 unfolding number_of
 returns c =
-    let pre = (asked c.before.before.before.before.before.before.before).requires.1 in
+    let pre = c.requires.1 in
     let counted = c.from_goal-len.ensures.0 in
     tells-instead _ _ _ _ c.refused.ensures (passed-by counted (cells c.before.before.before.before.before.before.before))
     (counted-longer _ pre.1.1.0 _ pre.0 refl counted c.if-cells-len.true)
 
 from-goal-requires-2 : tie.Need-from_goal-requires
 from-goal-requires-2 c κs =
-    let pre = (asked c.before.before.before.before.before.before.before.before).requires in
-    (pre.0, (pre.1.1.0, (c.from_goal-len.ensures.1, (walkable c.before.before.before.before.before.before.before.before, room c.before.before.before.before.before.before.before.before))))
+    let at = c.before.before.before.before.before.before.before.before in
+    let pre = c.requires in
+    (pre.0, (pre.1.1.0, (c.from_goal-len.ensures.1, (walkable at, room at))))
 
 same-length-3 : tie.Need-shape_of-memory
 same-length-3 c = search rules
@@ -76,7 +74,7 @@ same-length-4 c = search rules
 returns-2 : tie.Need-returns
 unfolding written_told
 returns-2 c =
-    let pre = (asked c.before.before.before.before.before.before.before.before.before.before.before.before.before).requires.1 in
+    let pre = c.requires.1 in
     let counted = c.from_goal-len.ensures.0 in
     counted-written _ pre.1.1.0 _ pre.0 refl counted c.if-cells-len.false
     (rw (passed-by counted (cells c.before.before.before.before.before.before.before.before.before.before.before.before.before)) at c.from_goal.ensures.0)

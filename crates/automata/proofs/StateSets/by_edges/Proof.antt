@@ -14,16 +14,13 @@ invariant-loop table role self next₀ e k₀ next k = (k ≤ e) × Moving table
 abbrev decreases-loop : tie.decreases-loop-k
 decreases-loop table role self next₀ e k₀ next k = e - k
 
--- where an edge has been read, and where what it gives is known
-abbrev loop : tie.After-edge-edge invariant-loop decreases-loop → tie.At-loop-k invariant-loop decreases-loop
-loop at = at.before.before
-
+-- the place before what an edge gives is known
 abbrev wide : tie.After-gives-to invariant-loop decreases-loop → tie.After-wide-at invariant-loop decreases-loop
 wide at = at.before.before
 
 in-range : (at : tie.After-edge-edge invariant-loop decreases-loop) → let e = at.edge-edge.result in
     Numbered most_automata e.automaton × ((e.from ≤ last_state) × (e.to ≤ last_state))
-in-range at = edge-there _ (loop at).requires _ (omega arith) at.edge-edge.ensures
+in-range at = edge-there _ at.requires _ (omega arith) at.edge-edge.ensures
 
 edges-requires : tie.Need-edges-e-requires invariant-loop decreases-loop
 edges-requires c κs = search rules
@@ -72,8 +69,8 @@ loop-again c =
     let at = (wide c.before.before).before in
     let own = (in-range at).0 in
     let gives = c.gives-to.ensures in
-    let number = (wide c.before.before).wide-at.ensures.0 in
-    (omega arith, moving-on _ _ _ _ _ (loop at).loop-k.invariant.1 at.edge-edge.ensures own number gives)
+    let number = c.wide-at.ensures.0 in
+    (omega arith, moving-on _ _ _ _ _ at.loop-k.invariant.1 at.edge-edge.ensures own number gives)
 
 loop-less-2 : tie.Need-loop-k-smaller invariant-loop decreases-loop
 loop-less-2 c = search rules
@@ -83,8 +80,8 @@ loop-again-2 c =
     let at = (wide c.before).before in
     let own = (in-range at).0 in
     let gives = c.gives-to.ensures in
-    let number = (wide c.before).wide-at.ensures.0 in
-    (omega arith, moving-past _ _ _ _ _ (loop at).loop-k.invariant.1 at.edge-edge.ensures own number gives c.if-to-ne0.false)
+    let number = c.wide-at.ensures.0 in
+    (omega arith, moving-past _ _ _ _ _ at.loop-k.invariant.1 at.edge-edge.ensures own number gives c.if-to-ne0.false)
 
 returns : tie.Need-returns invariant-loop decreases-loop
 returns c = moving-all _ _ _ _ _ (omega arith) c.loop-k.invariant.1

@@ -38,7 +38,7 @@ same_length c = search rules
 
 returns : tie.Need-returns-then-is_none
 returns c =
-    let pre = (asked c.before.before.before.before.before).requires in
+    let pre = c.requires in
     let middle = pre.1.1.0 in
     let (judged, remembered) = c.goal_search-one.ensures in (
       leads-none pre.0 pre.1.0.0 pre.1.0.1 middle.0 middle.1 _ _ _ pre.1.1.1.0
@@ -48,13 +48,13 @@ returns c =
 
 link-cell-requires : tie.Need-link_cell-requires
 link-cell-requires c κs =
-    let pre = (asked c.before.before.before.before.before).requires in
+    let pre = c.requires in
     let few = pre.0.well_formed.sized.counted.few_credentials in
     (pre.0.indexed.placed, (omega (arith, pre.1.0.0.there, few), omega (arith, pre.1.1.0.0, few)))
 
 goal-search-requires-2 : tie.Need-goal_search-two-requires
 goal-search-requires-2 c κs =
-    let pre = (asked c.before.before.before.before.before.before.before).requires in
+    let pre = c.requires in
     let middle = pre.1.1.0 in
     let stands = second-stands pre.0 pre.1.0.0 pre.1.0.1 middle.0 middle.1 c.link_cell.ensures.0 in
     (pre.0, (stands, c.goal_search-one.ensures.1))
@@ -70,12 +70,13 @@ same-length-2 c = search rules
 
 returns-2 : tie.Need-returns
 returns-2 c =
-    let pre = (asked c.before.before.before.before.before.before.before.before.before.before.before.before.before.before).requires in
+    let at = c.before.before.before.before.before.before.before.before.before.before.before.before.before.before in
+    let pre = c.requires in
     let middle = pre.1.1.0 in
     let (judged, remembered) = c.goal_search-two.ensures in (
       leads-told pre.0 pre.1.0.0 pre.1.0.1 middle.0 middle.1 _ _ _ pre.1.1.1.0
-          c.asked_cell.ensures.0 (judged-told (wide (asked c.before.before.before.before.before.before.before.before.before.before.before.before.before.before)) c.goal_search-one.ensures.0)
-          c.link_cell.ensures.0 _ (judged-told (wide (asked c.before.before.before.before.before.before.before.before.before.before.before.before.before.before)) judged) c.joined-both.ensures c.meets.ensures,
+          c.asked_cell.ensures.0 (judged-told (wide (asked at)) c.goal_search-one.ensures.0)
+          c.link_cell.ensures.0 _ (judged-told (wide (asked at)) judged) c.joined-both.ensures c.meets.ensures,
       remembered,
     )
 

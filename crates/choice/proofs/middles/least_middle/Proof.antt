@@ -37,36 +37,29 @@ listed-middles-requires c κs =
       ),
     )
 
--- the place where the middles have been listed, and the one where the function was asked
-abbrev Listed : Type 0
-Listed = tie.After-listed_middles-left invariant-loop decreases-loop
-
-abbrev asked : Listed → tie.Start invariant-loop decreases-loop
-asked at = at.before.before.before.before.before.before.before
-
 loop-holds : tie.Need-loop-left-init invariant-loop decreases-loop
 loop-holds c =
-    let pre = (asked c).requires in (
+    let pre = c.requires in (
       left-first pre.0 pre.1.0.0 pre.1.0.1 _ _ _ _ _ _ _ c.row_of-row.ensures c.listed_middles-left.ensures,
       (refl, pre.1.1.1.0),
     )
 
 sub-loop : tie.Need-overflow_sub-left invariant-loop decreases-loop
 sub-loop c =
-    let pre = (asked c.before).requires in
+    let pre = c.requires in
     let some = some-leads _ _ _ _ _ pre.1.0.1 pre.1.1.1.1 in
     some-least _ (left-some _ _ _ c.loop-left.invariant.0 some)
 
 least-named-requires : tie.Need-least_named-j-requires invariant-loop decreases-loop
 least-named-requires c κs =
-    let pre = (asked c.before.before).requires in
+    let pre = c.requires in
     let some = some-leads _ _ _ _ _ pre.1.0.1 pre.1.1.1.1 in
     let left = c.loop-left.invariant.0 in
     (pre.0.well_formed, (left.few, left-some _ _ _ left some))
 
 leads-on-requires : tie.Need-leads_on-requires invariant-loop decreases-loop
 leads-on-requires c κs =
-    let pre = (asked c.before.before.before.before).requires in
+    let pre = c.requires in
     let named = c.least_named-j.ensures in
     let (left, (same, remembered)) = c.loop-left.invariant in
     (pre.0, (pre.1.0, ((named.there, left.people _ named.member), (pre.1.1.0, remembered))))
@@ -77,7 +70,7 @@ Named = tie.After-least_named-j invariant-loop decreases-loop
 
 near : (at : Named) → at.least_named-j.result < 32
 near at =
-    let pre = (asked at.before.before.before).requires in
+    let pre = at.requires in
     omega (arith, below-most pre.0.well_formed _ at.least_named-j.ensures.there)
 
 same_length : tie.Need-shape_of-memory-then-leads_on invariant-loop decreases-loop
@@ -111,7 +104,7 @@ loop-again c =
 
 least-named-requires-2 : tie.Need-least_named-requires invariant-loop decreases-loop
 least-named-requires-2 c κs =
-    let pre = (asked c.before.before).requires in
+    let pre = c.requires in
     let some = some-leads _ _ _ _ _ pre.1.0.1 pre.1.1.1.1 in
     let left = c.loop-left.invariant.0 in
     (pre.0.well_formed, (left.few, left-some _ _ _ left some))
@@ -121,7 +114,7 @@ same-length-2 c = search rules
 
 returns-2 : tie.Need-returns invariant-loop decreases-loop
 returns-2 c =
-    let pre = (asked c.before.before.before).requires in
+    let pre = c.requires in
     let some = some-leads _ _ _ _ _ pre.1.0.1 pre.1.1.1.1 in
     let (left, (same, remembered)) = c.loop-left.invariant in
     (only-leads _ _ _ left _ c.least_named.ensures some c.loop-left-test.false, remembered)

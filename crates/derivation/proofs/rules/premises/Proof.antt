@@ -15,16 +15,13 @@ use Rattle.derivation.proofs.rules.premises.Statement.{statement}
 use Rattle.derivation.proofs.rules.premises.Tie as tie
 
 -- where a credential has been read, it is the table's credential number c
-abbrev start : tie.After-credential-credential → tie.Start
-start at = at.before.before.before.before.before
-
-may : (at : tie.After-credential-credential) → usable (start at).args.table.now (start at).args.c ≡ true
+may : (at : tie.After-credential-credential) → usable at.args.table.now at.args.c ≡ true
 may at = passed at.usable.ensures at.if-not-usable.false
 
-there : (at : tie.After-credential-credential) → Numbered (credentials (start at).args.table.now) (start at).args.c
+there : (at : tie.After-credential-credential) → Numbered (credentials at.args.table.now) at.args.c
 there at = usable-numbered _ _ (may at)
 
-found : (at : tie.After-credential-credential) → at.credential-credential.result ≡ credential (start at).args.table.now (start at).args.c
+found : (at : tie.After-credential-credential) → at.credential-credential.result ≡ credential at.args.table.now at.args.c
 found at = at.credential-credential.ensures ∙ ap (credential _) at.wide.ensures.0
 
 -- where its role is the goal's, what it asks are the premises
@@ -61,8 +58,9 @@ not-applying-requires-2 c κs = search rules
 
 returns-2 : tie.Need-returns-then-not-same
 returns-2 c =
+    let at = c.before.before.before.before.before in
     let other = failed c.same.ensures c.if-not-same.true in
-    answer-is c.not_applying-then-not-same.ensures (other-role _ _ _ _ (may c.before.before.before.before.before) _ (found c.before.before.before.before.before) other)
+    answer-is c.not_applying-then-not-same.ensures (other-role _ _ _ _ (may at) _ (found at) other)
 
 membership-requires : tie.Need-membership-requires
 membership-requires c κs = search rules
@@ -75,8 +73,9 @@ linking-requires c κs = search rules
 
 chain-requires : tie.Need-chain-requires
 chain-requires c κs =
-    let pre = (start c.before.before.before.before.before).requires in
-    (pre, chain-there _ pre _ (there c.before.before.before.before.before) _ (found c.before.before.before.before.before) c.in-4.is)
+    let at = c.before.before.before.before.before in
+    let pre = c.requires in
+    (pre, chain-there _ pre _ (there at) _ (found at) c.in-4.is)
 
 intersection-requires : tie.Need-intersection-requires
 intersection-requires c κs = (c.chain.ensures.few, c.chain.ensures.room)
@@ -95,7 +94,7 @@ returns-5 c = answer-is c.linking.ensures (asks-3 _ _ _ _ c.in-3.is ∙ own c.be
 
 returns-6 : tie.Need-returns-in-4
 returns-6 c =
-    let args = (start c.before.before.before.before.before.before.before).args in
+    let args = c.args in
     let chain = c.chain.ensures.roles in
     let parts = ap (λ (roles : List Role). intersection_asks args.goal roles args.middle) chain in
     let asked = asks-4 _ _ _ _ c.in-4.is in

@@ -195,28 +195,182 @@ credential-search-below t =
     credential-search.Pre
 
 abbrev asked-search-claims : ℕ → asked-search-lts.Claims
-asked-search-claims t = (same-later-reads.Asked, same-later-reads.Learnt, answered-reads.Asked, answered-reads.Learnt, goal-search-below t, goal-search.Post)
+asked-search-claims t = (
+  same-later-reads.Asked,
+  same-later-reads.Learnt,
+  answered-reads.Asked,
+  answered-reads.Learnt,
+  goal-search-below t,
+  goal-search.Post,
+)
 
 abbrev definers-search-claims : ℕ → definers-search-lts.Claims
-definers-search-claims t = (stepped-reads.Asked, stepped-reads.Learnt, any-dead-reads.Asked, any-dead-reads.Learnt, nothing-reads.Asked, nothing-reads.Learnt, failed-reads.Asked, failed-reads.Learnt, left-owed-reads.Asked, left-owed-reads.Learnt, credentials-reads.Asked, credentials-reads.Learnt, none_reads.Asked, none_reads.Learnt, may-use-reads.Asked, may-use-reads.Learnt, credential-search-below t, credential-search.Post, or-reads.Asked, or-reads.Learnt, is-enough-reads.Asked, is-enough-reads.Learnt, answered-reads.Asked, answered-reads.Learnt, joined-reads.Asked, joined-reads.Learnt)
+definers-search-claims t = (
+  stepped-reads.Asked,
+  stepped-reads.Learnt,
+  any-dead-reads.Asked,
+  any-dead-reads.Learnt,
+  nothing-reads.Asked,
+  nothing-reads.Learnt,
+  failed-reads.Asked,
+  failed-reads.Learnt,
+  left-owed-reads.Asked,
+  left-owed-reads.Learnt,
+  credentials-reads.Asked,
+  credentials-reads.Learnt,
+  none_reads.Asked,
+  none_reads.Learnt,
+  may-use-reads.Asked,
+  may-use-reads.Learnt,
+  credential-search-below t,
+  credential-search.Post,
+  or-reads.Asked,
+  or-reads.Learnt,
+  is-enough-reads.Asked,
+  is-enough-reads.Learnt,
+  answered-reads.Asked,
+  answered-reads.Learnt,
+  joined-reads.Asked,
+  joined-reads.Learnt,
+)
 
 abbrev goal-search-claims : ℕ → goal-search-lts.Claims
-goal-search-claims t = (may-be-proved-reads.Asked, may-be-proved-reads.Learnt, nothing-reads.Asked, nothing-reads.Learnt, failed-reads.Asked, failed-reads.Learnt, above-Above-has-reads.Asked, above-Above-has-reads.Learnt, with-reads.Asked, with-reads.Learnt, slot-count-reads.Asked, slot-count-reads.Learnt, slot-reads.Asked, slot-reads.Learnt, recalled-reads.Asked, recalled-reads.Learnt, definers-search-below t, definers-search.Post, is-part-reads.Asked, is-part-reads.Learnt, answered-reads.Asked, answered-reads.Learnt, without-reads.Asked, without-reads.Learnt, keep-reads.Asked, keep-reads.Learnt)
+goal-search-claims t = (
+  may-be-proved-reads.Asked,
+  may-be-proved-reads.Learnt,
+  nothing-reads.Asked,
+  nothing-reads.Learnt,
+  failed-reads.Asked,
+  failed-reads.Learnt,
+  above-Above-has-reads.Asked,
+  above-Above-has-reads.Learnt,
+  with-reads.Asked,
+  with-reads.Learnt,
+  slot-count-reads.Asked,
+  slot-count-reads.Learnt,
+  slot-reads.Asked,
+  slot-reads.Learnt,
+  recalled-reads.Asked,
+  recalled-reads.Learnt,
+  definers-search-below t,
+  definers-search.Post,
+  is-part-reads.Asked,
+  is-part-reads.Learnt,
+  answered-reads.Asked,
+  answered-reads.Learnt,
+  without-reads.Asked,
+  without-reads.Learnt,
+  keep-reads.Asked,
+  keep-reads.Learnt,
+)
 
 abbrev link-search-claims : ℕ → link-search-lts.Claims
-link-search-claims t = (link-asked-reads.Asked, link-asked-reads.Learnt, shared-search-below t, shared-search.Post, goal-search-below t, goal-search.Post, is-none-reads.Asked, is-none-reads.Learnt, failed-reads.Asked, failed-reads.Learnt)
+link-search-claims t = (
+  link-asked-reads.Asked,
+  link-asked-reads.Learnt,
+  shared-search-below t,
+  shared-search.Post,
+  goal-search-below t,
+  goal-search.Post,
+  is-none-reads.Asked,
+  is-none-reads.Learnt,
+  failed-reads.Asked,
+  failed-reads.Learnt,
+)
 
 abbrev linked-search-claims : ℕ → linked-search-lts.Claims
-linked-search-claims t = (credentials-reads.Asked, credentials-reads.Learnt, row-of-reads.Asked, row-of-reads.Learnt, asked-cell-reads.Asked, asked-cell-reads.Learnt, none_reads.Asked, none_reads.Learnt, nothing-reads.Asked, nothing-reads.Learnt, link-cell-reads.Asked, link-cell-reads.Learnt, is-middle-reads.Asked, is-middle-reads.Learnt, link-search-below t, link-search.Post, or-reads.Asked, or-reads.Learnt, Family-has-reads.Asked, Family-has-reads.Learnt, answered-reads.Asked, answered-reads.Learnt, joined-reads.Asked, joined-reads.Learnt)
+linked-search-claims t = (
+  credentials-reads.Asked,
+  credentials-reads.Learnt,
+  row-of-reads.Asked,
+  row-of-reads.Learnt,
+  asked-cell-reads.Asked,
+  asked-cell-reads.Learnt,
+  none_reads.Asked,
+  none_reads.Learnt,
+  nothing-reads.Asked,
+  nothing-reads.Learnt,
+  link-cell-reads.Asked,
+  link-cell-reads.Learnt,
+  is-middle-reads.Asked,
+  is-middle-reads.Learnt,
+  link-search-below t,
+  link-search.Post,
+  or-reads.Asked,
+  or-reads.Learnt,
+  Family-has-reads.Asked,
+  Family-has-reads.Learnt,
+  answered-reads.Asked,
+  answered-reads.Learnt,
+  joined-reads.Asked,
+  joined-reads.Learnt,
+)
 
 abbrev parts-search-claims : ℕ → parts-search-lts.Claims
-parts-search-claims t = (are-listed-reads.Asked, are-listed-reads.Learnt, nothing-reads.Asked, nothing-reads.Learnt, failed-reads.Asked, failed-reads.Learnt, roles-asked-reads.Asked, roles-asked-reads.Learnt, shared-search-below t, shared-search.Post, is-asked-before-reads.Asked, is-asked-before-reads.Learnt, asked-cell-reads.Asked, asked-cell-reads.Learnt, goal-search-below t, goal-search.Post, is-none-reads.Asked, is-none-reads.Learnt, proved-reads.Asked, proved-reads.Learnt)
+parts-search-claims t = (
+  are-listed-reads.Asked,
+  are-listed-reads.Learnt,
+  nothing-reads.Asked,
+  nothing-reads.Learnt,
+  failed-reads.Asked,
+  failed-reads.Learnt,
+  roles-asked-reads.Asked,
+  roles-asked-reads.Learnt,
+  shared-search-below t,
+  shared-search.Post,
+  is-asked-before-reads.Asked,
+  is-asked-before-reads.Learnt,
+  asked-cell-reads.Asked,
+  asked-cell-reads.Learnt,
+  goal-search-below t,
+  goal-search.Post,
+  is-none-reads.Asked,
+  is-none-reads.Learnt,
+  proved-reads.Asked,
+  proved-reads.Learnt,
+)
 
 abbrev shared-search-claims : ℕ → shared-search-lts.Claims
-shared-search-claims t = (none_reads.Asked, none_reads.Learnt, only-reads.Asked, only-reads.Learnt, nothing-reads.Asked, nothing-reads.Learnt, asked-search-below t, asked-search.Post, is-none-reads.Asked, is-none-reads.Learnt, failed-reads.Asked, failed-reads.Learnt, joined-reads.Asked, joined-reads.Learnt, Family-joined-reads.Asked, Family-joined-reads.Learnt, trimmed-reads.Asked, trimmed-reads.Learnt, answered-reads.Asked, answered-reads.Learnt)
+shared-search-claims t = (
+  none_reads.Asked,
+  none_reads.Learnt,
+  only-reads.Asked,
+  only-reads.Learnt,
+  nothing-reads.Asked,
+  nothing-reads.Learnt,
+  asked-search-below t,
+  asked-search.Post,
+  is-none-reads.Asked,
+  is-none-reads.Learnt,
+  failed-reads.Asked,
+  failed-reads.Learnt,
+  joined-reads.Asked,
+  joined-reads.Learnt,
+  Family-joined-reads.Asked,
+  Family-joined-reads.Learnt,
+  trimmed-reads.Asked,
+  trimmed-reads.Learnt,
+  answered-reads.Asked,
+  answered-reads.Learnt,
+)
 
 abbrev credential-search-claims : ℕ → credential-search-lts.Claims
-credential-search-claims t = (credential-reads.Asked, credential-reads.Learnt, ends-word-reads.Asked, ends-word-reads.Learnt, nothing-reads.Asked, nothing-reads.Learnt, answered-reads.Asked, answered-reads.Learnt, parts-search-below t, parts-search.Post, linked-search-below t, linked-search.Post, failed-reads.Asked, failed-reads.Learnt)
+credential-search-claims t = (
+  credential-reads.Asked,
+  credential-reads.Learnt,
+  ends-word-reads.Asked,
+  ends-word-reads.Learnt,
+  nothing-reads.Asked,
+  nothing-reads.Learnt,
+  answered-reads.Asked,
+  answered-reads.Learnt,
+  parts-search-below t,
+  parts-search.Post,
+  linked-search-below t,
+  linked-search.Post,
+  failed-reads.Asked,
+  failed-reads.Learnt,
+)
 
 -- a place of `asked_search`, or a need, where its measure is t; and what it needs, whatever its measure is
 abbrev asked-search-Place : Type 1
@@ -379,7 +533,8 @@ definers-search-returns-2 t c =
     let (found-is, blocking-is) = c.answered.ensures in
     let (so_far, before) = c.loop-i.invariant.1 in
     let (own, now-remembered) = c.credential_search-answer.ensures in
-    let finds = tried-finds searched.indexed stands there _ _ _ _ _ _ (omega (arith, c.loop-i-test.true, c.credentials-n.ensures.same)) c.may_use.ensures c.if-may_use.true c.or-found.ensures
+    let finds = tried-finds searched.indexed stands there _ _ _ _ _ _
+    (omega (arith, c.loop-i-test.true, c.credentials-n.ensures.same)) c.may_use.ensures c.if-may_use.true c.or-found.ensures
     so_far.finds own.finds in (
       rw (found-is, blocking-is) (sought-moved _ _ _ _ _ _ _ _ c.stepped-below.ensures
           (sought-enough _ _ _ _ remembered.few _ _ _ _ c.stepped-below.ensures c.left_owed-most.ensures c.is_enough.ensures
@@ -433,7 +588,8 @@ definers-search-returns-3 t c =
     let (found-is, blocking-is) = c.answered-2.ensures in
     let (so_far, (same, now-remembered)) = c.loop-i.invariant.1 in (
       rw (found-is, blocking-is) (sought-moved _ _ _ _ _ _ _ _ c.stepped-below.ensures
-          (sought-judged (tried-all searched.indexed stands there _ _ _ _ _ _ (omega (arith, c.loop-i-test.false, c.loop-i.invariant.0, c.credentials-n.ensures.same)) so_far))),
+          (sought-judged (tried-all searched.indexed stands there _ _ _ _ _ _
+          (omega (arith, c.loop-i-test.false, c.loop-i.invariant.0, c.credentials-n.ensures.same)) so_far))),
       now-remembered,
     )
 
@@ -799,7 +955,8 @@ linked-search-returns t c =
     let (so_far, before) = c.loop-j.invariant.1 in
     let (one, now-remembered) = c.link_search-link.ensures in
     let (found-is, blocking-is) = c.answered.ensures in
-    let finds = link-finds (linked-search-middle t c.before.before.before.before.before.before.before.before.before.before.before) _ _ _ c.if-is_middle.true c.or-found.ensures
+    let middle = linked-search-middle t c.before.before.before.before.before.before.before.before.before.before.before in
+    let finds = link-finds middle _ _ _ c.if-is_middle.true c.or-found.ensures
     so_far.finds one.finds in (
       rw (found-is, blocking-is) (linked-enough searched tried kind _ _ _ remembered.few finds c.has.ensures
           c.if-has.true c.nothing.ensures),

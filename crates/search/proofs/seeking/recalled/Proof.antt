@@ -31,7 +31,8 @@ returns c =
     let recalled = c.recalls.ensures c.if-recalls.true in (
       (λ t S A remembered. (
         recalled-covered t S A _ remembered recalled _ c.blocking_at.ensures,
-        recalled-bounds t S A _ remembered recalled _ c.blocking_at.ensures c.requires.0 (eight c.before.before.before.before.before.before) _ c.family_at-wanted.ensures,
+        recalled-bounds t S A _ remembered recalled _ c.blocking_at.ensures c.requires.0
+            (eight c.before.before.before.before.before.before) _ c.family_at-wanted.ensures,
       )),
       no-sets _ _ c.is_none.ensures,
     )

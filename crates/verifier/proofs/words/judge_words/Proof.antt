@@ -24,18 +24,15 @@ abbrev decreases-loop : tie.decreases-loop-k
 decreases-loop table used every some imposed a k₀ k = a - k
 
 -- where automaton k + 1 has been looked at: the code's flag is the test
-abbrev start : tie.At-loop-k invariant-loop decreases-loop → tie.Start invariant-loop decreases-loop
-start at = at.before.before.before.before
-
 abbrev test : tie.At-loop-k invariant-loop decreases-loop → ℕ → Bool
-test at = let from = (start at).args in keeps from.table.now from.used from.every from.some
+test at = let from = at.args in keeps from.table.now from.used from.every from.some
 
 abbrev looped : tie.After-is_kept invariant-loop decreases-loop → tie.At-loop-k invariant-loop decreases-loop
 looped at = at.before.before.before.before
 
-kept : (at : tie.After-is_kept invariant-loop decreases-loop) → at.is_kept.result ≡ test (looped at) ((looped at).loop-k.k + 1)
+kept : (at : tie.After-is_kept invariant-loop decreases-loop) → at.is_kept.result ≡ test (looped at) (at.loop-k.k + 1)
 kept at =
-    let imposed = (looped at).automata_of-imposed.ensures in
+    let imposed = at.automata_of-imposed.ensures in
     let read = at.automaton-automaton.ensures in
     at.is_kept.ensures ∙ kept-flag _ _ _ _ _ _ _ imposed read at.demanded.ensures
 
@@ -69,7 +66,7 @@ unfolding number_of
 returns c =
     let loop = looped c.before.before in
     let stops = failed (kept c.before.before) c.if-not-is_kept.true in
-    let all = automata (start loop).args.table.now in
+    let all = automata loop.args.table.now in
     c.refused.ensures
     ∙ refused-then _ (each-stops (test loop) 14 loop.loop-k.k all (omega arith) loop.loop-k.invariant.1 stops)
 
@@ -84,7 +81,7 @@ loop-again c =
 returns-2 : tie.Need-returns invariant-loop decreases-loop
 unfolding verdict_told
 returns-2 c =
-    let all = automata (start c.before).args.table.now in
+    let all = automata c.args.table.now in
     then-on (sym (each-through (test c.before) 14 c.loop-k.k all (omega arith) c.loop-k.invariant.1))
 
 pub judge_words_spec : {M : Type 1} → statement M
