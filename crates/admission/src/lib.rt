@@ -199,7 +199,7 @@ fn admits_by(
     if k == 0 {
         return true;
     }
-    if !sets::has_16(borne, k - 1) {
+    if !sets::has(borne, k - 1) {
         return admits_by(
             table,
             query,
@@ -213,7 +213,7 @@ fn admits_by(
             k - 1,
         );
     }
-    if sets::has_16(marks, k - 1) {
+    if sets::has(marks, k - 1) {
         return owes_one(
             table, query, index, arcs, rows, terms, marks, borne, found, k,
         );

@@ -40,7 +40,7 @@ fn with_automaton(mask: AutomatonSet, member: bool, automaton: Number) -> Automa
     if automaton == 0 {
         return mask;
     }
-    sets::with_16(mask, layout::wide(automaton) - 1)
+    sets::with(mask, layout::wide(automaton) - 1)
 }
 
 // The automata of the set that have mark 1.
@@ -53,7 +53,7 @@ pub fn marked(table: &[Number], set: AutomatonSet) -> AutomatonSet
     let mut k = 0;
     while k < a {
         if is_marked(table, set, k) {
-            mask = sets::with_16(mask, k);
+            mask = sets::with(mask, k);
         }
         k += 1;
     }
@@ -66,7 +66,7 @@ fn is_marked(table: &[Number], set: AutomatonSet, k: usize) -> bool
     requires k_bound { k < Layout.automata table.now }
     ensures { result ≡ (in_set set k and eqb (Layout.automaton table.now (suc k)).mark 1) }
 {
-    if !sets::has_16(set, k) {
+    if !sets::has(set, k) {
         return false;
     }
     layout::automaton(table, k + 1).mark == SOME_WORD

@@ -78,7 +78,7 @@ impl StateSets {
             let automaton = layout::automaton(table, k + 1);
             let accepting = layout::states(automaton.accepting);
             if self.sets[k] & accepting != 0 {
-                mask = sets::with_16(mask, k);
+                mask = sets::with(mask, k);
             }
             k += 1;
         }
@@ -95,7 +95,7 @@ impl StateSets {
         let mut k = 0;
         while k < a {
             if self.sets[k] == 0 {
-                mask = sets::with_16(mask, k);
+                mask = sets::with(mask, k);
             }
             k += 1;
         }

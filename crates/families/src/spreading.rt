@@ -16,7 +16,7 @@ pub fn spread(word: u32, low: AutomatonSet) -> u32
     let mut all = word;
     let mut i = 0;
     while i < WORD_BITS {
-        if sets::has_16(low, i) {
+        if sets::has(low, i) {
             all = lifted(all, i);
         }
         i += 1;

@@ -57,7 +57,7 @@ pub fn accepting(states: StateSets, table: &[Number], arcs: &[StateSet]) -> Auto
     let mut k = 0;
     while k < AUTOMATA {
         if states.sets[k] & arcs[k] != 0 {
-            mask = sets::with_16(mask, k);
+            mask = sets::with(mask, k);
         }
         k += 1;
     }

@@ -2,8 +2,9 @@
 // 2^(k-1), credential i counts 2^(i-1). specs/Sets.antt says what being a member means; proofs/Members.antt has its laws.
 #![tactic(auto)]
 
-ghost use Rattle.std.specs.Prelude.{◌≡◌, ◌^◌, ◌<◌};
+ghost use Rattle.std.specs.Prelude.{◌≡◌, ℕ, ◌^◌, ◌<◌, ◌≤◌};
 ghost use Rattle.std.specs.Int.Bits.{bit_or};
+ghost use Rattle.std.proofs.Common.{rules};
 ghost use Rattle.sets.specs.Sets.{in_set};
 
 // The widths of sets do not follow the width of a table's numbers: there are at most 16 states, 8 automata and 20 credentials.
@@ -13,32 +14,67 @@ pub type AutomatonSet = u16;
 
 pub type CredentialSet = u32;
 
-// Whether i is in a set of credentials, and the set with it.
-pub fn has(set: CredentialSet, i: usize) -> bool
-    requires { i < 32 }
-    ensures { result ≡ in_set set i }
-{
-    (set >> i) % 2 == 1
+// A number of some width that a set can be. What is asked of a set is asked once, of its number at the greatest width.
+pub trait Width: Copy {
+    // How many members there can be.
+    ghost room: { ℕ };
+
+    ghost number: { Self → ℕ };
+
+    fn wide(self) -> u32
+        ensures same { result ≡ number self }
+        ensures inside { result < 2 ^ room };
+
+    fn narrow(bits: u32) -> Self
+        requires { bits < 2 ^ room }
+        ensures { number result ≡ bits };
+
+    ghost at_most_wide: { room ≤ 32 };
 }
 
-pub fn with(set: CredentialSet, i: usize) -> CredentialSet
-    requires { i < 32 }
-    ensures { result ≡ bit_or set (2 ^ i) }
-{
-    set | (1 << i)
+impl Width for u16 {
+    ghost room = { 16 };
+
+    ghost number = { λ x. x };
+
+    ghost at_most_wide = { Prim.search rules };
+
+    fn wide(self) -> u32 {
+        self as u32
+    }
+
+    fn narrow(bits: u32) -> u16 {
+        bits as u16
+    }
 }
 
-// The same of a set of states or of automata.
-pub fn has_16(set: u16, i: usize) -> bool
-    requires { i < 16 }
-    ensures { result ≡ in_set set i }
-{
-    (set >> i) % 2 == 1
+impl Width for u32 {
+    ghost room = { 32 };
+
+    ghost number = { λ x. x };
+
+    ghost at_most_wide = { Prim.search rules };
+
+    fn wide(self) -> u32 {
+        self
+    }
+
+    fn narrow(bits: u32) -> u32 {
+        bits
+    }
 }
 
-pub fn with_16(set: u16, i: usize) -> u16
-    requires { i < 16 }
-    ensures { result ≡ bit_or set (2 ^ i) }
+// Whether i is in a set, and the set with it.
+pub fn has<S: Width>(set: S, i: usize) -> bool
+    requires { i < S.room }
+    ensures { result ≡ in_set (S.number set) i }
 {
-    set | (1 << i)
+    (set.wide() >> i) % 2 == 1
+}
+
+pub fn with<S: Width>(set: S, i: usize) -> S
+    requires { i < S.room }
+    ensures { S.number result ≡ bit_or (S.number set) (2 ^ i) }
+{
+    S::narrow(set.wide() | (1 << i))
 }

@@ -42,7 +42,7 @@ pub fn owing(terms: Terms, k: usize) -> Terms
     Terms {
         allowed: terms.allowed,
         constraints: terms.constraints,
-        owed: sets::with_16(terms.owed, k - 1),
+        owed: sets::with(terms.owed, k - 1),
         last: terms.last,
     }
 }
@@ -54,7 +54,7 @@ pub fn imposing(terms: Terms, k: usize) -> Terms
 {
     Terms {
         allowed: terms.allowed,
-        constraints: sets::with_16(terms.constraints, k - 1),
+        constraints: sets::with(terms.constraints, k - 1),
         owed: terms.owed,
         last: terms.last,
     }
@@ -69,7 +69,7 @@ pub fn lacking(found: Family, owed: AutomatonSet, asked: AutomatonSet, k: usize)
     let mut j = 0;
     while j < k {
         if is_lacking(found, owed, asked, j) {
-            lost = sets::with_16(lost, j);
+            lost = sets::with(lost, j);
         }
         j += 1;
     }
@@ -81,10 +81,10 @@ fn is_lacking(found: Family, owed: AutomatonSet, asked: AutomatonSet, j: usize) 
     requires { (owed < all_sets) × (j < most_automata) }
     ensures { result ≡ is_lacking found owed asked j }
 {
-    if !sets::has_16(asked, j) {
+    if !sets::has(asked, j) {
         return false;
     }
-    !found.covers(sets::with_16(owed, j))
+    !found.covers(sets::with(owed, j))
 }
 
 // The credentials of the set that bear none of the automata.
@@ -124,5 +124,5 @@ fn is_among(automata: AutomatonSet, automaton: Number) -> bool
     if automaton == 0 {
         return false;
     }
-    sets::has_16(automata, layout::wide(automaton) - 1)
+    sets::has(automata, layout::wide(automaton) - 1)
 }

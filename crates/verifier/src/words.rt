@@ -57,8 +57,8 @@ fn is_kept(imposed: AutomatonSet, set: AutomatonSet, k: usize) -> bool
     requires { Numbered most_automata k }
     ensures { result ≡ (not (in_set imposed (k - 1)) or in_set set (k - 1)) }
 {
-    if !sets::has_16(imposed, k - 1) {
+    if !sets::has(imposed, k - 1) {
         return true;
     }
-    sets::has_16(set, k - 1)
+    sets::has(set, k - 1)
 }

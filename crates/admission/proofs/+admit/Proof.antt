@@ -60,7 +60,7 @@ use Rattle.families.proofs.Family.only.Reads as only-reads
 use Rattle.levels.proofs.fill.Reads as fill-reads
 use Rattle.search.proofs.is_member.Reads as is-member-reads
 use Rattle.search.proofs.query_search.Reads as query-search-reads
-use Rattle.sets.proofs.has_16.Reads as has-16-reads
+use Rattle.sets.proofs.has.Reads as has-reads
 use Rattle.table.proofs.layout.wide.Reads as wide-reads
 use Rattle.admission.proofs.+admit.{
   statement,
@@ -150,8 +150,8 @@ owes-one-below t =
 
 abbrev admits-by-claims : ℕ → admits-by-lts.Claims
 admits-by-claims t = (
-  has-16-reads.Asked,
-  has-16-reads.Learnt,
+  has-reads.Asked,
+  has-reads.Learnt,
   admits-by-below t,
   admits-by.Post,
   owes-one-below t,
@@ -248,13 +248,13 @@ admits-by-needs need = (t : ℕ) → need (admits-by-claims t) (admits-by-at t) 
 admits-by-returns : admits-by-needs admits-by-lts.Need-returns-then-k-eq0
 admits-by-returns t c = decided-last _ _ _ _ _ _ c.if-k-eq0.true
 
-admits-by-sub-has-16 : admits-by-needs admits-by-lts.Need-overflow_sub-k
-admits-by-sub-has-16 t c = search rules
+admits-by-sub-has : admits-by-needs admits-by-lts.Need-overflow_sub-k
+admits-by-sub-has t c = search rules
 
-admits-by-has-16-requires : admits-by-needs admits-by-lts.Need-has_16-requires
-admits-by-has-16-requires t c κs = omega (arith, few-left c.requires.1.0)
+admits-by-has-requires : admits-by-needs admits-by-lts.Need-has-requires
+admits-by-has-requires t c κs = omega (arith, few-left c.requires.1.0)
 
-admits-by-sub-admits-by : admits-by-needs admits-by-lts.Need-overflow_sub-k-then-not-has_16
+admits-by-sub-admits-by : admits-by-needs admits-by-lts.Need-overflow_sub-k-then-not-has
 admits-by-sub-admits-by t c = search rules
 
 admits-by-admits-by-requires : admits-by-needs admits-by-lts.Need-admits_by-requires
@@ -262,44 +262,44 @@ admits-by-admits-by-requires t c κs =
     let pre = c.requires in
     (omega (arith, pre.0, c.if-k-eq0.false), (undecided-next pre.1.0, pre.1.1))
 
-admits-by-returns-2 : admits-by-needs admits-by-lts.Need-returns-then-not-has_16
+admits-by-returns-2 : admits-by-needs admits-by-lts.Need-returns-then-not-has
 admits-by-returns-2 t c =
     let known = c.requires.1.1 in
-    let none = rw known.bears at (failed c.has_16.ensures c.if-not-has_16.true) in
+    let none = rw known.bears at (failed c.has.ensures c.if-not-has.true) in
     c.admits_by.ensures ∙ decided-unborne _ _ _ _ _ _ c.if-k-eq0.false none
 
-admits-by-sub-has-16-2 : admits-by-needs admits-by-lts.Need-overflow_sub-k-2
-admits-by-sub-has-16-2 t c = search rules
+admits-by-sub-has-2 : admits-by-needs admits-by-lts.Need-overflow_sub-k-2
+admits-by-sub-has-2 t c = search rules
 
-admits-by-has-16-requires-2 : admits-by-needs admits-by-lts.Need-has_16-requires-2
-admits-by-has-16-requires-2 t c κs = omega (arith, few-left c.requires.1.0)
+admits-by-has-requires-2 : admits-by-needs admits-by-lts.Need-has-requires-2
+admits-by-has-requires-2 t c κs = omega (arith, few-left c.requires.1.0)
 
 -- some credential of the set bears automaton k
-admits-by-borne : (t : ℕ) (c : admits-by-lts.Else-not-has_16 (admits-by-claims t) (admits-by-at t) admits-by.Post) →
+admits-by-borne : (t : ℕ) (c : admits-by-lts.Else-not-has (admits-by-claims t) (admits-by-at t) admits-by.Post) →
     let args = c.args in
     Borne args.table.now args.terms.allowed args.k
 admits-by-borne t c =
     let known = c.requires.1.1 in
     record {
       some = c.if-k-eq0.false;
-      borne = rw known.bears at (passed c.has_16.ensures c.if-not-has_16.false);
+      borne = rw known.bears at (passed c.has.ensures c.if-not-has.false);
     }
 
 admits-by-owes-one-requires : admits-by-needs admits-by-lts.Need-owes_one-requires
 admits-by-owes-one-requires t c κs =
     let pre = c.requires in
     let is = admits-by-borne t c.before.before in
-    let marked = by-mark pre.1.0 is.some (sym c.has_16-2.ensures ∙ c.if-has_16.true) in
+    let marked = by-mark pre.1.0 is.some (sym c.has-2.ensures ∙ c.if-has.true) in
     (omega (arith, pre.0), (pre.1.0, (pre.1.1, (is, marked))))
 
-admits-by-returns-3 : admits-by-needs admits-by-lts.Need-returns-then-has_16
+admits-by-returns-3 : admits-by-needs admits-by-lts.Need-returns-then-has
 admits-by-returns-3 t c = c.owes_one.ensures
 
 admits-by-imposes-one-requires : admits-by-needs admits-by-lts.Need-imposes_one-requires
 admits-by-imposes-one-requires t c κs =
     let pre = c.requires in
     let is = admits-by-borne t c.before.before in
-    let unmarked = by-no-mark pre.1.0 is.some (sym c.has_16-2.ensures ∙ c.if-has_16.false) in
+    let unmarked = by-no-mark pre.1.0 is.some (sym c.has-2.ensures ∙ c.if-has.false) in
     (omega (arith, pre.0), (pre.1.0, (is, unmarked)))
 
 admits-by-returns-4 : admits-by-needs admits-by-lts.Need-returns
@@ -657,13 +657,13 @@ pub +admit_spec : {M : Type 1} → statement M
     (λ t. admits-by-lts.spec (admits-by-claims t) (admits-by-at t)
     admits-by.Post
     (admits-by-returns t)
-    (admits-by-sub-has-16 t)
-    (admits-by-has-16-requires t)
+    (admits-by-sub-has t)
+    (admits-by-has-requires t)
     (admits-by-sub-admits-by t)
     (admits-by-admits-by-requires t)
     (admits-by-returns-2 t)
-    (admits-by-sub-has-16-2 t)
-    (admits-by-has-16-requires-2 t)
+    (admits-by-sub-has-2 t)
+    (admits-by-has-requires-2 t)
     (admits-by-owes-one-requires t)
     (admits-by-returns-3 t)
     (admits-by-imposes-one-requires t)

@@ -6,12 +6,12 @@ use Rattle.sets.proofs.Tests.{failed, passed}
 use Rattle.attached.proofs.is_marked.Statement.{statement}
 use Rattle.attached.proofs.is_marked.Tie as tie
 
-has-16-requires : tie.Need-has_16-requires
-has-16-requires c κs = search rules
+has-requires : tie.Need-has-requires
+has-requires c κs = search rules
 
-returns : tie.Need-returns-then-not-has_16
+returns : tie.Need-returns-then-not-has
 unfolding ◌and◌
-returns c = rw (failed c.has_16.ensures c.if-not-has_16.true)
+returns c = rw (failed c.has.ensures c.if-not-has.true)
 
 add-automaton : tie.Need-overflow_add-k
 add-automaton c = search rules
@@ -22,9 +22,9 @@ automaton-requires c κs = search rules
 returns-2 : tie.Need-returns
 unfolding ◌and◌
 returns-2 c =
-    let member = passed c.has_16.ensures c.if-not-has_16.false in
+    let member = passed c.has.ensures c.if-not-has.false in
     rw (member, c.automaton.ensures, add-one)
 
 pub is_marked_spec : {M : Type 1} → statement M
 is_marked_spec =
-    tie.close (tie.spec has-16-requires returns add-automaton automaton-requires returns-2)
+    tie.close (tie.spec has-requires returns add-automaton automaton-requires returns-2)

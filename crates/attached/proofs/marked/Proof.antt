@@ -27,8 +27,8 @@ loop-holds c = (omega arith, refl)
 is-marked-requires : tie.Need-is_marked-requires invariant-loop decreases-loop
 is-marked-requires c κs = search rules
 
-with-16-requires : tie.Need-with_16-mask-requires invariant-loop decreases-loop
-with-16-requires c κs = search rules
+with-requires : tie.Need-with-mask-requires invariant-loop decreases-loop
+with-requires c κs = search rules
 
 add-k : tie.Need-overflow_add-k invariant-loop decreases-loop
 add-k c = search rules
@@ -40,7 +40,7 @@ loop-again : tie.Need-loop-k-preserved invariant-loop decreases-loop
 loop-again c =
     let test = c.is_marked.ensures in
     let so_far = c.loop-k.invariant.1 in
-    let mask = ⊎_elim (λ w. w.mask-is ∙ w.with_16-mask.ensures ∙ set_more _ _ _ so_far (sym test ∙ w.if-is_marked.true))
+    let mask = ⊎_elim (λ w. w.mask-is ∙ w.with-mask.ensures ∙ set_more _ _ _ so_far (sym test ∙ w.if-is_marked.true))
     (λ w. w.mask-is ∙ set-not _ _ _ so_far (sym test ∙ w.if-is_marked.false)) c.if-is_marked.branch-raw in
     (omega arith, mask)
 
@@ -56,7 +56,7 @@ marked_spec =
     automata-requires
     loop-holds
     is-marked-requires
-    with-16-requires
+    with-requires
     add-k
     loop-less
     loop-again

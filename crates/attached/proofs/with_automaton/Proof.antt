@@ -16,11 +16,11 @@ returns-2 c = rw (c.if-not-member.false, eq-eqb _ 0 c.if-automaton-eq0.true)
 wide-requires : tie.Need-wide-requires
 wide-requires c κs = search rules
 
-sub-with-16 : tie.Need-overflow_sub-wide
-sub-with-16 c = search rules
+sub-with : tie.Need-overflow_sub-wide
+sub-with c = search rules
 
-with-16-requires : tie.Need-with_16-requires
-with-16-requires c κs = search rules
+with-requires : tie.Need-with-requires
+with-requires c κs = search rules
 
 returns-3 : tie.Need-returns
 unfolding ◌and◌ pick
@@ -28,9 +28,9 @@ returns-3 c =
     let args = c.args in
     let member = c.if-not-member.false in
     let some = ne_eqb args.automaton 0 c.if-automaton-eq0.false in
-    rw (member, some, ← c.wide.ensures.0) c.with_16.ensures
+    rw (member, some, ← c.wide.ensures.0) c.with.ensures
 
 pub with_automaton_spec : {M : Type 1} → statement M
 with_automaton_spec =
     tie.close
-    (tie.spec returns returns-2 wide-requires sub-with-16 with-16-requires returns-3)
+    (tie.spec returns returns-2 wide-requires sub-with with-requires returns-3)

@@ -46,8 +46,8 @@ mul-if2-2 c = search rules
 shared-slice-read-if2 : tie.Need-bounds-arcs-k invariant-loop decreases-loop
 shared-slice-read-if2 c = omega (arith, whole c.before.before.before.before)
 
-with-16-requires : tie.Need-with_16-mask-requires invariant-loop decreases-loop
-with-16-requires c κs = search rules
+with-requires : tie.Need-with-mask-requires invariant-loop decreases-loop
+with-requires c κs = search rules
 
 add-k : tie.Need-overflow_add-k invariant-loop decreases-loop
 add-k c = search rules
@@ -58,7 +58,7 @@ loop-less c = search rules
 loop-again : tie.Need-loop-k-preserved invariant-loop decreases-loop
 loop-again c =
     let so_far = c.loop-k.invariant.1 in
-    let mask = ⊎_elim (λ w. w.mask-is ∙ w.with_16-mask.ensures ∙ set_more _ _ _ so_far (meets-some _ _ w.if-states-k-ne0.true))
+    let mask = ⊎_elim (λ w. w.mask-is ∙ w.with-mask.ensures ∙ set_more _ _ _ so_far (meets-some _ _ w.if-states-k-ne0.true))
     (λ w. w.mask-is ∙ set-not _ _ _ so_far (meets-not _ _ w.if-states-k-ne0.false)) c.if-states-k-ne0.branch-raw in
     (omega arith, mask)
 
@@ -80,7 +80,7 @@ accepting_spec =
     element-copy-out-if2
     mul-if2-2
     shared-slice-read-if2
-    with-16-requires
+    with-requires
     add-k
     loop-less
     loop-again

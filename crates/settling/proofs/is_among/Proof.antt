@@ -10,14 +10,14 @@ returns c = among_none _ _ c.if-automaton-eq0.true
 wide-requires : tie.Need-wide-requires
 wide-requires c κs = search rules
 
-sub-has-16 : tie.Need-overflow_sub-wide
-sub-has-16 c = search rules
+sub-has : tie.Need-overflow_sub-wide
+sub-has c = search rules
 
-has-16-requires : tie.Need-has_16-requires
-has-16-requires c κs = search rules
+has-requires : tie.Need-has-requires
+has-requires c κs = search rules
 
 returns-2 : tie.Need-returns
-returns-2 c = among-some _ _ c.if-automaton-eq0.false (rw c.wide.ensures.0 at c.has_16.ensures)
+returns-2 c = among-some _ _ c.if-automaton-eq0.false (rw c.wide.ensures.0 at c.has.ensures)
 
 pub is_among_spec : {M : Type 1} → statement M
-is_among_spec = tie.close (tie.spec returns wide-requires sub-has-16 has-16-requires returns-2)
+is_among_spec = tie.close (tie.spec returns wide-requires sub-has has-requires returns-2)

@@ -23,8 +23,8 @@ loop-holds c = (omega arith, refl)
 is-lacking-requires : tie.Need-is_lacking-requires invariant-loop decreases-loop
 is-lacking-requires c κs = search rules
 
-with-16-requires : tie.Need-with_16-lost-requires invariant-loop decreases-loop
-with-16-requires c κs = search rules
+with-requires : tie.Need-with-lost-requires invariant-loop decreases-loop
+with-requires c κs = search rules
 
 add-j : tie.Need-overflow_add-j invariant-loop decreases-loop
 add-j c = search rules
@@ -38,7 +38,7 @@ loop-again c =
     let so_far = c.loop-j.invariant.1 in
     let told = sym c.is_lacking.ensures in (
       omega arith,
-      ⊎_elim (λ w. w.lost-is ∙ w.with_16-lost.ensures ∙ set_more _ _ _ so_far (told ∙ w.if-is_lacking.true))
+      ⊎_elim (λ w. w.lost-is ∙ w.with-lost.ensures ∙ set_more _ _ _ so_far (told ∙ w.if-is_lacking.true))
           (λ w. w.lost-is ∙ set-not _ _ _ so_far (told ∙ w.if-is_lacking.false)) c.if-is_lacking.branch-raw,
     )
 
@@ -50,4 +50,4 @@ returns c =
 pub lacking_spec : {M : Type 1} → statement M
 lacking_spec =
     tie.close
-    (tie.spec invariant-loop decreases-loop loop-holds is-lacking-requires with-16-requires add-j loop-less loop-again returns)
+    (tie.spec invariant-loop decreases-loop loop-holds is-lacking-requires with-requires add-j loop-less loop-again returns)

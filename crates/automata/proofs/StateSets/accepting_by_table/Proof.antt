@@ -38,8 +38,8 @@ mul-if1 c = search rules
 element-copy-out-if1 : tie.Need-bounds-self-k invariant-loop decreases-loop
 element-copy-out-if1 c = search rules
 
-with-16-requires : tie.Need-with_16-mask-requires invariant-loop decreases-loop
-with-16-requires c κs = search rules
+with-requires : tie.Need-with-mask-requires invariant-loop decreases-loop
+with-requires c κs = search rules
 
 add-k : tie.Need-overflow_add-k-in-loop-k invariant-loop decreases-loop
 add-k c = search rules
@@ -53,7 +53,7 @@ loop-again c =
     let read = c.automaton-automaton.ensures in
     let accepting = c.states-accepting.ensures in
     let self = c.args.self in
-    let mask = ⊎_elim (λ w. w.mask-is ∙ w.with_16-mask.ensures ∙ accepting-more _ self _ so_far read (rw accepting at w.if-self-k-ne0.true))
+    let mask = ⊎_elim (λ w. w.mask-is ∙ w.with-mask.ensures ∙ accepting-more _ self _ so_far read (rw accepting at w.if-self-k-ne0.true))
     (λ w. w.mask-is ∙ accepting-same _ self _ so_far read (rw accepting at w.if-self-k-ne0.false)) c.if-self-k-ne0.branch-raw in
     (omega arith, mask)
 
@@ -73,7 +73,7 @@ accepting_by_table_spec =
     states-requires
     mul-if1
     element-copy-out-if1
-    with-16-requires
+    with-requires
     add-k
     loop-less
     loop-again

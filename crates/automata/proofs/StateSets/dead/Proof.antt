@@ -32,8 +32,8 @@ mul-if1 c = search rules
 element-copy-out-if1 : tie.Need-bounds-self-k invariant-loop decreases-loop
 element-copy-out-if1 c = search rules
 
-with-16-requires : tie.Need-with_16-mask-requires invariant-loop decreases-loop
-with-16-requires c κs = search rules
+with-requires : tie.Need-with-mask-requires invariant-loop decreases-loop
+with-requires c κs = search rules
 
 add-k : tie.Need-overflow_add-k invariant-loop decreases-loop
 add-k c = search rules
@@ -45,7 +45,7 @@ loop-again : tie.Need-loop-k-preserved invariant-loop decreases-loop
 loop-again c =
     let (in-range, so_far) = c.loop-k.invariant in
     let self = c.args.self in
-    let mask = ⊎_elim (λ w. w.mask-is ∙ w.with_16-mask.ensures ∙ set_more (is_empty self) _ _ so_far (eq-eqb _ 0 w.if-self-k-eq0.true))
+    let mask = ⊎_elim (λ w. w.mask-is ∙ w.with-mask.ensures ∙ set_more (is_empty self) _ _ so_far (eq-eqb _ 0 w.if-self-k-eq0.true))
     (λ w. w.mask-is ∙ set-not (is_empty self) _ _ so_far (ne_eqb _ 0 w.if-self-k-eq0.false)) c.if-self-k-eq0.branch-raw in
     (omega arith, mask)
 
@@ -63,7 +63,7 @@ dead_spec =
     loop-holds
     mul-if1
     element-copy-out-if1
-    with-16-requires
+    with-requires
     add-k
     loop-less
     loop-again

@@ -18,8 +18,8 @@ decreases-loop word low all₀ i₀ all i = word_bits - i
 loop-holds : tie.Need-loop-i-init invariant-loop decreases-loop
 loop-holds c = (omega arith, spread_none _ _)
 
-has-16-requires : tie.Need-has_16-requires invariant-loop decreases-loop
-has-16-requires c κs = search rules
+has-requires : tie.Need-has-requires invariant-loop decreases-loop
+has-requires c κs = search rules
 
 lifted-requires : tie.Need-lifted-all-requires invariant-loop decreases-loop
 lifted-requires c κs = search rules
@@ -33,10 +33,10 @@ loop-less c = search rules
 loop-again : tie.Need-loop-i-preserved invariant-loop decreases-loop
 loop-again c =
     let so_far = c.loop-i.invariant.1 in
-    let told = sym c.has_16.ensures in (
+    let told = sym c.has.ensures in (
       omega arith,
-      ⊎_elim (λ w. rw w.all-is (spread-more _ _ _ _ so_far _ (told ∙ w.if-has_16.true) w.lifted-all.ensures))
-          (λ w. rw w.all-is (spread-not _ _ _ _ so_far (told ∙ w.if-has_16.false))) c.if-has_16.branch-raw,
+      ⊎_elim (λ w. rw w.all-is (spread-more _ _ _ _ so_far _ (told ∙ w.if-has.true) w.lifted-all.ensures))
+          (λ w. rw w.all-is (spread-not _ _ _ _ so_far (told ∙ w.if-has.false))) c.if-has.branch-raw,
     )
 
 returns : tie.Need-returns invariant-loop decreases-loop
@@ -49,7 +49,7 @@ spread_spec =
     invariant-loop
     decreases-loop
     loop-holds
-    has-16-requires
+    has-requires
     lifted-requires
     add-i
     loop-less
