@@ -20,6 +20,7 @@ ghost use Rattle.goals.specs.Goals.{Left, Trimmed, asked_before, may_be_proved, 
 use automata::{Moved, StateSets};
 use families::Family;
 use masks::ROW;
+use members::Above;
 use sets::{AutomatonSet, CredentialSet, StateSet};
 use table::{Number, layout};
 
@@ -32,6 +33,26 @@ pub struct Terms {
     pub constraints: AutomatonSet,
     pub owed: AutomatonSet,
     pub last: usize,
+}
+
+// What a search reads and does not change: the table with its index (crate indexing), an index of the table's edges (crate moves),
+// the table of members of the allowed credentials (crate levels), and the terms.
+#[derive(Clone, Copy)]
+pub struct Ground<'a> {
+    pub table: &'a [Number],
+    pub index: &'a [u8],
+    pub arcs: &'a [StateSet],
+    pub rows: &'a [CredentialSet],
+    pub terms: Terms,
+}
+
+// Where a search stands on a branch: the levels that are left below it, the state sets to which the automata have come on its words,
+// and the pairs of principal and role that stand above.
+#[derive(Clone, Copy)]
+pub struct Spot {
+    pub levels: usize,
+    pub states: StateSets,
+    pub above: Above,
 }
 
 // What credential i + 1, of kind 1, meets: where it names the principal, and each of the imposed automata accepts the word that ends
