@@ -1,0 +1,2 @@
+-- Laws that crates above cite.
+pub mod Listing

@@ -1,0 +1,2 @@
+-- How a `Few` is read as a list.
+pub mod Listed
