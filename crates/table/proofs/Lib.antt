@@ -12,3 +12,4 @@ pub mod Opened
 pub mod Marks
 pub mod Upgrading
 pub mod Promised
+pub mod Told

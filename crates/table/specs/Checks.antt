@@ -1,6 +1,6 @@
 -- docs/DEFINITION.md, "Where each input is stopped", the request's rows, with the ranges of "The table": what
 -- each record must be, and the order in which the checks are made.
-use Rattle.std.specs.Prelude.{ℕ, ◌≤◌, ◌≡◌, List, Bool, true, false, ◌⊎◌, length, eqb, leb, ltb}
+use Rattle.std.specs.Prelude.{ℕ, ◌≤◌, ◌≡◌, List, Bool, true, false, ◌⊎◌, length, eqb, leb, ltb, Result, Ok, Err}
 use Rattle.sets.specs.Logic.{◌and◌, ◌or◌, pick}
 use Rattle.table.specs.Outcome.{Outcome, ◌and_then◌, demand, demand_each}
 use Rattle.table.specs.Outcome.Outcome.{accepted, refused}
@@ -206,3 +206,8 @@ number_of reason.Mark = 17
 unfoldable pub told : Refusal → Outcome
 unfolding number_of
 told why = refused (number_of why.reason) why.position
+
+-- what a call tells by its result: the value, as a number, or why it is refused
+unfoldable pub outcome_of : {A : Type 0} → (A → ℕ) → Result A Refusal → Outcome
+outcome_of value (Ok a) = accepted (value a)
+outcome_of value (Err why) = told why

@@ -114,57 +114,59 @@ pub const ROLES_OF_OWNER: Number = 4;
 
 // Why an input is stopped, by the numbers of docs/DEFINITION.md, "Where each input is stopped". The row of marks has the last
 // number, though it is made right behind the row of edges.
-#[derive(Clone, Copy)]
+#[derive(Clone, Copy, Debug, PartialEq, Eq)]
 pub enum Reason {
-    ShortHead,
-    CountOverLimit,
-    WrongLength,
-    Credential,
-    Cell,
-    Chain,
-    Edge,
-    Query,
-    NoMinimalSet,
-    LongerThanBuffer,
-    RecordLength,
-    Node,
-    Branch,
-    Word,
-    NotListed,
-    LongerRecord,
-    Mark,
+    ShortHead = 1,
+    CountOverLimit = 2,
+    WrongLength = 3,
+    Credential = 4,
+    Cell = 5,
+    Chain = 6,
+    Edge = 7,
+    Query = 8,
+    NoMinimalSet = 9,
+    LongerThanBuffer = 10,
+    RecordLength = 11,
+    Node = 12,
+    Branch = 13,
+    Word = 14,
+    NotListed = 15,
+    LongerRecord = 16,
+    Mark = 17,
 }
 
 impl Reason {
-    // The definition's number of it.
     pub fn number(self) -> u32
         ensures { result ≡ number_of self }
     {
-        match self {
-            Reason::ShortHead => 1,
-            Reason::CountOverLimit => 2,
-            Reason::WrongLength => 3,
-            Reason::Credential => 4,
-            Reason::Cell => 5,
-            Reason::Chain => 6,
-            Reason::Edge => 7,
-            Reason::Query => 8,
-            Reason::NoMinimalSet => 9,
-            Reason::LongerThanBuffer => 10,
-            Reason::RecordLength => 11,
-            Reason::Node => 12,
-            Reason::Branch => 13,
-            Reason::Word => 14,
-            Reason::NotListed => 15,
-            Reason::LongerRecord => 16,
-            Reason::Mark => 17,
-        }
+        u32::from(self)
+    }
+}
+
+// The definition's number of a reason.
+impl From<Reason> for u32 {
+    ghost from_gives = { λ reason number. number ≡ number_of reason };
+
+    fn from(reason: Reason) -> u32 {
+        reason as u32
     }
 }
 
 // The position is a record's, a field's, a node's or an automaton's number, or 0.
-#[derive(Clone, Copy)]
+#[derive(Clone, Copy, Debug, PartialEq, Eq)]
 pub struct Refusal {
     pub reason: Reason,
     pub position: usize,
+}
+
+// A refusal of the whole: its position is 0.
+impl From<Reason> for Refusal {
+    ghost from_gives = { λ reason why. why ≡ record { reason = reason; position = 0 } };
+
+    fn from(reason: Reason) -> Refusal {
+        Refusal {
+            reason,
+            position: 0,
+        }
+    }
 }
