@@ -1,4 +1,5 @@
 -- Laws that belong to no one function; crates above cite those marked `pub mod`.
+pub mod Equality
 pub mod Meanings
 pub mod Fields
 pub mod Stages

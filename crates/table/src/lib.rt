@@ -13,13 +13,13 @@ ghost use Rattle.table.specs.Checks.{number_of};
 pub type Number = u16;
 
 // Principals and role names are separate sorts: neither stands for the other, though both are numbers.
-#[derive(Clone, Copy)]
+#[derive(Clone, Copy, Debug, PartialEq, Eq)]
 pub struct Principal(pub Number);
 
-#[derive(Clone, Copy)]
+#[derive(Clone, Copy, Debug, PartialEq, Eq)]
 pub struct Name(pub Number);
 
-#[derive(Clone, Copy)]
+#[derive(Clone, Copy, Debug, PartialEq, Eq)]
 pub struct Role {
     pub owner: Principal,
     pub name: Name,
@@ -34,7 +34,7 @@ impl Role {
 }
 
 // A principal's membership in a role.
-#[derive(Clone, Copy)]
+#[derive(Clone, Copy, Debug, PartialEq, Eq)]
 pub struct Goal {
     pub principal: Principal,
     pub role: Role,
