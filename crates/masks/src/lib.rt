@@ -75,12 +75,10 @@ fn linked_members(
 {
     let n = layout::credentials(table);
     let mut found = 0;
-    let mut j = 0;
-    while j < n {
+    for j in 0..n {
         if sets::has(middles, j) {
-            found = found | rows[ROW * level + members::link_cell(index, i, j)];
+            found |= rows[ROW * level + members::link_cell(index, i, j)];
         }
-        j += 1;
     }
     found
 }
