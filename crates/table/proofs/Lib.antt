@@ -1,5 +1,6 @@
 -- Laws that belong to no one function; crates above cite those marked `pub mod`.
 pub mod Equality
+pub mod Reading
 pub mod Meanings
 pub mod Fields
 pub mod Stages

@@ -1,6 +1,7 @@
 pub mod Outcome
 pub mod Limits
 pub mod Layout
+pub mod Kinds
 pub mod Encoded
 pub mod Checks
 pub mod Holding

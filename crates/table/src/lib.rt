@@ -5,8 +5,9 @@
 
 pub mod layout; // layout.rt: the records of a table, by number
 
-ghost use Rattle.std.specs.Prelude.{◌≡◌};
+ghost use Rattle.std.specs.Prelude.{◌≡◌, eqb};
 ghost use Rattle.table.specs.Layout.{same_role};
+ghost use Rattle.table.specs.Kinds.{Reads, kind_number, label_number, mark_number};
 ghost use Rattle.table.specs.Checks.{number_of};
 
 // The width of every number of a table, a query and a record.
@@ -58,7 +59,43 @@ pub struct Credential {
     pub automaton: Number,
 }
 
+impl Credential {
+    pub fn is(self, kind: Kind) -> bool
+        ensures { result ≡ eqb self.kind (kind_number kind) }
+    {
+        self.kind == kind as Number
+    }
+}
+
+// A number that stands for nothing where it is.
+#[derive(Clone, Copy, Debug, PartialEq, Eq)]
+pub struct OutOfRange;
+
 // The kinds of a credential.
+#[derive(Clone, Copy, Debug, PartialEq, Eq)]
+pub enum Kind {
+    SimpleMembership = 1,
+    SimpleContainment = 2,
+    LinkingContainment = 3,
+    IntersectionContainment = 4,
+}
+
+impl TryFrom<Number> for Kind {
+    type Error = OutOfRange;
+
+    ghost try_from_gives = { Reads kind_number };
+
+    fn try_from(number: Number) -> Result<Kind, OutOfRange> {
+        match number {
+            1 => Ok(Kind::SimpleMembership),
+            2 => Ok(Kind::SimpleContainment),
+            3 => Ok(Kind::LinkingContainment),
+            4 => Ok(Kind::IntersectionContainment),
+            _ => Err(OutOfRange),
+        }
+    }
+}
+
 pub const SIMPLE_MEMBERSHIP: Number = 1;
 
 pub const SIMPLE_CONTAINMENT: Number = 2;
@@ -89,7 +126,35 @@ pub struct Automaton {
     pub mark: Number,
 }
 
+impl Automaton {
+    pub fn demands(self, mark: Mark) -> bool
+        ensures { result ≡ eqb self.mark (mark_number mark) }
+    {
+        self.mark == mark as Number
+    }
+}
+
 // The marks of an automaton.
+#[derive(Clone, Copy, Debug, PartialEq, Eq)]
+pub enum Mark {
+    EveryWord = 0,
+    SomeWord = 1,
+}
+
+impl TryFrom<Number> for Mark {
+    type Error = OutOfRange;
+
+    ghost try_from_gives = { Reads mark_number };
+
+    fn try_from(number: Number) -> Result<Mark, OutOfRange> {
+        match number {
+            0 => Ok(Mark::EveryWord),
+            1 => Ok(Mark::SomeWord),
+            _ => Err(OutOfRange),
+        }
+    }
+}
+
 pub const EVERY_WORD: Number = 0;
 
 pub const SOME_WORD: Number = 1;
@@ -104,6 +169,30 @@ pub struct Edge {
 }
 
 // The labels of an edge: exactly its role, every role, every role but its own, every role of its owner.
+#[derive(Clone, Copy, Debug, PartialEq, Eq)]
+pub enum Label {
+    ThisRole = 1,
+    EveryRole = 2,
+    OtherRoles = 3,
+    RolesOfOwner = 4,
+}
+
+impl TryFrom<Number> for Label {
+    type Error = OutOfRange;
+
+    ghost try_from_gives = { Reads label_number };
+
+    fn try_from(number: Number) -> Result<Label, OutOfRange> {
+        match number {
+            1 => Ok(Label::ThisRole),
+            2 => Ok(Label::EveryRole),
+            3 => Ok(Label::OtherRoles),
+            4 => Ok(Label::RolesOfOwner),
+            _ => Err(OutOfRange),
+        }
+    }
+}
+
 pub const THIS_ROLE: Number = 1;
 
 pub const EVERY_ROLE: Number = 2;
