@@ -3,4 +3,5 @@ pub mod Least
 pub mod Meeting
 pub mod Lines
 pub mod Single
+pub mod Listing
 pub mod Judging

@@ -15,14 +15,7 @@ pub fn meets_all(cuts: &[CredentialSet], count: usize, set: CredentialSet) -> bo
     requires { count ≤ length cuts.now }
     ensures { result ≡ meets_all cuts.now count set }
 {
-    let mut i = 0;
-    while i < count {
-        if set & cuts[i] == 0 {
-            return false;
-        }
-        i += 1;
-    }
-    true
+    cuts[..count].iter().all(|cut| set & *cut != 0)
 }
 
 // The first of the cuts that the set does not meet; 0 where it meets them all.
@@ -30,14 +23,11 @@ pub fn unmet(cuts: &[CredentialSet], count: usize, set: CredentialSet) -> Creden
     requires { count ≤ length cuts.now }
     ensures { result ≡ Cuts.unmet cuts.now count set }
 {
-    let mut i = 0;
-    while i < count {
-        if set & cuts[i] == 0 {
-            return cuts[i];
-        }
-        i += 1;
-    }
-    0
+    cuts[..count]
+        .iter()
+        .find(|cut| set & **cut == 0)
+        .copied()
+        .unwrap_or(0)
 }
 
 // The chosen members that are in some cut the only chosen one.
@@ -45,13 +35,9 @@ pub fn sole(cuts: &[CredentialSet], count: usize, chosen: CredentialSet) -> Cred
     requires { count ≤ length cuts.now }
     ensures { (c : ℕ) → in_set result c ≡ is_sole cuts.now count chosen c }
 {
-    let mut found = 0;
-    let mut i = 0;
-    while i < count {
-        found = found | if_single(cuts[i] & chosen);
-        i += 1;
-    }
-    found
+    cuts[..count]
+        .iter()
+        .fold(0, |found, cut| found | if_single(*cut & chosen))
 }
 
 // The set where it has just one member, and otherwise none.
@@ -72,14 +58,7 @@ pub fn highest(set: CredentialSet) -> usize
     requires { (set ≡ 0 → ⊥) × (set < 2 ^ 20) }
     ensures { (in_set set result ≡ true) × (result < 20) }
 {
-    let mut i = 19;
-    while 0 < i {
-        if sets::has(set, i) {
-            return i;
-        }
-        i -= 1;
-    }
-    0
+    set.ilog2() as usize
 }
 
 // By its cuts a region has no least set: some cut meets neither chosen nor free, so that no set of the region passes; or no cut
