@@ -196,15 +196,15 @@ module _ (t index : List ℕ) (wf : WellFormed t) (made : Indexed t index) (S ot
           one-named g there (first.only (row_cell 1 (role_at t g.role)) _ inside)
       only (suc (suc k)) l g h = absurd (omega arith)
 
-  pub reached-all : (rows : List ℕ) (level depth : ℕ) → level ≡ depth → depth ≤ most_depth → Reached t index S others level rows
-      → Members t S depth level rows
-  reached-all rows level depth all few at =
+  pub reached-all : (rows : List ℕ) (depth : ℕ) → depth ≤ most_depth → Reached t index S others depth rows
+      → Members t S depth depth rows
+  reached-all rows depth few at =
       record {
         room = at.room;
         few = omega arith;
-        every = λ k l g h. by-lesser (λ m. listed t rows m g ≡ true) k level (λ less. at.every k (omega arith) g h)
-            (λ more. let e : k ≡ level = omega arith in rw e at (at.every k (omega arith) g h));
-        only = λ k l. only-lesser t rows S level at.only k;
+        every = λ k l g h. by-lesser (λ m. listed t rows m g ≡ true) k depth (λ less. at.every k (omega arith) g h)
+            (λ more. let e : k ≡ depth = omega arith in rw e at (at.every k (omega arith) g h));
+        only = λ k l. only-lesser t rows S depth at.only k;
       }
 
   -- the row behind a level is copied from it, and then takes in whom the other credentials prove

@@ -149,9 +149,6 @@ pub first-is : (t index : List ℕ) (S i : ℕ) (rows rows' : List ℕ) (others 
 first-is t index S i rows rows' others others' same alike h = rw (same, alike) h
 
 -- the copy of a row
-pub copied-starts : (level : ℕ) (rows : List ℕ) → length rows ≡ table_cells → Copied level 0 rows rows
-copied-starts level rows room = record { room = room; kept = λ x l. refl; copied = λ r l. absurd (omega arith) }
-
 pub copied_more : (level r : ℕ) (rows rows' : List ℕ) → level < most_depth → r < row_cells → Copied level r rows rows'
     → Copied level (r + 1) rows (set rows' (row_cell (level + 1) r) (mask rows' level r))
 copied_more level r rows rows' few l so_far =

@@ -34,15 +34,13 @@ pub fn fill(
     ensures { Members table.now allowed depth result rows.new }
 {
     let others = first_level(table, index, allowed, rows);
-    let mut level = 1;
-    while level < depth {
+    for level in 1..depth {
         copy_row(rows, level);
         if !next_level(table, index, others, level, rows) {
             return level;
         }
-        level += 1;
     }
-    level
+    depth
 }
 
 // Row 1: whom the allowed simple memberships name. What it answers is the other allowed credentials.
@@ -61,8 +59,7 @@ fn first_level(
 {
     let n = layout::credentials(table);
     let mut others = 0;
-    let mut i = 0;
-    while i < n {
+    for i in 0..n {
         if sets::has(allowed, i) {
             let credential = layout::credential(table, i + 1);
             if credential.kind == SIMPLE_MEMBERSHIP {
@@ -72,7 +69,6 @@ fn first_level(
                 others = sets::with(others, i);
             }
         }
-        i += 1;
     }
     others
 }
@@ -83,11 +79,8 @@ fn copy_row(rows: &mut [CredentialSet], level: usize)
     requires level_lt_most_depth { level < most_depth }
     ensures { Copied level row_cells rows.old rows.new }
 {
-    let mut r = 0;
-    while r < ROW {
-        rows[ROW * (level + 1) + r] = rows[ROW * level + r];
-        r += 1;
-    }
+    let behind = ROW * (level + 1);
+    rows.copy_within(ROW * level..behind, behind);
 }
 
 // Adds to the row behind `level` whom the credentials prove by what row `level` has; whether anything is new.
@@ -107,8 +100,7 @@ fn next_level(
 {
     let n = layout::credentials(table);
     let mut is_new = false;
-    let mut i = 0;
-    while i < n {
+    for i in 0..n {
         if sets::has(others, i) {
             let cell = ROW * (level + 1) + members::role_cell(index, i);
             let more = rows[cell] | masks::proved_by(table, index, rows, level, i);
@@ -117,7 +109,6 @@ fn next_level(
                 is_new = true;
             }
         }
-        i += 1;
     }
     is_new
 }
