@@ -9,19 +9,18 @@ ghost use Rattle.table.specs.Limits.{last_state};
 ghost use Rattle.edges.specs.Edges;
 
 use sets::StateSet;
-use table::{EVERY_ROLE, Edge, OTHER_ROLES, ROLES_OF_OWNER, Role, THIS_ROLE};
+use table::{Edge, Label, Role};
 
 // Whether the edge's label matches the role.
 pub fn matches(edge: Edge, role: Role) -> bool
     ensures { result ≡ Edges.matches edge role }
 {
-    let label = edge.label;
-    match label {
-        THIS_ROLE => edge.role.same(role),
-        EVERY_ROLE => true,
-        OTHER_ROLES => !edge.role.same(role),
-        ROLES_OF_OWNER => edge.role.owner.0 == role.owner.0,
-        _ => false,
+    match Label::try_from(edge.label) {
+        Ok(Label::ThisRole) => edge.role == role,
+        Ok(Label::EveryRole) => true,
+        Ok(Label::OtherRoles) => edge.role != role,
+        Ok(Label::RolesOfOwner) => edge.role.owner == role.owner,
+        Err(_) => false,
     }
 }
 

@@ -5,11 +5,7 @@ ghost use Rattle.std.specs.Prelude.{◌≡◌};
 ghost use Rattle.table.specs.Checks;
 
 use table::layout::{LAST_STATE, MOST_NAMES, MOST_PRINCIPALS, wide};
-use table::{
-    Cell, Credential, EVERY_ROLE, Edge, INTERSECTION_CONTAINMENT, LINKING_CONTAINMENT, Name,
-    Number, OTHER_ROLES, Principal, ROLES_OF_OWNER, Role, SIMPLE_CONTAINMENT, SIMPLE_MEMBERSHIP,
-    SOME_WORD, THIS_ROLE,
-};
+use table::{Cell, Credential, Edge, Kind, Label, Mark, Name, Number, OutOfRange, Principal, Role};
 
 pub fn within(low: usize, high: usize, x: Number) -> bool
     ensures { result ≡ Checks.within low high x }
@@ -40,12 +36,12 @@ pub fn is_role(role: Role) -> bool
 pub fn meaning_ok(kind: Number, first: Number, second: Number, cells: usize) -> bool
     ensures { result ≡ Checks.meaning_ok kind first second cells }
 {
-    match kind {
-        SIMPLE_MEMBERSHIP => is_principal(Principal(first)) && second == 0,
-        SIMPLE_CONTAINMENT => is_principal(Principal(first)) && is_name(Name(second)),
-        LINKING_CONTAINMENT => is_name(Name(first)) && is_name(Name(second)),
-        INTERSECTION_CONTAINMENT => within(1, cells, first) && second == 0,
-        _ => false,
+    match Kind::try_from(kind) {
+        Ok(Kind::SimpleMembership) => is_principal(Principal(first)) && second == 0,
+        Ok(Kind::SimpleContainment) => is_principal(Principal(first)) && is_name(Name(second)),
+        Ok(Kind::LinkingContainment) => is_name(Name(first)) && is_name(Name(second)),
+        Ok(Kind::IntersectionContainment) => within(1, cells, first) && second == 0,
+        Err(_) => false,
     }
 }
 
@@ -68,12 +64,11 @@ pub fn cell_ok(c: Cell, j: usize, cells: usize) -> bool
 pub fn label_ok(label: Number, role: Role) -> bool
     ensures { result ≡ Checks.label_ok label role }
 {
-    match label {
-        THIS_ROLE => is_role(role),
-        EVERY_ROLE => role.owner.0 == 0 && role.name.0 == 0,
-        OTHER_ROLES => is_role(role),
-        ROLES_OF_OWNER => is_principal(role.owner) && role.name.0 == 0,
-        _ => false,
+    match Label::try_from(label) {
+        Ok(Label::ThisRole | Label::OtherRoles) => is_role(role),
+        Ok(Label::EveryRole) => role.owner.0 == 0 && role.name.0 == 0,
+        Ok(Label::RolesOfOwner) => is_principal(role.owner) && role.name.0 == 0,
+        Err(_) => false,
     }
 }
 
@@ -87,5 +82,5 @@ pub fn edge_ok(e: Edge, automata: usize) -> bool
 pub fn mark_ok(mark: Number) -> bool
     ensures { result ≡ Checks.mark_ok mark }
 {
-    mark <= SOME_WORD
+    Mark::try_from(mark).is_ok()
 }
