@@ -1,3 +1,3 @@
 -- Laws that belong to no one function.
-pub mod Slots
+pub mod Arrays
 pub mod Sparing

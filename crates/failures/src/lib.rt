@@ -4,17 +4,16 @@
 // specs/Failures.antt says what the cells hold.
 #![tactic(auto)]
 
-ghost use Rattle.std.specs.Prelude.{◌≡◌, true, ◌<◌, ◌≤◌};
-ghost use Rattle.families.specs.Families.{family_words};
-ghost use Rattle.table.specs.Limits.{most_automata, most_credentials, most_depth};
+ghost use Rattle.std.specs.Prelude.{◌≡◌, ℕ, true, ◌+◌, ◌<◌, ◌≤◌, get_or, length};
+ghost use Rattle.table.specs.Limits.{most_credentials, most_depth};
 ghost use Rattle.failures.specs.Failures.{BlockingAt, FamilyAt, Joined, SlotWritten, Recalled, SlotIn, SlotsIn, Spared};
-ghost use Rattle.failures.specs.Failures.{blocking_cell, family_cell, state_cell};
 ghost use Rattle.failures.specs.Cells.{CoveredAt, StatesAt, Written};
 
 use automata::StateSets;
 use families::Family;
 use members::Above;
 use sets::CredentialSet;
+use std::array;
 use table::layout;
 
 // A memory is slots of forty cells each, at least one.
@@ -36,7 +35,7 @@ pub const CELLS: usize = SLOT_CELLS * SLOTS;
 pub const FEW_CELLS: usize = SLOT_CELLS * FEW_SLOTS;
 
 // A set with no more members is small.
-const FEW_MEMBERS: usize = 8;
+const FEW_MEMBERS: u32 = 8;
 
 const ROLES: usize = layout::MOST_CREDENTIALS as usize;
 
@@ -50,17 +49,7 @@ const SUMS: usize = SPREAD * SPREAD * SPREAD;
 
 // Whether the set has at most eight members. It only decides how much memory is lent, so no fact rests on it.
 pub fn is_small(set: CredentialSet) -> bool {
-    let mut rest = set;
-    let mut i = 0;
-    while i < FEW_MEMBERS {
-        if rest == 0 {
-            return true;
-        }
-        // the set without its lowest member
-        rest = rest & (rest - 1);
-        i += 1;
-    }
-    rest == 0
+    set.count_ones() <= FEW_MEMBERS
 }
 
 // How many whole slots the memory has.
@@ -77,10 +66,8 @@ pub fn slot(person: usize, place: usize, states: StateSets, count: usize) -> usi
     ensures { result < count }
 {
     let mut sum = person * ROLES + place;
-    let mut j = 0;
-    while j < automata::AUTOMATA {
-        sum = (sum * FACTOR + states.sets[j] as usize) % SUMS;
-        j += 1;
+    for set in states.sets {
+        sum = (sum * FACTOR + usize::from(set)) % SUMS;
     }
     // the upper states of a set count only in the upper digits; the mask spreads evenly where the slots are a power of 2
     (sum + sum / SPREAD + sum / SPREAD / SPREAD) & (count - 1)
@@ -100,26 +87,11 @@ pub fn recalls(
     ensures { result ≡ true → Recalled memory.now k person place levels states above }
 {
     let at = SLOT_CELLS * k;
-    if wide(memory[at]) < levels {
-        return false;
-    }
-    if wide(memory[at + 1]) != person {
-        return false;
-    }
-    if wide(memory[at + 2]) != place {
-        return false;
-    }
-    if !same_states(memory, k, states) {
-        return false;
-    }
-    is_covered(memory, k, above)
-}
-
-// A cell as a number to count with.
-fn wide(x: u32) -> usize
-    ensures { result ≡ x }
-{
-    x as usize
+    levels <= memory[at] as usize
+        && memory[at + 1] as usize == person
+        && memory[at + 2] as usize == place
+        && same_states(memory, k, states)
+        && is_covered(memory, k, above)
 }
 
 // Slot k has these state sets.
@@ -127,15 +99,10 @@ fn same_states(memory: &[u32], k: usize, states: StateSets) -> bool
     requires { SlotIn memory.now k }
     ensures { result ≡ true → StatesAt memory.now k states }
 {
-    let from = SLOT_CELLS * k + FIRST_STATE;
-    let mut j = 0;
-    while j < automata::AUTOMATA {
-        if memory[from + j] != states.sets[j] as u32 {
-            return false;
-        }
-        j += 1;
-    }
-    true
+    memory[SLOT_CELLS * k + FIRST_STATE..]
+        .iter()
+        .zip(&states.sets)
+        .all(|(&cell, &set)| cell == u32::from(set))
 }
 
 // Each blocking pair of slot k is on this branch.
@@ -143,16 +110,10 @@ fn is_covered(memory: &[u32], k: usize, above: Above) -> bool
     requires { SlotIn memory.now k }
     ensures { result ≡ true → CoveredAt memory.now k above }
 {
-    let from = SLOT_CELLS * k + FIRST_BLOCKING;
-    let mut r = 0;
-    while r < ROLES {
-        let blocking = memory[from + r];
-        if blocking & above.persons[r] != blocking {
-            return false;
-        }
-        r += 1;
-    }
-    true
+    memory[SLOT_CELLS * k + FIRST_BLOCKING..]
+        .iter()
+        .zip(&above.persons)
+        .all(|(&blocking, &persons)| blocking & persons == blocking)
 }
 
 // The blocking pairs of slot k.
@@ -160,14 +121,9 @@ pub fn blocking_at(memory: &[u32], k: usize) -> Above
     requires { SlotIn memory.now k }
     ensures { BlockingAt memory.now k result }
 {
-    let from = SLOT_CELLS * k + FIRST_BLOCKING;
-    let mut persons = [0; ROLES];
-    let mut r = 0;
-    while r < ROLES {
-        persons[r] = memory[from + r];
-        r += 1;
+    Above {
+        persons: read(memory, SLOT_CELLS * k + FIRST_BLOCKING),
     }
-    Above { persons: persons }
 }
 
 // The family of slot k.
@@ -175,14 +131,19 @@ pub fn family_at(memory: &[u32], k: usize) -> Family
     requires { SlotIn memory.now k }
     ensures { FamilyAt memory.now k result }
 {
-    let from = SLOT_CELLS * k + FIRST_WORD;
-    let mut words = [0; families::WORDS];
-    let mut j = 0;
-    while j < families::WORDS {
-        words[j] = memory[from + j];
-        j += 1;
+    Family {
+        words: read(memory, SLOT_CELLS * k + FIRST_WORD),
     }
-    Family { words: words }
+}
+
+// The N cells from `from` on.
+fn read<const N: usize>(memory: &[u32], from: usize) -> [u32; N]
+    requires { from + N ≤ length memory.now }
+    ensures { (x : ℕ) → x < N → get_or result x 0 ≡ get_or memory.now (from + x) 0 }
+{
+    let mut cells = [0; N];
+    cells.copy_from_slice(&memory[from..from + N]);
+    cells
 }
 
 // Keeps in slot k that the goal can meet no set that the family does not cover, below every branch that has the blocking pairs.
@@ -204,61 +165,26 @@ pub fn keep(
     memory[at] = levels as u32;
     memory[at + 1] = person as u32;
     memory[at + 2] = place as u32;
-    put_states(memory, k, states);
-    put_blocking(memory, k, blocking);
-    put_family(memory, k, found);
+    write(memory, at + FIRST_STATE, &states.sets.map(u32::from));
+    write(memory, at + FIRST_BLOCKING, &blocking.persons);
+    write(memory, at + FIRST_WORD, &found.words);
 }
 
-// Writes the state sets into slot k.
-fn put_states(memory: &mut [u32], k: usize, states: StateSets)
-    requires { SlotIn memory.old k }
-    ensures { Written (state_cell k 0) most_automata states.sets memory.old memory.new }
+// Writes the cells from `from` on.
+fn write(memory: &mut [u32], from: usize, cells: &[u32])
+    requires { from + length cells.now ≤ length memory.old }
+    ensures { Written from (length cells.now) cells.now memory.old memory.new }
 {
-    let from = SLOT_CELLS * k + FIRST_STATE;
-    let mut j = 0;
-    while j < automata::AUTOMATA {
-        memory[from + j] = states.sets[j] as u32;
-        j += 1;
-    }
-}
-
-// Writes the blocking pairs into slot k.
-fn put_blocking(memory: &mut [u32], k: usize, blocking: Above)
-    requires { SlotIn memory.old k }
-    ensures { Written (blocking_cell k 0) most_credentials blocking.persons memory.old memory.new }
-{
-    let from = SLOT_CELLS * k + FIRST_BLOCKING;
-    let mut r = 0;
-    while r < ROLES {
-        memory[from + r] = blocking.persons[r];
-        r += 1;
-    }
-}
-
-// Writes the family into slot k.
-fn put_family(memory: &mut [u32], k: usize, found: Family)
-    requires { SlotIn memory.old k }
-    ensures { Written (family_cell k 0) family_words found.words memory.old memory.new }
-{
-    let from = SLOT_CELLS * k + FIRST_WORD;
-    let mut j = 0;
-    while j < families::WORDS {
-        memory[from + j] = found.words[j];
-        j += 1;
-    }
+    memory[from..from + cells.len()].copy_from_slice(cells);
 }
 
 // The pairs of both.
 pub fn joined(one: Above, other: Above) -> Above
     ensures { Joined one other result }
 {
-    let mut persons = [0; ROLES];
-    let mut r = 0;
-    while r < ROLES {
-        persons[r] = one.persons[r] | other.persons[r];
-        r += 1;
+    Above {
+        persons: array::from_fn(|r| one.persons[r] | other.persons[r]),
     }
-    Above { persons: persons }
 }
 
 // The pairs without that of the principal at `person` and the role at `place`.
@@ -272,5 +198,5 @@ pub fn without(all: Above, person: usize, place: usize) -> Above
     }
     let mut persons = all.persons;
     persons[place] = others ^ (1 << person);
-    Above { persons: persons }
+    Above { persons }
 }
