@@ -31,13 +31,11 @@ impl Above {
     }
 
     // These and the principal at `person` in the role at `place`.
-    pub fn with(self, person: usize, place: usize) -> Above
+    pub fn with(mut self, person: usize, place: usize) -> Above
         requires { (person < most_credentials) × (place < most_credentials) }
         ensures { result ≡ with_pair self person place }
     {
-        let others = self.persons[place];
-        let mut persons = self.persons;
-        persons[place] = sets::with(others, person);
-        Above { persons: persons }
+        self.persons[place] = sets::with(self.persons[place], person);
+        self
     }
 }

@@ -6,7 +6,7 @@ ghost use Rattle.table.specs.Holding.{WellFormed};
 ghost use Rattle.members.specs.Places.{is_person};
 ghost use Rattle.members.specs.Members.{Indexed, Placed, asked_cell, goal_person, goal_role, link_cell, role_cell};
 
-use table::{Number, SIMPLE_MEMBERSHIP, layout};
+use table::{Kind, Number, layout};
 
 // Five cells for each credential: the place of its role, and four of the roles that it asks.
 pub const CREDENTIAL_CELLS: usize = 1 + layout::MOST_PARTS;
@@ -57,11 +57,7 @@ pub fn is_person(table: &[Number], index: &[u8], j: usize) -> bool
     requires j_bound { j < credentials table.now }
     ensures { result ≡ is_person table.now j }
 {
-    let credential = layout::credential(table, j + 1);
-    if credential.kind != SIMPLE_MEMBERSHIP {
-        return false;
-    }
-    asked_cell(index, j, 0) == j
+    layout::credential(table, j + 1).is(Kind::SimpleMembership) && asked_cell(index, j, 0) == j
 }
 
 // Where the query's role and its principal stand.
