@@ -2,11 +2,13 @@
 -- numbers, one bit after the other.
 use mathlib.Core.Path.{◌≡◌, refl, sym, ap, ◌∙◌}
 use mathlib.Core.Bool.{Bool, true, false, not}
-use Prim.Native.Nat.{ℕ, ◌+◌, ◌-◌, ◌*◌, ◌%◌, ◌^◌, ◌<◌, ◌≤◌}
+use mathlib.Core.List.{[], ◌∷◌}
+use Prim.Native.Nat.{ℕ, zero, suc, ◌+◌, ◌-◌, ◌*◌, ◌%◌, ◌^◌, ◌<◌, ◌≤◌}
 use native.Mathlib.Omega.{arith}
 use native.Mathlib.Decide.{dec_lt}
 use lib.Bits.{bit_and, bit_or, bit_xor, and_mask, and_shifted, or_add_and, or_disjoint, or_zero_l}
 use lib.Dec.{eqb, ltb}
+use lib.ListN.{get_or}
 use lib.Pow.{pow-lt, shl-shr, shr-shr}
 use borrow.Author.Tests.{eq-eqb, eqb-true, lt-ltb, not-true}
 use Rattle.sets.specs.Logic.{◌and◌, ◌or◌, pick}
@@ -18,9 +20,16 @@ use Rattle.sets.proofs.Members.{same-members, set_more, set-not, set_of-members}
 use Rattle.sets.proofs.Without.{all-has, in_set-xor, one-is}
 use Rattle.families.specs.Families.{Spread, spreads, word_bits, word_sets}
 
--- the numbers with bit i, once it is known which bit that is
-pub having-is : (i k r : ℕ) → i ≡ k → r ≡ set_of (λ x. in_set x k) word_sets → r ≡ set_of (λ x. in_set x i) word_sets
-having-is i k r e is = is ∙ ap (λ (y : ℕ). set_of (λ x. in_set x y) word_sets) (sym e)
+-- the numbers that have a bit, bit by bit
+pub having_each : (i : ℕ) → i < word_bits
+    → get_or (0xAAAAAAAA ∷ 0xCCCCCCCC ∷ 0xF0F0F0F0 ∷ 0xFF00FF00 ∷ 0xFFFF0000 ∷ []) i 0 ≡ set_of (λ x. in_set x i) word_sets
+unfolding set_of in_set pick
+having_each zero l = refl
+having_each (suc zero) l = refl
+having_each (suc (suc zero)) l = refl
+having_each (suc (suc (suc zero))) l = refl
+having_each (suc (suc (suc (suc zero)))) l = refl
+having_each (suc (suc (suc (suc (suc i))))) l = absurd (omega arith)
 
 -- a number is in a word that is shifted where the one that stands so much lower was in it; what is shifted out is gone
 module _ (y s : ℕ) where

@@ -119,6 +119,13 @@ module _ (f g : Family) where
       → in_set (bit_or (word f j) (word g j)) s ≡ (in_family f (32 * j + s) or in_family g (32 * j + s))
   or_word j s l = in_set-or (word f j) (word g j) s ∙ rw (in-word f j s l, in-word g j s l)
 
+  -- the family whose words have the sets of both has the sets of both
+  pub either-word : (both : Family) → ((j : ℕ) → j < family_words → word both j ≡ bit_or (word f j) (word g j))
+      → FamilyOf (λ X. in_family f X or in_family g X) both
+  either-word both each X l =
+      by_word (λ Y. in_family both Y ≡ (in_family f Y or in_family g Y)) X (X / 32) refl
+      (λ s less. in-word both (X / 32) s less ∙ ap (λ x. in_set x s) (each (X / 32) (omega arith)) ∙ or_word (X / 32) s less)
+
   and_word : (j s : ℕ) → s < 32
       → in_set (bit_and (word f j) (word g j)) s ≡ (in_family f (32 * j + s) and in_family g (32 * j + s))
   and_word j s l = in_set-and (word f j) (word g j) s ∙ rw (in-word f j s l, in-word g j s l)

@@ -12,6 +12,7 @@ ghost use Rattle.families.specs.Families.{FamilyOf, all_sets, in_family, is_part
 ghost use Rattle.families.specs.Next.{Next};
 
 use sets::AutomatonSet;
+use std::array;
 
 const ALL_SETS: AutomatonSet = 256;
 
@@ -60,7 +61,7 @@ impl Family {
         let at = (set / WORD_SETS) as usize;
         let mut words = self.words;
         words[at] = sets::with(words[at], (set % WORD_SETS) as usize);
-        Family { words: words }
+        Family { words }
     }
 
     // The family has no set: none is even in common with itself.
@@ -74,42 +75,29 @@ impl Family {
     pub fn or(self, other: Family) -> Family
         ensures { FamilyOf (λ X. in_family self X or in_family other X) result }
     {
-        let mut words = [0; WORDS];
-        let mut j = 0;
-        while j < WORDS {
-            words[j] = self.words[j] | other.words[j];
-            j += 1;
+        Family {
+            words: array::from_fn(|j| self.words[j] | other.words[j]),
         }
-        Family { words: words }
     }
 
     // Each set of the family is one of the other.
     pub fn is_part(self, other: Family) -> bool
         ensures { result ≡ is_part self other }
     {
-        let mut j = 0;
-        while j < WORDS {
-            let word = self.words[j];
-            if word & other.words[j] != word {
-                return false;
-            }
-            j += 1;
-        }
-        true
+        self.words
+            .iter()
+            .zip(other.words.iter())
+            .all(|(own, its)| own & its == *own)
     }
 
     // Some set is in both.
     pub fn meets(self, other: Family) -> bool
         ensures { result ≡ any_below (λ X. in_family self X and in_family other X) all_sets }
     {
-        let mut j = 0;
-        while j < WORDS {
-            if self.words[j] & other.words[j] != 0 {
-                return true;
-            }
-            j += 1;
-        }
-        false
+        self.words
+            .iter()
+            .zip(other.words.iter())
+            .any(|(own, its)| own & its != 0)
     }
 
     // Some set of the family includes this one: with this one it is still in the family.
@@ -142,12 +130,10 @@ impl Family {
         ensures { FamilyOf (Families.leaves self later most) result }
     {
         let mut left = Family::none();
-        let mut set = 0;
-        while set <= most {
+        for set in 0..=most {
             if self.leaves(later, most, set) {
                 left = left.with(set);
             }
-            set += 1;
         }
         left
     }
@@ -161,13 +147,11 @@ impl Family {
         let high = (set / WORD_SETS) as usize;
         let low = set % WORD_SETS;
         let mut words = [0; WORDS];
-        let mut j = 0;
-        while j < WORDS {
+        for j in 0..WORDS {
             let at = high | j;
-            words[at] = words[at] | spreading::spread(self.words[j], low);
-            j += 1;
+            words[at] |= spreading::spread(self.words[j], low);
         }
-        Family { words: words }
+        Family { words }
     }
 
     // The set is a part of `most` and together with some set of `later` in the family.

@@ -8,18 +8,19 @@ use sets::AutomatonSet;
 
 const WORD_BITS: usize = 5;
 
+// The numbers below 32 that have bit 0, those that have bit 1, and so on.
+const HAVING: [u32; WORD_BITS] = [0xAAAAAAAA, 0xCCCCCCCC, 0xF0F0F0F0, 0xFF00FF00, 0xFFFF0000];
+
 // The unions of `low` and a number of the word.
 pub fn spread(word: u32, low: AutomatonSet) -> u32
     requires { low < word_sets }
     ensures { Spread word low result }
 {
     let mut all = word;
-    let mut i = 0;
-    while i < WORD_BITS {
+    for i in 0..WORD_BITS {
         if sets::has(low, i) {
             all = lifted(all, i);
         }
-        i += 1;
     }
     all
 }
@@ -38,11 +39,5 @@ fn having(i: usize) -> u32
     requires { i < word_bits }
     ensures { result ≡ set_of (λ x. in_set x i) word_sets }
 {
-    match i {
-        0 => 0xAAAAAAAA,
-        1 => 0xCCCCCCCC,
-        2 => 0xF0F0F0F0,
-        3 => 0xFF00FF00,
-        _ => 0xFFFF0000,
-    }
+    HAVING[i]
 }
