@@ -2,10 +2,10 @@
 // 2^(k-1), credential i counts 2^(i-1). specs/Sets.antt says what being a member means; proofs/Members.antt has its laws.
 #![tactic(auto)]
 
-ghost use Rattle.std.specs.Prelude.{◌≡◌, ℕ, ◌^◌, ◌<◌, ◌≤◌};
+ghost use Rattle.std.specs.Prelude.{◌≡◌, ℕ, ◌^◌, ◌<◌, ◌≤◌, Bool};
 ghost use Rattle.std.specs.Int.Bits.{bit_or};
 ghost use Rattle.std.proofs.Common.{rules};
-ghost use Rattle.sets.specs.Sets.{in_set};
+ghost use Rattle.sets.specs.Sets.{in_set, set_of};
 
 // The widths of sets do not follow the width of a table's numbers: there are at most 16 states, 8 automata and 20 credentials.
 pub type StateSet = u16;
@@ -77,4 +77,19 @@ pub fn with<S: Width>(set: S, i: usize) -> S
     ensures { S.number result ≡ bit_or (S.number set) (2 ^ i) }
 {
     S::narrow(set.wide() | (1 << i))
+}
+
+// The members below n that pass a test, as a set.
+pub fn those<S: Width, F: Fn(usize) -> bool>(n: usize, test: F) -> S
+    requires room { n ≤ S.room }
+    requires callable { (k : ℕ) → k < n → F.pre test k }
+    ensures { (p : ℕ → Bool) → ((k : ℕ) → k < n → (told : Bool) → F.post test k told → told ≡ p k) → S.number result ≡ set_of p n }
+{
+    let mut set = S::narrow(0);
+    for k in 0..n {
+        if test(k) {
+            set = with(set, k);
+        }
+    }
+    set
 }
