@@ -9,7 +9,7 @@ ghost use Rattle.table.specs.Layout.{Numbered, head_size};
 ghost use Rattle.table.specs.Holding.{Counted, Sized};
 ghost use Rattle.table.specs.Checks.{counts_ok, good_chain};
 ghost use Rattle.scans.specs.Rows;
-ghost use Rattle.scans.specs.Rows.{FirstBad, good, row_outcome};
+ghost use Rattle.scans.specs.Rows.{FoundBad, good, row_outcome};
 ghost use Rattle.scans.specs.declared.Row.TheVariants as row;
 
 use table::layout::{
@@ -63,58 +63,52 @@ pub fn counts_ok(table: &[Number]) -> bool
     ensures { result ≡ counts_ok table.now }
 {
     table[0] <= MOST_CREDENTIALS
-        && (table[1] <= MOST_CELLS && (table[2] <= MOST_AUTOMATA && table[3] <= MOST_EDGES))
+        && table[1] <= MOST_CELLS
+        && table[2] <= MOST_AUTOMATA
+        && table[3] <= MOST_EDGES
 }
 
-// Rows 4, 5, 7 and 17: the first record of the row that is not good, by ascending number, or 0 where every one is.
-pub fn first_bad(table: &[Number], row: Row) -> usize
+// Rows 4, 5, 7 and 17: the first record of the row that is not good, by ascending number.
+pub fn first_bad(table: &[Number], row: Row) -> Option<usize>
     requires { Sized table.now }
-    ensures { FirstBad (good table.now row) (Rows.records table.now row) result }
+    ensures { FoundBad (good table.now row) (Rows.records table.now row) result }
 {
-    let n = row.records(table);
-    let mut i = 0;
-    while i < n {
-        i += 1;
-        if !row.is_good(table, i) {
-            return i;
-        }
-    }
-    0
+    (1..=row.records(table)).find(|i| !row.is_good(table, *i))
 }
 
-// Row 6: the first credential whose chain has not 2 to 4 cells, or 0; without part cells there is no chain. A chain is left as
-// soon as a fifth cell is met.
-pub fn first_bad_chain(table: &[Number]) -> usize
+// Row 6: the first credential whose chain has not 2 to 4 cells; without part cells there is no chain.
+pub fn first_bad_chain(table: &[Number]) -> Option<usize>
     requires sized { Sized table.now }
     requires credentials_value { row_outcome table.now row.Credentials 4 ≡ Outcome.accepted 0 }
     requires cells_value { row_outcome table.now row.Cells 5 ≡ Outcome.accepted 0 }
-    ensures { FirstBad (good_chain table.now) (Layout.credentials table.now) result }
+    ensures { FoundBad (good_chain table.now) (Layout.credentials table.now) result }
 {
     if layout::cells(table) == 0 {
-        return 0;
+        return None;
     }
-    let n = layout::credentials(table);
-    let mut i = 0;
-    'credentials: loop {
-        if i == n {
-            break 0;
-        }
-        i += 1;
-        let c = layout::credential(table, i);
-        if c.kind != INTERSECTION_CONTAINMENT {
-            continue;
-        }
-        let mut met = 0;
-        let mut j = c.first;
-        while j != 0 {
-            met += 1;
-            if MOST_PARTS < met {
-                break 'credentials i;
-            }
-            j = layout::cell(table, layout::wide(j)).next;
-        }
-        if met < LEAST_PARTS {
-            break i;
-        }
+    (1..=layout::credentials(table)).find(|i| !has_good_chain(table, *i))
+}
+
+// Only a credential of kind 4 has a chain. The chain is left as soon as a fifth cell is met.
+fn has_good_chain(table: &[Number], i: usize) -> bool
+    requires sized { Sized table.now }
+    requires numbered { Numbered (Layout.credentials table.now) i }
+    requires credentials_value { row_outcome table.now row.Credentials 4 ≡ Outcome.accepted 0 }
+    requires cells_value { row_outcome table.now row.Cells 5 ≡ Outcome.accepted 0 }
+    ensures { result ≡ good_chain table.now i }
+{
+    let c = layout::credential(table, i);
+    if c.kind != INTERSECTION_CONTAINMENT {
+        return true;
     }
+    let mut met = 0;
+    let mut j = c.first;
+    while j != 0 {
+        met += 1;
+        if MOST_PARTS < met {
+            return false;
+        }
+        j = layout::cell(table, layout::wide(j)).next;
+    }
+    LEAST_PARTS <= met
 }
