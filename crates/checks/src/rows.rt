@@ -1,34 +1,37 @@
-// Rows 1 to 3, which check the head and the table's length, and the refusal of a table.
-ghost use Rattle.std.specs.Prelude.{◌≡◌};
-ghost use Rattle.table.specs.Outcome.{Outcome};
+// Rows 1 to 3, which check the head and the table's length, and the refusal of a row that was searched.
+ghost use Rattle.std.specs.Prelude.{◌≡◌, ℕ, Bool, OnOk};
+ghost use Rattle.table.specs.Outcome.{demand_each};
+ghost use Rattle.table.specs.Holding.{Sized};
 ghost use Rattle.table.specs.Checks.{head_outcome, number_of};
+ghost use Rattle.scans.specs.Rows.{FoundBad};
 ghost use Rattle.checks.specs.Told.{table_told};
 
-use crate::TableCheck;
 use table::layout::HEAD_SIZE;
 use table::{Number, Reason, Refusal, layout};
 
 // Rows 1 to 3.
-pub fn check_head(table: &[Number]) -> TableCheck
-    ensures { table_told result ≡ head_outcome table.now }
+pub fn check_head(table: &[Number]) -> Result<(), Refusal>
+    ensures told { table_told result ≡ head_outcome table.now }
+    ensures sized { OnOk result (Sized table.now) }
 {
     if table.len() < HEAD_SIZE {
-        return refused(Reason::ShortHead, 0);
+        return Err(Reason::ShortHead.into());
     }
     if !scans::counts_ok(table) {
-        return refused(Reason::CountOverLimit, 0);
+        return Err(Reason::CountOverLimit.into());
     }
     if table.len() != layout::table_length(table) {
-        return refused(Reason::WrongLength, 0);
+        return Err(Reason::WrongLength.into());
     }
-    TableCheck::Accepted
+    Ok(())
 }
 
-pub fn refused(reason: Reason, position: usize) -> TableCheck
-    ensures { table_told result ≡ Outcome.refused (number_of reason) position }
+// A row that was searched: refused at the first bad record, if one was found.
+pub fn none_bad(found: Option<usize>, reason: Reason) -> Result<(), Refusal>
+    ensures { (ok : ℕ → Bool) (n : ℕ) → FoundBad ok n found → table_told result ≡ demand_each ok n (number_of reason) }
 {
-    TableCheck::Refused(Refusal {
-        reason: reason,
-        position: position,
-    })
+    match found {
+        Some(position) => Err(Refusal { reason, position }),
+        None => Ok(()),
+    }
 }
