@@ -12,7 +12,7 @@ ghost use Rattle.table.specs.Holding.{WellFormed};
 ghost use Rattle.attached.specs.Attached.{automata_of, marked_of};
 
 use sets::{AutomatonSet, CredentialSet};
-use table::{Number, SOME_WORD, layout};
+use table::{Mark, Number, layout};
 
 pub fn automata_of(table: &[Number], set: CredentialSet) -> AutomatonSet
     requires { WellFormed table.now }
@@ -20,11 +20,9 @@ pub fn automata_of(table: &[Number], set: CredentialSet) -> AutomatonSet
 {
     let n = layout::credentials(table);
     let mut mask = 0;
-    let mut i = 0;
-    while i < n {
+    for i in 0..n {
         let credential = layout::credential(table, i + 1);
         mask = with_automaton(mask, sets::has(set, i), credential.automaton);
-        i += 1;
     }
     mask
 }
@@ -50,12 +48,10 @@ pub fn marked(table: &[Number], set: AutomatonSet) -> AutomatonSet
 {
     let a = layout::automata(table);
     let mut mask = 0;
-    let mut k = 0;
-    while k < a {
+    for k in 0..a {
         if is_marked(table, set, k) {
             mask = sets::with(mask, k);
         }
-        k += 1;
     }
     mask
 }
@@ -69,5 +65,5 @@ fn is_marked(table: &[Number], set: AutomatonSet, k: usize) -> bool
     if !sets::has(set, k) {
         return false;
     }
-    layout::automaton(table, k + 1).mark == SOME_WORD
+    layout::automaton(table, k + 1).demands(Mark::SomeWord)
 }
