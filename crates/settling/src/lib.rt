@@ -27,10 +27,8 @@ pub fn owing_all(table: &[Number], terms: Terms, marks: AutomatonSet) -> Terms
     }
     let borne = attached::automata_of(table, terms.allowed);
     Terms {
-        allowed: terms.allowed,
-        constraints: terms.constraints,
         owed: terms.owed | (borne & marks),
-        last: terms.last,
+        ..terms
     }
 }
 
@@ -40,10 +38,8 @@ pub fn owing(terms: Terms, k: usize) -> Terms
     ensures { Asks terms terms.constraints (bit_or terms.owed (2 ^ (k - 1))) result }
 {
     Terms {
-        allowed: terms.allowed,
-        constraints: terms.constraints,
         owed: sets::with(terms.owed, k - 1),
-        last: terms.last,
+        ..terms
     }
 }
 
@@ -53,10 +49,8 @@ pub fn imposing(terms: Terms, k: usize) -> Terms
     ensures { Asks terms (bit_or terms.constraints (2 ^ (k - 1))) terms.owed result }
 {
     Terms {
-        allowed: terms.allowed,
         constraints: sets::with(terms.constraints, k - 1),
-        owed: terms.owed,
-        last: terms.last,
+        ..terms
     }
 }
 
@@ -66,12 +60,10 @@ pub fn lacking(found: Family, owed: AutomatonSet, asked: AutomatonSet, k: usize)
     ensures { result ≡ lacking_of found owed asked k }
 {
     let mut lost = 0;
-    let mut j = 0;
-    while j < k {
+    for j in 0..k {
         if is_lacking(found, owed, asked, j) {
             lost = sets::with(lost, j);
         }
-        j += 1;
     }
     lost
 }
@@ -94,15 +86,10 @@ pub fn without(table: &[Number], set: CredentialSet, automata: AutomatonSet) -> 
 {
     let n = layout::credentials(table);
     let mut kept = 0;
-    let mut i = 0;
-    while i < n {
-        if sets::has(set, i) {
-            let credential = layout::credential(table, i + 1);
-            if !is_among(automata, credential.automaton) {
-                kept = sets::with(kept, i);
-            }
+    for i in 0..n {
+        if sets::has(set, i) && !is_among(automata, layout::credential(table, i + 1).automaton) {
+            kept = sets::with(kept, i);
         }
-        i += 1;
     }
     kept
 }
