@@ -6,10 +6,9 @@ use mathlib.Core.Bool.{true, false}
 use Prim.Native.Nat.{ℕ, ◌+◌, ◌≤◌, ◌<◌}
 use native.Mathlib.Omega.{arith}
 use lib.ListN.{length}
-use lib.Dec.{leb}
 use borrow.Author.Tests.{ne_eqb, le-leb, lt-leb}
-use Rattle.sets.specs.Logic.{pick}
-use Rattle.sets.proofs.Tests.{and_none, and-true}
+use Rattle.sets.specs.Logic.{◌and◌, pick}
+use Rattle.sets.proofs.Tests.{and_none}
 use Rattle.table.specs.Limits.{most_parts, least_parts}
 use Rattle.table.specs.Outcome.{demand}
 use Rattle.table.specs.Outcome.Outcome.{accepted}
@@ -44,9 +43,14 @@ module _ (t : List ℕ) (first met j : ℕ) (walked : Walked t first met j) wher
       and_none _ (lt-leb (length (chain t first)) most_parts (omega arith))
 
   -- the chain has ended with `met` cells
-  pub ended : j ≡ 0 → leb least_parts met ≡ chain_ok t first
-  unfolding chain_ok within
-  ended e = rw (walk_ends t first met j walked e, le-leb met most_parts walked.few) (sym (and-true _))
+  pub too_short : j ≡ 0 → met < least_parts → chain_ok t first ≡ false
+  unfolding chain_ok within ◌and◌
+  too_short e under = rw (walk_ends t first met j walked e, lt-leb least_parts met under)
+
+  pub long-enough : j ≡ 0 → least_parts ≤ met → chain_ok t first ≡ true
+  unfolding chain_ok within ◌and◌
+  long-enough e enough =
+      rw (walk_ends t first met j walked e, le-leb least_parts met enough, le-leb met most_parts walked.few)
 
 -- credential i, which the code has read as c, has a chain where its kind is 4, and only there
 module _ (t : List ℕ) (i : ℕ) {c : Credential} (read : c ≡ credential t i) where

@@ -1,7 +1,7 @@
--- A search through the records of a row by `find`: the first bad one, or none.
+-- A search through the records of a row, by `find` or by a loop: the first bad one, or none.
 use mathlib.Core.Path.{◌≡◌, sym}
 use mathlib.Core.Bool.{Bool, true, false}
-use Prim.Native.Nat.{ℕ, ◌≤◌, ◌<◌}
+use Prim.Native.Nat.{ℕ, ◌+◌, ◌≤◌, ◌<◌}
 use native.Mathlib.Omega.{arith}
 use borrow.Author.Tests.{ne_eqb}
 use denote.Param.Members.{Mut}
@@ -12,8 +12,9 @@ use Rattle.std.specs.Range.{range_inclusive_start, range_inclusive_end, range_in
 use Rattle.std.specs.Fn.{CalledAt}
 use Rattle.std.specs.Iterator.Runs.{SomeRun, CallKeepsClosure, NoItemPasses, EndsAtFirstPassing}
 use Rattle.std.proofs.iter.runs.Sources.{nat_range_inclusive_steps}
-use Rattle.table.specs.Outcome.{demand}
-use Rattle.table.proofs.Stages.{FirstFailure, each_all, each_first}
+use Rattle.table.specs.Outcome.{demand, demand_each}
+use Rattle.table.specs.Outcome.Outcome.{accepted}
+use Rattle.table.proofs.Stages.{FirstFailure, each_all, each_first, each-stops}
 use Rattle.scans.specs.Rows.{FoundBad}
 use Rattle.scans.proofs.Searching.{first-from-one}
 
@@ -37,3 +38,10 @@ module _ (ok : ℕ → Bool) (n : ℕ) where
       → FoundBad ok n r
   found_bad r run start end fresh keeps fails passes =
       searched r (first-from-one (λ i. ok i ≡ false) (λ i. ok i ≡ true) start end fresh keeps fails passes r run)
+
+-- the loop has found none up to i, and record i + 1 is bad
+pub bad-next : (ok : ℕ → Bool) (i n : ℕ) → ((number : ℕ) → demand_each ok i number ≡ accepted 0) → i < n → ok (i + 1) ≡ false
+    → FoundBad ok n (Some (i + 1))
+unfolding demand
+bad-next ok i n so_far less fails =
+    (omega arith, λ number. rw (ne_eqb (i + 1) 0 (λ e. omega arith)) (each-stops ok number i n (omega arith) (so_far number) fails))

@@ -15,7 +15,7 @@ ghost use Rattle.scans.specs.declared.Row.TheVariants as row;
 use table::layout::{
     LEAST_PARTS, MOST_AUTOMATA, MOST_CELLS, MOST_CREDENTIALS, MOST_EDGES, MOST_PARTS,
 };
-use table::{INTERSECTION_CONTAINMENT, Number, layout};
+use table::{Kind, Number, layout};
 
 // The rows that ask every record of one kind by itself: 4, 5, 7 and 17.
 #[derive(Clone, Copy)]
@@ -76,7 +76,8 @@ pub fn first_bad(table: &[Number], row: Row) -> Option<usize>
     (1..=row.records(table)).find(|i| !row.is_good(table, *i))
 }
 
-// Row 6: the first credential whose chain has not 2 to 4 cells; without part cells there is no chain.
+// Row 6: the first credential whose chain has not 2 to 4 cells; without part cells there is no chain. A chain is left as soon as a
+// fifth cell is met.
 pub fn first_bad_chain(table: &[Number]) -> Option<usize>
     requires sized { Sized table.now }
     requires credentials_value { row_outcome table.now row.Credentials 4 ≡ Outcome.accepted 0 }
@@ -86,29 +87,25 @@ pub fn first_bad_chain(table: &[Number]) -> Option<usize>
     if layout::cells(table) == 0 {
         return None;
     }
-    (1..=layout::credentials(table)).find(|i| !has_good_chain(table, *i))
-}
-
-// Only a credential of kind 4 has a chain. The chain is left as soon as a fifth cell is met.
-fn has_good_chain(table: &[Number], i: usize) -> bool
-    requires sized { Sized table.now }
-    requires numbered { Numbered (Layout.credentials table.now) i }
-    requires credentials_value { row_outcome table.now row.Credentials 4 ≡ Outcome.accepted 0 }
-    requires cells_value { row_outcome table.now row.Cells 5 ≡ Outcome.accepted 0 }
-    ensures { result ≡ good_chain table.now i }
-{
-    let c = layout::credential(table, i);
-    if c.kind != INTERSECTION_CONTAINMENT {
-        return true;
-    }
-    let mut met = 0;
-    let mut j = c.first;
-    while j != 0 {
-        met += 1;
-        if MOST_PARTS < met {
-            return false;
+    'credentials: {
+        for i in 0..layout::credentials(table) {
+            let c = layout::credential(table, i + 1);
+            if !c.is(Kind::IntersectionContainment) {
+                continue;
+            }
+            let mut met = 0;
+            let mut j = c.first;
+            while j != 0 {
+                met += 1;
+                if MOST_PARTS < met {
+                    break 'credentials Some(i + 1);
+                }
+                j = layout::cell(table, layout::wide(j)).next;
+            }
+            if met < LEAST_PARTS {
+                break 'credentials Some(i + 1);
+            }
         }
-        j = layout::cell(table, layout::wide(j)).next;
+        None
     }
-    LEAST_PARTS <= met
 }
