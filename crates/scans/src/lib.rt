@@ -15,7 +15,7 @@ ghost use Rattle.scans.specs.declared.Row.TheVariants as row;
 use table::layout::{
     LEAST_PARTS, MOST_AUTOMATA, MOST_CELLS, MOST_CREDENTIALS, MOST_EDGES, MOST_PARTS,
 };
-use table::{INTERSECTION_CONTAINMENT, Number, layout};
+use table::{Kind, Number, layout};
 
 // The rows that ask every record of one kind by itself: 4, 5, 7 and 17.
 #[derive(Clone, Copy)]
@@ -98,7 +98,7 @@ fn has_good_chain(table: &[Number], i: usize) -> bool
     ensures { result ≡ good_chain table.now i }
 {
     let c = layout::credential(table, i);
-    if c.kind != INTERSECTION_CONTAINMENT {
+    if !c.is(Kind::IntersectionContainment) {
         return true;
     }
     let mut met = 0;

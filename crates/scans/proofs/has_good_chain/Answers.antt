@@ -1,17 +1,17 @@
 -- The walk along the chain of a credential of kind 4 meets all of its cells, or a fifth.
 use Rattle.std.proofs.Common.{sym, ◌∙◌, arith}
 use Rattle.table.proofs.Chains.{walk-goes-on, walk-starts}
+use Rattle.table.proofs.Reading.{is-number, not-number}
 use Rattle.scans.proofs.Chains.{chain-of-kind-4, ended, first-inside, next-inside, no-chain, too_long}
 use Rattle.scans.proofs.has_good_chain.Goals as goal
 
-pub returns-then-c-ne-INTERSECTION_CONTAINMENT : goal.returns-then-c-ne-INTERSECTION_CONTAINMENT
-returns-then-c-ne-INTERSECTION_CONTAINMENT c =
-    sym (no-chain _ _ c.credential-c.ensures c.if-c-ne-INTERSECTION_CONTAINMENT.true)
+pub returns-then-not-is : goal.returns-then-not-is
+returns-then-not-is c = sym (no-chain _ _ c.credential-c.ensures (not-number c.is.ensures c.if-not-is.true))
 
 pub loop-j-init : goal.loop-j-init
 loop-j-init c =
     let read = c.credential-c.ensures in
-    let four = c.if-c-ne-INTERSECTION_CONTAINMENT.false in
+    let four = is-number c.is.ensures c.if-not-is.false in
     record {
       whole = chain-of-kind-4 _ _ read four;
       walked = walk-starts _ _ (first-inside _ c.requires.credentials_value _ c.requires.numbered read four);
