@@ -2,6 +2,7 @@
 use Rattle.std.proofs.Common.{sym, ◌∙◌, rules, tests}
 use Rattle.table.specs.Layout.{credentials}
 use Rattle.table.specs.Checks.{good_chain}
+use Rattle.table.proofs.Searching.{first-failure}
 use Rattle.scans.proofs.Chains.{no_cells}
 use Rattle.scans.proofs.FirstBad.{found_bad}
 use Rattle.scans.proofs.first_bad_chain.Goals as goal
@@ -11,5 +12,8 @@ returns-then-cells-eq0 c = no_cells _ c.requires.credentials_value (sym c.cells.
 
 pub returns : goal.returns
 returns c =
-    found_bad (good_chain c.args.table.now) (credentials c.args.table.now) c.find.result c.find.ensures.runs
-    (search rules) (search rules) (search rules) (search rules) (λ x q k. search (rules, tests)) (λ x q k. search (rules, tests))
+    let ok = good_chain c.args.table.now in
+    let n = credentials c.args.table.now in
+    found_bad ok n c.find.result
+    (first-failure ok n c.find.result c.find.ensures.runs
+    (search rules) (search rules) (search rules) (search rules) (λ x q k. search (rules, tests)) (λ x q k. search (rules, tests)))
