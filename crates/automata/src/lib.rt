@@ -33,14 +33,11 @@ impl StateSets {
         ensures { result ≡ starting_sets table.now }
     {
         let mut sets = [0; AUTOMATA];
-        let a = layout::automata(table);
-        let mut k = 0;
-        while k < a {
+        for k in 0..layout::automata(table) {
             let automaton = layout::automaton(table, k + 1);
             sets[k] = layout::states(automaton.starting);
-            k += 1;
         }
-        StateSets { sets: sets }
+        StateSets { sets }
     }
 
     // Every automaton's set moved along the role, edge by edge. Most edges give nothing: to test that is faster than to write.
@@ -51,15 +48,12 @@ impl StateSets {
         let mut next = StateSets {
             sets: [0; AUTOMATA],
         };
-        let e = layout::edges(table);
-        let mut k = 0;
-        while k < e {
-            k += 1;
-            let edge = layout::edge(table, k);
+        for k in 0..layout::edges(table) {
+            let edge = layout::edge(table, k + 1);
             let at = layout::wide(edge.automaton) - 1;
             let to = edges::gives(edge, role, self.sets[at]);
             if to != 0 {
-                next.sets[at] = next.sets[at] | to;
+                next.sets[at] |= to;
             }
         }
         next
@@ -71,18 +65,10 @@ impl StateSets {
         requires { WellFormed table.now }
         ensures { result ≡ accepting_set table.now self }
     {
-        let mut mask = 0;
-        let a = layout::automata(table);
-        let mut k = 0;
-        while k < a {
+        sets::those(layout::automata(table), |k| {
             let automaton = layout::automaton(table, k + 1);
-            let accepting = layout::states(automaton.accepting);
-            if self.sets[k] & accepting != 0 {
-                mask = sets::with(mask, k);
-            }
-            k += 1;
-        }
-        mask
+            self.sets[k] & layout::states(automaton.accepting) != 0
+        })
     }
 
     // The table's automata that have no state, as a set: automaton k counts 2^(k-1).
@@ -90,15 +76,6 @@ impl StateSets {
         requires { WellFormed table.now }
         ensures { result ≡ dead_set table.now self }
     {
-        let mut mask = 0;
-        let a = layout::automata(table);
-        let mut k = 0;
-        while k < a {
-            if self.sets[k] == 0 {
-                mask = sets::with(mask, k);
-            }
-            k += 1;
-        }
-        mask
+        sets::those(layout::automata(table), |k| self.sets[k] == 0)
     }
 }

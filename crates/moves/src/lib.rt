@@ -50,18 +50,10 @@ pub fn accepting(states: StateSets, table: &[Number], arcs: &[StateSet]) -> Auto
     requires arcs { Arcs table.now arcs.now }
     ensures { result ≡ accepting_set table.now states }
 {
-    if arcs.len() == 0 {
+    if arcs.is_empty() {
         return states.accepting_by_table(table);
     }
-    let mut mask = 0;
-    let mut k = 0;
-    while k < AUTOMATA {
-        if states.sets[k] & arcs[k] != 0 {
-            mask = sets::with(mask, k);
-        }
-        k += 1;
-    }
-    mask
+    sets::those(AUTOMATA, |k| states.sets[k] & arcs[k] != 0)
 }
 
 // Every automaton's set moved along the role that credential `place` + 1 defines: by its arcs where its row has been made, else by
@@ -85,10 +77,7 @@ fn is_made(arcs: &[StateSet], place: usize) -> bool
     requires place_lt_most_credentials { place < most_credentials }
     ensures { result ≡ eqb (get_or arcs.now (made_cell place) 0) made }
 {
-    if arcs.len() == 0 {
-        return false;
-    }
-    arcs[FIRST_MADE + place] == MADE
+    !arcs.is_empty() && arcs[FIRST_MADE + place] == MADE
 }
 
 // What the arcs of a row give, until one leads nowhere.
@@ -101,14 +90,12 @@ fn by_arcs(states: StateSets, arcs: &[StateSet], place: usize) -> StateSets
         sets: [0; AUTOMATA],
     };
     let row = FIRST_ROW + ROW_CELLS * place;
-    let mut l = 0;
-    while l < MOST_ARCS {
+    for l in 0..MOST_ARCS {
         let at = row + ARC_CELLS * l;
         if arcs[at + AUTOMATA] == 0 {
             return next;
         }
         next = by_arc(states, next, arcs, at);
-        l += 1;
     }
     next
 }
@@ -120,10 +107,8 @@ fn by_arc(states: StateSets, next: StateSets, arcs: &[StateSet], at: usize) -> S
 {
     let mut sets = next.sets;
     let to = arcs[at + AUTOMATA];
-    let mut k = 0;
-    while k < AUTOMATA {
-        sets[k] = sets[k] | edges::given(states.sets[k], arcs[at + k], to);
-        k += 1;
+    for k in 0..AUTOMATA {
+        sets[k] |= edges::given(states.sets[k], arcs[at + k], to);
     }
-    StateSets { sets: sets }
+    StateSets { sets }
 }

@@ -14,7 +14,7 @@ use Rattle.sets.specs.Logic.{◌and◌}
 use Rattle.sets.specs.Sets.{in_set, part}
 use Rattle.sets.proofs.Tests.{and-on, false-true}
 use Rattle.sets.proofs.Members.{in_set-zero, own-bit, part-le, part-member, part-or-left, part-or-right}
-use Rattle.sets.proofs.Members.{part-refl, part-trans, part-zero, set_more, set-not}
+use Rattle.sets.proofs.Members.{part-refl, part-trans, part-zero, set_more}
 use Rattle.table.specs.Layout.{credential, credentials}
 use Rattle.table.specs.declared.Credential.{Credential}
 use Rattle.members.specs.Places.{is_person}
@@ -86,13 +86,6 @@ module _ (t index : List ℕ) (i : ℕ) (c : Credential) (read : c ≡ credentia
         };
       }
 
-  pub roles-asked : (x y : ℕ) → (c.kind ≡ 3 → ⊥) → WithAsked index i 4 x y → WithRoles t index i x y
-  roles-asked x y other asked =
-      record {
-        grows = asked.grows;
-        asks = record { asked = λ h. asked.each; linked = λ three. absurd (other (kind-is ∙ three)) };
-      }
-
 pub roles-linked : (t index : List ℕ) (i x y z : ℕ) → WithAsked index i 4 x y → WithLinks t index i (credentials t) y z
     → WithRoles t index i x z
 roles-linked t index i x y z asked linked =
@@ -152,7 +145,3 @@ module _ (index : List ℕ) (places found i : ℕ) (so_far : found ≡ defined_a
   pub defined_more : in_set places (get_or index (role_cell i) 0) ≡ true → bit_or found (2 ^ i) ≡ defined_at index places (i + 1)
   unfolding defined_at
   defined_more has = set_more _ found i so_far has
-
-  pub defined-not : in_set places (get_or index (role_cell i) 0) ≡ false → found ≡ defined_at index places (i + 1)
-  unfolding defined_at
-  defined-not has = set-not _ found i so_far has

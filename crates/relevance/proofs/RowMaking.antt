@@ -5,7 +5,7 @@ use mathlib.Core.Bool.{true, false}
 use Prim.Native.Nat.{ℕ, suc, ◌+◌, ◌<◌, ◌≤◌}
 use native.Mathlib.Omega.{arith}
 use native.Mathlib.Decide.{ℕ_discrete}
-use lib.ListN.{get_or, length, replicate, length-replicate}
+use lib.ListN.{get_or, length}
 use Rattle.sets.specs.Sets.{in_set}
 use Rattle.sets.proofs.Tests.{false-true}
 use Rattle.table.specs.Layout.{credential, credentials}
@@ -24,10 +24,6 @@ own-place {t} {index} {i} indexed there is =
     let role = (credential t (suc i)).role in
     let first = role-first t role i there (same_self role) in
     omega (arith, is, indexed.defined i there, first)
-
--- an index before it is begun
-pub blank-full : (arcs : List ℕ) → arcs ≡ replicate index_cells 0 → length arcs ≡ index_cells
-blank-full arcs blank = rw blank (length-replicate {A = ℕ} index_cells 0)
 
 pub record RowMaking (t index : List ℕ) (S i : ℕ) (arcs : List ℕ) : Type 0 where
   pub few : i ≤ credentials t

@@ -13,7 +13,7 @@ ghost use Rattle.members.specs.Members.{Aimed, Indexed, Placed, goal_role};
 ghost use Rattle.relevance.specs.Relevance.{Relevant, Round, RowsMade, WithAsked, WithLinks, WithRoles, defined_at};
 
 use sets::{CredentialSet, StateSet};
-use table::{LINKING_CONTAINMENT, Number, Query, SIMPLE_MEMBERSHIP, layout};
+use table::{Kind, Number, Query, layout};
 
 // The credentials whose role can be reached from the query's role: every derivation of the queried membership uses only these. The
 // index is that of the table and the query (`indexing::index`).
@@ -35,13 +35,10 @@ pub fn make_arcs(table: &[Number], index: &[u8], set: CredentialSet, arcs: &mut 
         × RowsMade index.now set (credentials table.now) arcs.new }
 {
     arcs::begin(table, arcs);
-    let n = layout::credentials(table);
-    let mut i = 0;
-    while i < n {
+    for i in 0..layout::credentials(table) {
         if sets::has(set, i) {
             arcs::make(table, arcs, members::role_cell(index, i));
         }
-        i += 1;
     }
 }
 
@@ -74,14 +71,11 @@ fn more_places(
     requires round { Round table.now index.now (credentials table.now) before places }
     ensures { Round table.now index.now (credentials table.now) places result }
 {
-    let n = layout::credentials(table);
     let mut more = places;
-    let mut i = 0;
-    while i < n {
+    for i in 0..layout::credentials(table) {
         if is_new(before, more, members::role_cell(index, i)) {
             more = with_roles(table, index, i, more);
         }
-        i += 1;
     }
     more
 }
@@ -91,10 +85,7 @@ fn is_new(before: CredentialSet, places: CredentialSet, place: usize) -> bool
     requires { place ≤ 20 }
     ensures { result ≡ (in_set places place and not (in_set before place)) }
 {
-    if !sets::has(places, place) {
-        return false;
-    }
-    !sets::has(before, place)
+    sets::has(places, place) && !sets::has(before, place)
 }
 
 // The places with those of all roles that credential i + 1 asks.
@@ -105,12 +96,11 @@ fn with_roles(table: &[Number], index: &[u8], i: usize, places: CredentialSet) -
     ensures { WithRoles table.now index.now i places result }
 {
     let credential = layout::credential(table, i + 1);
-    let kind = credential.kind;
-    if kind == SIMPLE_MEMBERSHIP {
+    if credential.is(Kind::SimpleMembership) {
         return places;
     }
     let more = with_asked(index, i, places);
-    if kind != LINKING_CONTAINMENT {
+    if !credential.is(Kind::LinkingContainment) {
         return more;
     }
     with_links(table, index, i, more)
@@ -123,10 +113,8 @@ fn with_asked(index: &[u8], i: usize, places: CredentialSet) -> CredentialSet
     ensures { WithAsked index.now i 4 places result }
 {
     let mut more = places;
-    let mut k = 0;
-    while k < 4 {
+    for k in 0..4 {
         more = sets::with(more, members::asked_cell(index, i, k));
-        k += 1;
     }
     more
 }
@@ -138,14 +126,11 @@ fn with_links(table: &[Number], index: &[u8], i: usize, places: CredentialSet) -
     requires i_bound { i < credentials table.now }
     ensures { WithLinks table.now index.now i (credentials table.now) places result }
 {
-    let n = layout::credentials(table);
     let mut more = places;
-    let mut j = 0;
-    while j < n {
+    for j in 0..layout::credentials(table) {
         if members::is_person(table, index, j) {
             more = sets::with(more, members::link_cell(index, i, j));
         }
-        j += 1;
     }
     more
 }
@@ -156,13 +141,5 @@ fn at_places(index: &[u8], n: usize, places: CredentialSet) -> CredentialSet
     requires n_bound { n ≤ 20 }
     ensures { result ≡ defined_at index.now places n }
 {
-    let mut found = 0;
-    let mut i = 0;
-    while i < n {
-        if sets::has(places, members::role_cell(index, i)) {
-            found = sets::with(found, i);
-        }
-        i += 1;
-    }
-    found
+    sets::those(n, |i| sets::has(places, members::role_cell(index, i)))
 }

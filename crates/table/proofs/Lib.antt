@@ -15,3 +15,4 @@ pub mod Marks
 pub mod Upgrading
 pub mod Promised
 pub mod Told
+pub mod Searching

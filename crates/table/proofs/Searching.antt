@@ -1,4 +1,4 @@
--- What `find` tells of the numbers 1 to n: the first that passes, or that none does.
+-- What `find` tells of the numbers 1 to n: the first that passes, or that none does; and so of the records with these numbers.
 use mathlib.Core.Path.{◌≡◌, subst, ap, ◌∙◌}
 use mathlib.Core.Bool.{Bool, true, false}
 use Prim.Native.Nat.{ℕ, ◌+◌, ◌-◌, ◌≤◌, ◌<◌}
@@ -12,6 +12,8 @@ use Rattle.std.specs.Range.{range_inclusive_start, range_inclusive_end, range_in
 use Rattle.std.specs.Fn.{CalledAt}
 use Rattle.std.specs.Iterator.Runs.{Run, SomeRun, CallKeepsClosure, NoItemPasses, EndsAtFirstPassing}
 use Rattle.std.proofs.iter.runs.Sources.{inclusive_listed, nat_range_inclusive_steps}
+use Rattle.table.specs.Layout.{Numbered}
+use Rattle.table.proofs.Stages.{FirstFailure}
 
 -- what is there
 there : (P : ℕ → Type 0) (o : Option ℕ) (x : ℕ) → option_map (λ y. y) o ≡ Some x → IfSome o P → P x
@@ -59,3 +61,21 @@ module _ {F : Type 0} {g : Mut F (Bor ℕ × Unit {0}) Bool} {f : F} {n : ℕ} {
         yes' i f pass,
         λ k low less. no' k f (there-too (λ x. CalledAt g f x false f) (p.at (k - 1)) k (number p from k low (omega arith)) (before (k - 1) (omega arith))),
       )
+
+-- `find` with a closure that passes just the records that are not ok: the first that fails, or every one is ok
+module _ (ok : ℕ → Bool) (n : ℕ) where
+  as_failure : (r : Option ℕ)
+      → MatchOption r ((k : ℕ) → 1 ≤ k → k ≤ n → ok k ≡ true)
+      (λ i. (1 ≤ i) × (i ≤ n) × (ok i ≡ false) × ((k : ℕ) → 1 ≤ k → k < i → ok k ≡ true))
+      → MatchOption r ((k : ℕ) → Numbered n k → ok k ≡ true) (FirstFailure ok n)
+  as_failure None all = λ k h. all k h.first h.last
+  as_failure (Some i) (first, last, fails, before) =
+      record { within = record { first = first; last = last }; fails = fails; before = λ j h less. before j h.first less }
+
+  pub first-failure : {F : Type 0} {g : Mut F (Bor ℕ × Unit {0}) Bool} {f : F} {s : RangeInclusive ℕ} (r : Option ℕ)
+      → SomeRun nat_range_inclusive_steps s (λ u. MatchOption r ((u.whole ≡ true) × NoItemPasses u g f) (EndsAtFirstPassing u g f))
+      → range_inclusive_start s ≡ 1 → range_inclusive_end s ≡ n → range_inclusive_exhausted s ≡ false → CallKeepsClosure g f
+      → ((x : ℕ) (q : F) → CalledAt g f x true q → ok x ≡ false) → ((x : ℕ) (q : F) → CalledAt g f x false q → ok x ≡ true)
+      → MatchOption r ((k : ℕ) → Numbered n k → ok k ≡ true) (FirstFailure ok n)
+  first-failure r run start end fresh keeps fails passes =
+      as_failure r (first-from-one (λ i. ok i ≡ false) (λ i. ok i ≡ true) start end fresh keeps fails passes r run)
