@@ -2,18 +2,18 @@
 use mathlib.Core.Path.{◌≡◌, refl, sym, ap, ◌∙◌}
 use mathlib.Core.List.{List, [], ◌∷◌}
 use mathlib.Core.Bool.{Bool, true, false}
-use Prim.Native.Nat.{ℕ, zero, suc, ◌+◌, ◌-◌, ◌≤◌, ◌<◌}
+use Prim.Native.Nat.{ℕ, zero, suc, min, ◌+◌, ◌-◌, ◌≤◌, ◌<◌}
 use native.Mathlib.Omega.{arith}
+use Rattle.std.proofs.Common.{Option, Some, None, MatchOption, unwrap_or}
 use native.Mathlib.Decide.{ℕ_discrete}
-use native.Mathlib.Numerals.{add-one}
-use lib.Dec.{eqb}
+use lib.Dec.{eqb, ltb}
 use lib.ListN.{get_or, length, length-map, length-replicate, length-set, replicate, set}
 use lib.Seq.{get_or-set_other, get_or-set_same, get_or-take}
-use borrow.Author.Tests.{ne_eqb}
-use Rattle.sets.specs.Logic.{◌and◌, any_below}
-use Rattle.sets.proofs.Tests.{any-all}
+use borrow.Author.Tests.{ltb-false, ltb-true, ne_eqb}
+use Rattle.sets.specs.Logic.{◌and◌}
+use Rattle.sets.proofs.Tests.{any_none}
 use Rattle.table.specs.Limits.{most_credentials, most_parts}
-use Rattle.table.specs.Layout.{cell, chain, credential, credentials, name, parts, parts_by, role, same_role}
+use Rattle.table.specs.Layout.{cell, chain, credential, credentials, name, parts, parts_by, role}
 use Rattle.table.specs.Checks.{chain_ok}
 use Rattle.table.specs.Holding.{HoldsChain}
 use Rattle.table.specs.declared.Role.{Role}
@@ -22,32 +22,45 @@ use Rattle.table.specs.declared.Chain.{Chain}
 use Rattle.table.specs.declared.Credential.{Credential}
 use Rattle.table.proofs.Chains.{chain-range}
 use Rattle.derivation.specs.Rules.{goal_of}
-use Rattle.members.specs.Places.{defines, is_naming, least, person_at, role_at}
+use Rattle.members.specs.Places.{person_at, role_at}
 use Rattle.members.specs.Members.{Aimed, Indexed, asked_cell, goal_person, goal_role, index_cells, link_cell, links_base}
 use Rattle.members.specs.Members.{Whole, padded, role_cell, roles_asked}
-use Rattle.indexing.specs.Indexing.{Asked, Linked, OneAsked, PartsAt, Place, Put, EntryRoom, Small, Written, names}
+use Rattle.indexing.specs.Indexing.{Asked, FirstPlace, Linked, OneAsked, PartsAt, Place, Put, EntryRoom, Written, names}
 use Rattle.members.proofs.Reading.{as_read, below_next, held-length, kind-read, zeros}
-use Rattle.members.proofs.Places.{least-found, least-none}
+use Rattle.members.proofs.Places.{least-found, least-none, role-few}
 use Rattle.members.proofs.ByKind.{one-padded, padded-inside, roles-2, roles-3, roles-4}
 
--- a search for a place, credential by credential
-module _ (p : ℕ → Bool) (n i : ℕ) (few : n ≤ most_credentials) (none : any_below p i ≡ false) where
-  pub place_found : i < n → p i ≡ true → Place (least p n) i
-  place_found l passes = record { same = least-found p n i l none passes; few = omega arith }
+-- what `find` gives of a range, or else its end, is not behind its end
+pub not-behind : (n : ℕ) (found : Option ℕ) (A : Type 0) (B C : ℕ → Type 0)
+    → MatchOption found A (λ i. (0 ≤ i) × (i < n) × B i × C i) → unwrap_or found n ≤ n
+not-behind n None A B C none = omega arith
+not-behind n (Some i) A B C some = omega arith
 
-  pub place-behind : i ≡ n → (m : ℕ) → m ≡ n → Place (least p n) m
-  place-behind all m count =
-      record { same = count ∙ least-none p n (any-all p i n all none); few = omega arith }
+-- the first credential that a test passes
+module _ (answers : Credential → Bool → Type 0) (t : List ℕ) where
+  abbrev pub Answered : Bool → ℕ → Type 0
+  Answered told i = answers (credential t (suc i)) told
 
--- credential i + 1, which the code has read as x
-module _ (t : List ℕ) (i : ℕ) (x : Credential) (read : x ≡ credential t (i + 1)) where
-  pub told-role : (r : Role) {told : Bool} → told ≡ same_role x.role r → defines t r i ≡ told
-  unfolding defines
-  told-role r e = sym (rw (read, add-one i) at e)
-
-  pub told-naming : (p : ℕ) {told : Bool} → told ≡ names x p → is_naming t p i ≡ told
-  unfolding is_naming names
-  told-naming p e = sym (rw (read, add-one i) at e)
+  pub first-place : (n : ℕ) (found : Option ℕ) → n ≡ credentials t → n ≤ most_credentials
+      → MatchOption found ((k : ℕ) → 0 ≤ k → k < n → Answered false k)
+      (λ i. (0 ≤ i) × (i < n) × Answered true i × ((k : ℕ) → 0 ≤ k → k < i → Answered false k))
+      → FirstPlace answers t (unwrap_or found n)
+  first-place n None all few none =
+      record {
+        at = λ p tells. record {
+          same = all ∙ least-none p (credentials t) (any_none p (credentials t) (λ k l.
+              sym (tells k false (none k (omega arith) (omega arith)))));
+          few = few;
+        };
+      }
+  first-place n (Some i) all few some =
+      record {
+        at = λ p tells. record {
+          same = least-found p (credentials t) i (omega arith)
+              (any_none p i (λ k l. sym (tells k false (some.3 k (omega arith) l)))) (sym (tells i true some.2));
+          few = omega arith;
+        };
+      }
 
 pub names-not : (c : Credential) (p : ℕ) → (c.kind ≡ 1 → ⊥) → false ≡ names c p
 unfolding names ◌and◌
@@ -125,33 +138,25 @@ module _ (t : List ℕ) (first : ℕ) (held : Chain) (holds : HoldsChain t first
       sym (get_or-take held.len held.roles k d l) ∙ ap (λ (roles : List Role). get_or roles k d) holds.roles
 
   -- the part that stands in cell k: its own, or the last
-  pub part-own : (k at : ℕ) (d : Role) → k < held.len - 1 → at ≡ k → get_or held.roles at d ≡ padded (parts t first) k
-  part-own k at d l same = rw same (held-role k d (omega arith) ∙ padded-inside _ k d (omega (arith, held-length t first held holds)))
+  pub part-at : (k : ℕ) (d : Role) → 1 ≤ held.len → get_or held.roles (min k (held.len - 1)) d ≡ padded (parts t first) k
+  part-at k d some = go (ltb k (held.len - 1)) refl
+    where
+      go : (b : Bool) → ltb k (held.len - 1) ≡ b → get_or held.roles (min k (held.len - 1)) d ≡ padded (parts t first) k
+      go true e =
+          let l = ltb-true k (held.len - 1) e in
+          let own : min k (held.len - 1) ≡ k = omega arith in
+          rw own (held-role k d (omega arith) ∙ padded-inside _ k d (omega (arith, held-length t first held holds)))
+      go false e =
+          let l = ltb-false k (held.len - 1) e in
+          let last : min k (held.len - 1) ≡ held.len - 1 = omega arith in
+          rw last
+          (held-role (held.len - 1) d (omega arith) ∙ padded-behind _ k (held.len - 1) d (omega (arith, held-length t first held holds)) l)
 
-  pub part-last : (k at : ℕ) (d : Role) → 1 ≤ held.len → held.len - 1 ≤ k → at ≡ held.len - 1
-      → get_or held.roles at d ≡ padded (parts t first) k
-  part-last k at d some l same =
-      rw same
-      (held-role (held.len - 1) d (omega arith) ∙ padded-behind _ k (held.len - 1) d (omega (arith, held-length t first held holds)) l)
-
-pub parts_none : (t : List ℕ) (first : ℕ) (found : List ℕ) → length found ≡ most_parts → PartsAt t first 0 found
-parts_none t first found room =
-    record { room = room; few = λ k l. absurd (omega arith); each = λ k l. absurd (omega arith) }
-
-pub parts_next : (t : List ℕ) (first k : ℕ) (found : List ℕ) (r : Role) (place : ℕ) → PartsAt t first k found → k < most_parts
-    → r ≡ padded (parts t first) k → Place (role_at t r) place → PartsAt t first (k + 1) (set found k place)
-parts_next t first k found r place so_far l own at =
-    record {
-      room = length-set found k place ∙ so_far.room;
-      few = below_next _ k (λ j h. rw (kept j h) (so_far.few j h)) (rw here at.few);
-      each = below_next _ k (λ j h. kept j h ∙ so_far.each j h) (here ∙ at.same ∙ ap (role_at t) own);
-    }
-  where
-    here : get_or (set found k place) k 0 ≡ place
-    here = get_or-set_same found k place 0 (omega (arith, so_far.room))
-
-    kept : (j : ℕ) → j < k → get_or (set found k place) j 0 ≡ get_or found j 0
-    kept j h = get_or-set_other found k j place 0 (λ e. omega arith)
+-- the places of all parts
+pub parts-at : (t : List ℕ) (first : ℕ) (found : List ℕ) → credentials t ≤ most_credentials → length found ≡ most_parts
+    → ((k : ℕ) → k < most_parts → get_or found k 0 ≡ role_at t (padded (parts t first) k)) → PartsAt t first most_parts found
+parts-at t first found few room each =
+    record { room = room; few = λ k l. omega (arith, each k l, role-few t (padded (parts t first) k)); each = each }
 
 -- cells are written one by one
 pub written_none : (from to : ℕ) (old : List ℕ) → Written from to old old
@@ -170,41 +175,6 @@ written_next from to old new at place so_far low high there few =
     small : ((x : ℕ) → get_or old x 0 ≤ most_credentials) → (x : ℕ) → Dec (x ≡ at) → get_or (set new at place) x 0 ≤ most_credentials
     small s x (yes same) = rw (same, get_or-set_same new at place 0 there) few
     small s x (no other) = rw (get_or-set_other new at x place 0 other) (so_far.small s x)
-
--- of the cells of credential i + 1 the first `count` of what it asks are written
-pub record Copied (i : ℕ) (asked : List ℕ) (count : ℕ) (old new : List ℕ) : Type 0 where
-  pub written : Written (role_cell i) (role_cell (i + 1)) old new
-  pub each : (k : ℕ) → k < count → get_or new (asked_cell i k) 0 ≡ get_or asked k 0
-
-module _ (i role : ℕ) (asked old : List ℕ) (room : EntryRoom old i) (few : Small role asked) where
-  pub copied_none : Copied i asked 0 old old
-  copied_none = record { written = written_none _ _ old; each = λ k l. absurd (omega arith) }
-
-  pub copied_next : (k : ℕ) (new : List ℕ) → k < most_parts → Copied i asked k old new
-      → Copied i asked (k + 1) old (set new (asked_cell i k) (get_or asked k 0))
-  copied_next k new l so_far =
-      record {
-        written =
-            written_next _ _ old new (asked_cell i k) (get_or asked k 0) so_far.written (omega arith) (omega arith) there
-            (few.each k l);
-        each = below_next _ k
-            (λ j h. get_or-set_other new (asked_cell i k) (asked_cell i j) (get_or asked k 0) 0 (λ e. omega arith) ∙ so_far.each j h)
-            (get_or-set_same new (asked_cell i k) (get_or asked k 0) 0 there);
-      }
-    where
-      there : asked_cell i k < length new
-      there = omega (arith, room.cells, room.there, so_far.written.room)
-
-  pub copied-put : (new : List ℕ) → Copied i asked most_parts old new → Put i role asked old (set new (role_cell i) role)
-  copied-put new copied =
-      let there : role_cell i < length new = omega (arith, room.cells, room.there, copied.written.room) in
-      record {
-        written =
-            written_next _ _ old new (role_cell i) role copied.written (omega arith) (omega arith) there few.defined;
-        defined = get_or-set_same new (role_cell i) role 0 there;
-        each = λ k l.
-            get_or-set_other new (role_cell i) (asked_cell i k) role 0 (λ e. absurd (omega arith)) ∙ copied.each k l;
-      }
 
 -- the cells of its links, where the role asked of a middle is named nm
 module _ (t : List ℕ) (nm i : ℕ) (old : List ℕ) where

@@ -2,9 +2,9 @@
 use Rattle.std.specs.Prelude.{ℕ, suc, ◌+◌, ◌<◌, ◌≤◌, ◌≡◌, List, Bool, get_or, length, eqb}
 use Rattle.sets.specs.Logic.{◌and◌}
 use Rattle.table.specs.Limits.{most_credentials, most_parts}
-use Rattle.table.specs.Layout.{credential, parts, role}
+use Rattle.table.specs.Layout.{credential, credentials, parts, role}
 use Rattle.table.specs.declared.Credential.{Credential}
-use Rattle.members.specs.Places.{person_at, role_at}
+use Rattle.members.specs.Places.{least, person_at, role_at}
 use Rattle.members.specs.Members.{asked_cell, index_cells, link_cell, padded, role_cell, roles_asked}
 
 -- a simple membership that names the principal
@@ -15,6 +15,10 @@ names c p = eqb c.kind 1 and eqb c.first p
 pub record Place (place found : ℕ) : Type 0 where
   pub same : found ≡ place
   pub few : found ≤ most_credentials
+
+-- the place of the first credential that a test passes, where each answer of the test is what p says
+pub record FirstPlace (answers : Credential → Bool → Type 0) (t : List ℕ) (found : ℕ) : Type 0 where
+  pub at : (p : ℕ → Bool) → ((i : ℕ) (told : Bool) → answers (credential t (suc i)) told → told ≡ p i) → Place (least p (credentials t)) found
 
 -- the place of what a credential without a chain asks
 pub record OneAsked (t : List ℕ) (c : Credential) (found : ℕ) : Type 0 where

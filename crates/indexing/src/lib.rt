@@ -10,23 +10,19 @@ ghost use Rattle.table.specs.Checks.{chain_ok};
 ghost use Rattle.table.specs.Holding.{WellFormed};
 ghost use Rattle.members.specs.Places.{person_at, role_at};
 ghost use Rattle.members.specs.Members.{Aimed, Indexed, Whole};
-ghost use Rattle.indexing.specs.Indexing.{Asked, Linked, OneAsked, PartsAt, Place, Put, EntryRoom, Small, names};
+ghost use Rattle.indexing.specs.Indexing.{Asked, FirstPlace, Linked, OneAsked, PartsAt, Place, Put, EntryRoom, Small, names};
 
 use members::{CREDENTIAL_CELLS, GOAL_PERSON, GOAL_ROLE, INDEX_CELLS, LINK_CELLS, LINKS};
-use table::{
-    Credential, INTERSECTION_CONTAINMENT, LINKING_CONTAINMENT, Name, Number, Principal, Query,
-    Role, SIMPLE_MEMBERSHIP, layout,
-};
+use std::array;
+use table::{Credential, Kind, Name, Number, Principal, Query, Role, layout};
 
 // The index of a table and a query: for each credential its five cells, and its links where it is of kind 3.
 pub fn index(table: &[Number], query: Query) -> [u8; INDEX_CELLS]
     requires { WellFormed table.now }
     ensures { Indexed table.now result × Aimed table.now query result }
 {
-    let n = layout::credentials(table);
     let mut index = [0; INDEX_CELLS];
-    let mut i = 0;
-    while i < n {
+    for i in 0..layout::credentials(table) {
         let credential = layout::credential(table, i + 1);
         put(
             &mut index,
@@ -34,18 +30,15 @@ pub fn index(table: &[Number], query: Query) -> [u8; INDEX_CELLS]
             role_at(table, credential.role),
             asked(table, credential),
         );
-        if credential.kind == LINKING_CONTAINMENT {
+        if credential.is(Kind::LinkingContainment) {
             links(table, credential.second, i, &mut index);
         }
-        i += 1;
     }
-    let owner = query.owner;
-    let name = query.name;
     index[GOAL_ROLE] = role_at(
         table,
         Role {
-            owner: owner,
-            name: name,
+            owner: query.owner,
+            name: query.name,
         },
     );
     index[GOAL_PERSON] = person_at(table, query.principal.0);
@@ -59,12 +52,8 @@ fn put(index: &mut [u8], i: usize, role: u8, asked: [u8; layout::MOST_PARTS])
     ensures { Put i role asked index.old index.new }
 {
     let at = CREDENTIAL_CELLS * i;
-    let mut k = 0;
-    while k < layout::MOST_PARTS {
-        index[at + 1 + k] = asked[k];
-        k += 1;
-    }
     index[at] = role;
+    index[at + 1..at + CREDENTIAL_CELLS].copy_from_slice(&asked);
 }
 
 // Where a role stands: at the first credential that defines it, behind the last one where none does.
@@ -72,16 +61,7 @@ fn role_at(table: &[Number], role: Role) -> u8
     requires { WellFormed table.now }
     ensures { Place (role_at table.now role) result }
 {
-    let n = layout::credentials(table);
-    let mut i = 0;
-    while i < n {
-        let credential = layout::credential(table, i + 1);
-        if credential.role.same(role) {
-            return i as u8;
-        }
-        i += 1;
-    }
-    n as u8
+    first_place(table, |credential| credential.role == role)
 }
 
 // The places of what a credential asks: of the parts of a chain, or of the one role or principal, four times.
@@ -90,12 +70,10 @@ fn asked(table: &[Number], c: Credential) -> [u8; layout::MOST_PARTS]
     requires whole { Whole table.now c }
     ensures { Asked table.now c result }
 {
-    let kind = c.kind;
-    if kind == INTERSECTION_CONTAINMENT {
+    if c.is(Kind::IntersectionContainment) {
         return parts(table, c.first);
     }
-    let place = one_asked(table, c);
-    [place; layout::MOST_PARTS]
+    [one_asked(table, c); layout::MOST_PARTS]
 }
 
 // Of the one role that kinds 2 and 3 ask of one principal, or of the principal that kind 1 names.
@@ -104,27 +82,21 @@ fn one_asked(table: &[Number], c: Credential) -> u8
     requires whole { Whole table.now c × (c.kind ≡ 4 → ⊥) }
     ensures { OneAsked table.now c result }
 {
-    let kind = c.kind;
-    if kind == SIMPLE_MEMBERSHIP {
+    if c.is(Kind::SimpleMembership) {
         return person_at(table, c.first);
     }
-    if kind == LINKING_CONTAINMENT {
-        let owner = c.role.owner;
-        return role_at(
-            table,
-            Role {
-                owner: owner,
-                name: Name(c.first),
-            },
-        );
-    }
-    role_at(
-        table,
+    let role = if c.is(Kind::LinkingContainment) {
+        Role {
+            owner: c.role.owner,
+            name: Name(c.first),
+        }
+    } else {
         Role {
             owner: Principal(c.first),
             name: Name(c.second),
-        },
-    )
+        }
+    };
+    role_at(table, role)
 }
 
 // Where a principal stands: at the first simple membership that names it, behind the last credential where none does.
@@ -132,24 +104,25 @@ fn person_at(table: &[Number], principal: Number) -> u8
     requires { WellFormed table.now }
     ensures { Place (person_at table.now principal) result }
 {
-    let n = layout::credentials(table);
-    let mut i = 0;
-    while i < n {
-        if is_naming(layout::credential(table, i + 1), principal) {
-            return i as u8;
-        }
-        i += 1;
-    }
-    n as u8
+    first_place(table, |credential| is_naming(credential, principal))
 }
 
 fn is_naming(c: Credential, principal: Number) -> bool
     ensures { result ≡ names c principal }
 {
-    if c.kind != SIMPLE_MEMBERSHIP {
-        return false;
-    }
-    c.first == principal
+    c.is(Kind::SimpleMembership) && c.first == principal
+}
+
+// The place of the first credential that passes the test, behind the last one where none does.
+fn first_place<F: Fn(Credential) -> bool>(table: &[Number], test: F) -> u8
+    requires well_formed { WellFormed table.now }
+    requires callable { F.IsAlwaysCallable test }
+    ensures { FirstPlace (F.post test) table.now result }
+{
+    let n = layout::credentials(table);
+    (0..n)
+        .find(|&i| test(layout::credential(table, i + 1)))
+        .unwrap_or(n) as u8
 }
 
 // Of the parts of a chain; the last is repeated in the places behind it.
@@ -161,14 +134,7 @@ fn parts(table: &[Number], first: Number) -> [u8; layout::MOST_PARTS]
 {
     let chain = layout::chain(table, first);
     let last = chain.len - 1;
-    let mut places = [0; layout::MOST_PARTS];
-    let mut k = 0;
-    while k < layout::MOST_PARTS {
-        let at = if k < last { k } else { last };
-        places[k] = role_at(table, chain.roles[at]);
-        k += 1;
-    }
-    places
+    array::from_fn(|k| role_at(table, chain.roles[k.min(last)]))
 }
 
 // The role of that name of each principal that a simple membership names, for credential i + 1.
@@ -178,11 +144,9 @@ fn links(table: &[Number], name: Number, i: usize, index: &mut [u8])
     ensures { Linked table.now name i (credentials table.now)
         index.old index.new }
 {
-    let n = layout::credentials(table);
-    let mut j = 0;
-    while j < n {
+    for j in 0..layout::credentials(table) {
         let credential = layout::credential(table, j + 1);
-        if credential.kind == SIMPLE_MEMBERSHIP {
+        if credential.is(Kind::SimpleMembership) {
             index[LINKS + LINK_CELLS * i + j] = role_at(
                 table,
                 Role {
@@ -191,6 +155,5 @@ fn links(table: &[Number], name: Number, i: usize, index: &mut [u8])
                 },
             );
         }
-        j += 1;
     }
 }

@@ -1,4 +1,5 @@
 -- Laws that belong to no one function; crates above cite those marked `pub mod`.
+pub mod Arrays
 pub mod Reading
 pub mod Places
 pub mod Persons

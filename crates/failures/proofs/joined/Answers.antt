@@ -1,6 +1,6 @@
 -- `failures::joined` meets its contract: each place has the principals of both.
 use Rattle.std.proofs.Common.{get_or, bit_or, arith, rules}
-use Rattle.failures.proofs.Arrays.{from-fn}
+use Rattle.members.proofs.Arrays.{from-fn}
 use Rattle.failures.proofs.joined.Goals as goal
 
 pub returns : goal.returns

@@ -1,0 +1,21 @@
+-- `indexing::parts` meets its contract: each part has its place, and behind the last part stands that of the last.
+use Rattle.std.proofs.Common.{rules, tests, arith}
+use Rattle.table.specs.Layout.{parts, role}
+use Rattle.members.specs.Members.{padded}
+use Rattle.members.specs.Places.{role_at}
+use Rattle.members.proofs.Arrays.{from-fn}
+use Rattle.indexing.proofs.Indexing.{held-some, part-at, parts-at}
+use Rattle.indexing.proofs.parts.Goals as goal
+
+pub overflow_sub-last : goal.overflow_sub-last
+overflow_sub-last c = omega (arith, held-some _ _ _ c.chain-chain.ensures c.requires.first_value)
+
+pub returns : goal.returns
+returns c =
+    let t = c.args.table.now in
+    let holds = c.chain-chain.ensures in
+    let some = held-some _ _ _ holds c.requires.first_value in
+    parts-at _ _ _ c.requires.well_formed.sized.counted.few_credentials c.from_fn.ensures.items.long
+    (λ k l. from-fn _ _ (λ k. role_at t (padded (parts t c.args.first) k)) _ 0 4
+    (λ k y q h. let own = part-at _ _ _ holds k (role 0 0) some in (search rules, search (rules, tests, own)))
+    c.from_fn.ensures.items.each k 0 (omega arith) (omega arith))
