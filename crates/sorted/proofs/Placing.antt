@@ -1,25 +1,21 @@
--- The way of a number down a buffer to its place: each greater number moves up by a cell.
+-- The place of a number among those that a buffer holds: what is held from there on is greater, and moves up by a cell.
 use mathlib.Core.Path.{◌≡◌, refl, sym, ap, ◌∙◌}
-use mathlib.Core.List.{List}
-use mathlib.Core.Logic.{⊎_elim}
-use Prim.Native.Nat.{ℕ, zero, suc, ◌-◌, ◌<◌, ◌≤◌, min}
+use mathlib.Core.List.{List, [], ◌∷◌, ◌++◌}
+use Prim.Native.Nat.{ℕ, zero, suc, ◌+◌, ◌-◌, ◌<◌, ◌≤◌, min}
 use native.Mathlib.Omega.{arith}
-use native.Mathlib.Nat.{eq-or-lt_of_le}
-use lib.ListN.{get_or, length, set, take, length-set, length-take}
-use lib.Seq.{get_or-set_other, get_or-take, set-set}
+use native.Mathlib.Decide.{dec_le}
+use lib.ListN.{drop, drop_of_length-le, get_or, length, set, take, length-take}
+use lib.Seq.{set_out}
+use Rattle.std.specs.List.{copy_within}
+use Rattle.std.proofs.lemmas.List.{take_all, take-take}
 use Rattle.sorted.specs.Sorted.{laid}
 use Rattle.sorted.proofs.Lists.{laid_next, laid-own}
-use Rattle.sorted.proofs.Between.{between, between-earlier, between-last, between-length, laid-set}
+use Rattle.sorted.proofs.Between.{between, between-last}
 
--- the cells below `place` are as they were, and all that is held from there on is greater than the number. Were the number put
--- there now, it would stand between the two
-pub record Placing (entry current : List ℕ) (found number place : ℕ) : Type 0 where
-  pub few : place ≤ found
-  pub fits : place ≤ length entry
-  pub size : length current ≡ length entry
-  pub would : set current place number ≡ laid (between place number (take found entry)) entry
-  pub below : (j : ℕ) → j < place → get_or current j 0 ≡ get_or entry j 0
-  pub greater : (j : ℕ) → place ≤ j → j < found → j < length entry → number < get_or entry j 0
+-- of those held, all from `place` on are greater than the number
+pub record Passed (entry : List ℕ) (held number place : ℕ) : Type 0 where
+  pub few : place ≤ held
+  pub greater : (j : ℕ) → place ≤ j → j < held → number < get_or entry j 0
 
 -- it is put there, and what stands before it is no greater
 pub record Placed (entry : List ℕ) (found number : ℕ) (exit : List ℕ) : Type 0 where
@@ -30,73 +26,66 @@ pub record Placed (entry : List ℕ) (found number : ℕ) (exit : List ℕ) : Ty
   pub lesser : 0 < place → get_or entry (place - 1) 0 ≤ number
   pub greater : (j : ℕ) → place ≤ j → j < found → j < length entry → number < get_or entry j 0
 
-pub placing-starts : (entry : List ℕ) (found number place : ℕ) → place ≡ min found (length entry)
-    → Placing entry entry found number place
-placing-starts entry found number place e =
+-- the numbers from the place on move up by a cell; in a full buffer the last of them has none to move to
+moved-rest : (found e : ℕ) (es : List ℕ) (n : ℕ) → n ≡ min found (length es)
+    → take n (e ∷ es) ++ drop n es ≡ take (length es) (take found (e ∷ es)) ++ drop (length (take found (e ∷ es))) es
+moved-rest found e es n is = go (dec_le found (length es))
+  where
+    go : Dec (found ≤ length es)
+        → take n (e ∷ es) ++ drop n es ≡ take (length es) (take found (e ∷ es)) ++ drop (length (take found (e ∷ es))) es
+    go (yes room) =
+        let all : n ≡ found = omega arith in
+        let size : length (take found (e ∷ es)) ≡ found = omega (arith, length-take found (e ∷ es)) in
+        rw (size, all, take_all (length es) (take found (e ∷ es)) (omega arith)) refl
+    go (no full) =
+        let cells : n ≡ length es = omega arith in
+        let beyond : length es ≤ length (take found (e ∷ es)) = omega (arith, length-take found (e ∷ es)) in
+        rw (cells, take-take (length es) found (e ∷ es) (omega arith), drop_of_length-le es beyond, drop_of_length-le es {i = length es} (omega arith)) refl
+
+moved_up : (entry : List ℕ) (found number place n m : ℕ) → place < length entry → place ≤ found
+    → m ≡ min found (length entry - 1) → n ≡ m - place
+    → set (take (suc place) entry ++ take n (drop place entry) ++ drop (suc m) entry) place number
+    ≡ laid (between place number (take found entry)) entry
+unfolding laid
+moved_up [] found number place n m there few is rest = absurd (omega arith)
+moved_up (e ∷ es) found number zero n m there few is rest =
+    let same : n ≡ m = omega arith in
+    rw same (ap {B = List ℕ} (λ l. number ∷ l) (moved-rest found e es m (omega arith)))
+moved_up (e ∷ es) zero number (suc p) n m there few is rest = absurd (omega arith)
+moved_up (e ∷ es) (suc found) number (suc p) n zero there few is rest = absurd (omega arith)
+moved_up (e ∷ es) (suc found) number (suc p) n (suc m) there few is rest =
+    ap {B = List ℕ} (λ l. e ∷ l) (moved_up es found number p n m (omega arith) (omega arith) (omega arith) (omega arith))
+
+-- and where there is no cell at the place, nothing changes
+laid-out : (entry : List ℕ) (found number place : ℕ) → place ≡ length entry → place ≤ found
+    → entry ≡ laid (between place number (take found entry)) entry
+laid-out entry found number place e few =
     let held = take found entry in
-    let all : place ≡ length held = e ∙ sym (length-take found entry) in
-    let laid-last = ap (λ (l : List ℕ). laid l entry) (between-last number held) in
-    record {
-      few = omega arith;
-      fits = omega arith;
-      size = refl;
-      would =
-          rw all (sym (laid-last ∙ laid_next held entry number (laid-own found entry)));
-      below = λ j l. refl;
-      greater = λ j le l there. absurd (omega arith);
-    }
+    let size : place ≡ length held = omega (arith, length-take found entry) in
+    sym (set_out entry place number (omega arith))
+    ∙ rw size (sym (ap (λ (l : List ℕ). laid l entry) (between-last number held) ∙ laid_next held entry number (laid-own found entry)))
 
-module _ (entry current current' : List ℕ) (found number i : ℕ) where
-  moved_up : Placing entry current found number (suc i) → current' ≡ set current (suc i) (get_or current i 0)
-      → set current' i number ≡ laid (between i number (take found entry)) entry
-  moved_up h e =
-      let held = take found entry in
-      let there : i < length held = rw (length-take found entry) (omega (arith, h.few, h.fits)) in
-      let cell : get_or current i 0 ≡ get_or held i 0 =
-      h.below i (omega arith) ∙ sym (get_or-take found entry i 0 (omega (arith, h.few))) in
-      let put = between (suc i) number held in
-      let long = between-length (suc i) number held in
-      let up = set put (suc i) (get_or held i 0) in
-      let laid-up : current' ≡ laid up entry =
-      e
-      ∙ sym (set-set current (suc i) number (get_or current i 0))
-      ∙ rw (h.would, cell) (sym (laid-set put entry (suc i) (get_or held i 0) (omega arith))) in
-      ap (λ (l : List ℕ). set l i number) laid-up
-      ∙ sym (laid-set up entry i number (omega (arith, length-set put (suc i) (get_or held i 0))))
-      ∙ ap (λ (l : List ℕ). laid l entry) (between-earlier i number held there)
-
-  moves : Placing entry current found number (suc i) → number < get_or current i 0
-      → current' ≡ set current (suc i) (get_or current i 0) → Placing entry current' found number i
-  moves h less e =
+-- the number is put at its place: those that are held from there on move up first, where there is a cell for it
+module _ (entry : List ℕ) (found number held place : ℕ) (is : held ≡ min (length entry) found) (passed : Passed entry held number place)
+    (ends : 0 < place → get_or entry (place - 1) 0 ≤ number) where
+  put_at : (exit : List ℕ) → exit ≡ laid (between place number (take found entry)) entry → Placed entry found number exit
+  put_at exit put =
       record {
-        few = omega (arith, h.few);
-        fits = omega (arith, h.fits);
-        size = ap length e ∙ length-set current (suc i) (get_or current i 0) ∙ h.size;
-        would = moved_up h e;
-        below = λ j l.
-            ap (λ (c : List ℕ). get_or c j 0) e
-            ∙ get_or-set_other current (suc i) j (get_or current i 0) 0 (λ e. omega arith)
-            ∙ h.below j (omega arith);
-        greater = λ j le l there.
-            ⊎_elim (λ e. rw (← e) (omega (arith, h.below i (omega arith)))) (λ on. h.greater j on l there) (eq-or-lt_of_le le);
+        place = place;
+        few = omega (arith, passed.few);
+        fits = omega (arith, passed.few);
+        put = put;
+        lesser = ends;
+        greater = λ j low few there. passed.greater j low (omega arith);
       }
 
-pub placing-moves : (entry current current' : List ℕ) (found number place : ℕ) → Placing entry current found number place
-    → 0 < place → number < get_or current (place - 1) 0 → current' ≡ set current place (get_or current (place - 1) 0)
-    → Placing entry current' found number (place - 1)
-placing-moves entry current current' found number zero h some = absurd (omega arith)
-placing-moves entry current current' found number (suc i) h some =
-    let e : suc i - 1 ≡ i = omega arith in
-    rw e (moves entry current current' found number i h)
+  pub placed-moved : (exit : List ℕ) (last : ℕ) → place < length entry → last ≡ min held (length entry - 1)
+      → exit ≡ set (copy_within entry place last (place + 1)) place number → Placed entry found number exit
+  placed-moved exit last there at put =
+      let next : place + 1 ≡ suc place = omega arith in
+      let end : suc place + (last - place) ≡ suc last = omega (arith, passed.few) in
+      put_at exit (put ∙ rw (next, end)
+      (moved_up entry found number place (last - place) last there (omega (arith, passed.few)) (omega arith) refl))
 
-pub placing-ends : (entry current exit : List ℕ) (found number place : ℕ) → Placing entry current found number place
-    → (0 < place → get_or current (place - 1) 0 ≤ number) → exit ≡ set current place number → Placed entry found number exit
-placing-ends entry current exit found number place h ends e =
-    record {
-      place = place;
-      few = h.few;
-      fits = h.fits;
-      put = e ∙ h.would;
-      lesser = λ some. omega (arith, ends some, h.below (place - 1) (omega arith));
-      greater = h.greater;
-    }
+  pub placed-out : (exit : List ℕ) → length entry ≤ place → exit ≡ entry → Placed entry found number exit
+  placed-out exit full same = put_at exit (same ∙ laid-out entry found number place (omega (arith, passed.few)) (omega (arith, passed.few)))

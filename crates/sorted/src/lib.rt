@@ -12,17 +12,13 @@ pub fn insert(numbers: &mut [u32], found: &mut usize, number: u32)
     ensures { Inserted numbers.old found.old number numbers.new found.new }
 {
     let cells = numbers.len();
-    let mut place = *found;
-    if cells < place {
-        place = cells;
-    }
+    let held = cells.min(*found);
+    let mut place = held;
     while 0 < place && number < numbers[place - 1] {
-        if place < cells {
-            numbers[place] = numbers[place - 1];
-        }
         place -= 1;
     }
     if place < cells {
+        numbers.copy_within(place..held.min(cells - 1), place + 1);
         numbers[place] = number;
     }
     *found += 1;
