@@ -3,7 +3,7 @@
 #![tactic(auto)]
 
 ghost use Rattle.std.specs.Prelude.{◌≡◌, ◌++◌, ◌/◌, ◌≤◌, drop, length};
-ghost use Rattle.decoding.specs.Decoding.{counted_bytes, from_bytes, numbers_of, query_of, query_size};
+ghost use Rattle.decoding.specs.Decoding.{counted_bytes, numbers_of, query_of, query_size};
 
 use table::{Name, Number, Principal, Query};
 
@@ -13,10 +13,7 @@ const MOST_BYTES: usize = 4096;
 pub fn counted(bytes: &[u8]) -> &[u8]
     ensures { result.now ≡ counted_bytes bytes.now }
 {
-    if bytes.len() <= MOST_BYTES {
-        return bytes;
-    }
-    &bytes[..MOST_BYTES]
+    &bytes[..MOST_BYTES.min(bytes.len())]
 }
 
 // Puts the numbers that the bytes hold in the first places, and leaves the others; a single byte at the end is left too.
@@ -25,11 +22,8 @@ pub fn decode(bytes: &[u8], numbers: &mut [Number])
     ensures { numbers.new
         ≡ numbers_of bytes.now ++ drop (length bytes.now / 2) numbers.old }
 {
-    let half = bytes.len() / 2;
-    let mut i = 0;
-    while i < half {
-        numbers[i] = number_of(bytes[2 * i], bytes[2 * i + 1]);
-        i += 1;
+    for (i, pair) in bytes.chunks_exact(2).enumerate() {
+        numbers[i] = Number::from_le_bytes([pair[0], pair[1]]);
     }
 }
 
@@ -44,10 +38,4 @@ pub fn query_of(numbers: &[Number]) -> Query
         name: Name(numbers[2]),
         depth: numbers[3],
     }
-}
-
-fn number_of(low: u8, high: u8) -> Number
-    ensures { result ≡ from_bytes low high }
-{
-    low as Number + 256 * (high as Number)
 }

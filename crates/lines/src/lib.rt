@@ -17,8 +17,8 @@ pub fn put_list(out: &mut [u8], sets: &[CredentialSet]) -> usize
     ensures { Filled (printed_list sets.now (length sets.now))
         out.old out.new result }
 {
-    let mut next = put_lines(out, sets);
-    next = put(out, next, b"sets ");
+    let next = put_lines(out, sets);
+    let next = put(out, next, b"sets ");
     put_line(out, next, sets.len())
 }
 
@@ -27,9 +27,9 @@ pub fn put_place(out: &mut [u8], number: usize, position: usize) -> usize
     requires { room ≤ length out.old }
     ensures { Filled (printed_refusal number position) out.old out.new result }
 {
-    let mut next = put(out, 0, b"refused ");
-    next = put_number(out, next, number);
-    next = put(out, next, b" ");
+    let next = put(out, 0, b"refused ");
+    let next = put_number(out, next, number);
+    let next = put(out, next, b" ");
     put_line(out, next, position)
 }
 
@@ -40,10 +40,8 @@ fn put_lines(out: &mut [u8], sets: &[CredentialSet]) -> usize
     ensures upper_bound { result ≤ 11 * length sets.now }
 {
     let mut next = 0;
-    let mut i = 0;
-    while i < sets.len() {
-        next = put_line(out, next, sets[i] as usize);
-        i += 1;
+    for set in sets {
+        next = put_line(out, next, *set as usize);
     }
     next
 }
@@ -82,10 +80,7 @@ fn put(out: &mut [u8], at: usize, text: &[u8]) -> usize
     requires { at + length text.now ≤ length out.old }
     ensures { Put out.old at text.now out.new result }
 {
-    let mut i = 0;
-    while i < text.len() {
-        out[at + i] = text[i];
-        i += 1;
-    }
-    at + text.len()
+    let next = at + text.len();
+    out[at..next].copy_from_slice(text);
+    next
 }

@@ -25,11 +25,14 @@ pub record Fits (arcs : List ℕ) (p l : ℕ) (e : Edge) : Type 0 where
 abbrev pub own_cell : ℕ → ℕ → Edge → ℕ
 own_cell p l e = from_cell p l (e.automaton - 1)
 
--- as the code puts the edge: w is its automaton, and the two masks are those of its states
-pub put_is : (arcs : List ℕ) (p l : ℕ) (e : Edge) {w to from : ℕ} → w ≡ e.automaton → to ≡ 2 ^ e.to → from ≡ 2 ^ e.from
-    → set (set arcs (to_cell p l) to) (from_cell p l (w - 1)) (bit_or (get_or arcs (from_cell p l (w - 1)) 0) from) ≡ arc_with arcs p l e
+-- as the code puts the edge: w is its automaton, and the two masks are those of its states. The two cells are not one
+pub put_is : (arcs : List ℕ) (p l : ℕ) (e : Edge) {w to from : ℕ} → Numbered most_automata e.automaton → w ≡ e.automaton
+    → to ≡ 2 ^ e.to → from ≡ 2 ^ e.from → let leading = set arcs (to_cell p l) to in let own = from_cell p l (w - 1) in
+    set leading own (bit_or (get_or leading own 0) from) ≡ arc_with arcs p l e
 unfolding arc_with
-put_is arcs p l e automaton leads comes = rw (automaton, leads, comes)
+put_is arcs p l e there automaton leads comes =
+    let apart : own_cell p l e ≡ to_cell p l → ⊥ = λ at. omega (arith, at, there.first, there.last) in
+    rw (automaton, leads, comes, get_or-set_other arcs (to_cell p l) (own_cell p l e) (2 ^ e.to) 0 apart)
 
 module _ {arcs : List ℕ} {p l : ℕ} {e : Edge} (fits : Fits arcs p l e) where
   pub put-room : (to : ℕ) {w : ℕ} → w ≡ e.automaton → from_cell p l (w - 1) < length (set arcs (to_cell p l) to)

@@ -19,11 +19,7 @@ pub fn clear(arcs: &mut [StateSet], place: usize)
     ensures { Cleared place arcs.old arcs.new }
 {
     let row = FIRST_ROW + ROW_CELLS * place;
-    let mut x = 0;
-    while x < ROW_CELLS {
-        arcs[row + x] = 0;
-        x += 1;
-    }
+    arcs[row..row + ROW_CELLS].fill(0);
 }
 
 // The arc that leads to the state of the mask; where there is none, the first that leads nowhere yet.
@@ -32,18 +28,13 @@ pub fn find(arcs: &[StateSet], place: usize, to: StateSet) -> usize
     ensures { ArcFound arcs.now place to result }
 {
     let row = FIRST_ROW + ROW_CELLS * place;
-    let mut l = 0;
-    while l < MOST_ARCS {
+    for l in 0..MOST_ARCS {
         let other = arcs[row + ARC_CELLS * l + AUTOMATA];
-        if other == to {
+        if other == to || other == 0 {
             return l;
         }
-        if other == 0 {
-            return l;
-        }
-        l += 1;
     }
-    l
+    MOST_ARCS
 }
 
 // Arc l leads to the edge's `to` state, for the edge's automaton from the edge's `from` state too.
@@ -55,7 +46,6 @@ pub fn put(arcs: &mut [StateSet], place: usize, l: usize, edge: Edge)
 {
     let at = FIRST_ROW + ROW_CELLS * place + ARC_CELLS * l;
     let own = at + (layout::wide(edge.automaton) - 1);
-    let from = arcs[own] | (1 << edge.from);
     arcs[at + AUTOMATA] = 1 << edge.to;
-    arcs[own] = from;
+    arcs[own] |= 1 << edge.from;
 }
