@@ -132,9 +132,6 @@ trimmed-one found rest O few e on only =
           covers-only rest O few only X ∙ part-trans X Y O part_of (inside Y less is);
     }
 
-pub trimmed-none : (found : Family) (O : ℕ) → Trimmed found O found
-trimmed-none found O = record { fewer = λ X less is. is; alike = λ inside X h. h }
-
 -- the owed automata that are not dead
 pub left-those : (O dead : ℕ) → O < all_sets → Left O dead (bit_xor O (bit_and O dead))
 unfolding pick

@@ -3,7 +3,7 @@
 #![tactic(auto)]
 
 ghost use Rattle.std.specs.Prelude.{◌≡◌, suc, ◌<◌, ◌≤◌, get_or, length, eqb};
-ghost use Rattle.std.specs.Int.Bits.{bit_and};
+ghost use Rattle.std.specs.Int.Bits.{bit_and, bit_or};
 ghost use Rattle.sets.specs.Logic.{◌and◌, ◌or◌};
 ghost use Rattle.families.specs.Families.{FamilyOf, all_sets, in_family, is_part};
 ghost use Rattle.table.specs.Layout.{credential, credentials};
@@ -57,28 +57,21 @@ pub struct Spot {
 
 // What credential i + 1, of kind 1, meets: where it names the principal, and each of the imposed automata accepts the word that ends
 // here, those of the owed that accept it.
-pub fn ends_word(
-    table: &[Number],
-    index: &[u8],
-    arcs: &[StateSet],
-    terms: Terms,
-    person: usize,
-    i: usize,
-    states: StateSets,
-) -> Family
-    requires well_formed { WellFormed table.now }
-    requires arcs { Arcs table.now arcs.now }
-    requires placed { Placed index.now }
+pub fn ends_word(ground: &Ground, person: usize, i: usize, states: StateSets) -> Family
+    requires well_formed { WellFormed ground.now.table.now }
+    requires arcs { Arcs ground.now.table.now ground.now.arcs.now }
+    requires placed { Placed ground.now.index.now }
     requires i_bound { i < 20 }
-    requires owed_lt_all_sets { terms.owed < all_sets }
-    ensures { FamilyOf (λ X. eqb (get_or index.now (asked_cell i 0) 0) person
-        and part terms.constraints (accepting_set table.now states)
-        and eqb (bit_and terms.owed (accepting_set table.now states)) X) result }
+    requires owed_lt_all_sets { ground.now.terms.owed < all_sets }
+    ensures { let g = ground.now in FamilyOf (λ X. eqb (get_or g.index.now (asked_cell i 0) 0) person
+        and part g.terms.constraints (accepting_set g.table.now states)
+        and eqb (bit_and g.terms.owed (accepting_set g.table.now states)) X) result }
 {
-    if members::asked_cell(index, i, 0) != person {
+    if members::asked_cell(ground.index, i, 0) != person {
         return Family::none();
     }
-    let accepting = moves::accepting(states, table, arcs);
+    let terms = ground.terms;
+    let accepting = moves::accepting(states, ground.table, ground.arcs);
     if terms.constraints & accepting != terms.constraints {
         return Family::none();
     }
@@ -90,79 +83,60 @@ pub fn is_enough(found: Family, most: AutomatonSet, wanted: Family) -> bool
     requires { most < all_sets }
     ensures { result ≡ (in_family found most or is_part wanted found) }
 {
-    if found.has(most) {
-        return true;
-    }
-    wanted.is_part(found)
+    found.has(most) || wanted.is_part(found)
 }
 
 // A principal stands at j who is in the first role, and the one at `person` is in the second, by the row.
 pub fn is_middle(
-    table: &[Number],
-    index: &[u8],
-    rows: &[CredentialSet],
+    ground: &Ground,
     row: usize,
     person: usize,
     j: usize,
     first: usize,
     second: usize,
 ) -> bool
-    requires well_formed { WellFormed table.now }
-    requires indexed { Indexed table.now index.now }
-    requires rows_len { (length rows.now ≡ table_cells) × (row ≤ 16) }
-    requires person_bound { (person < credentials table.now) × (j < credentials table.now) }
+    requires well_formed { WellFormed ground.now.table.now }
+    requires indexed { Indexed ground.now.table.now ground.now.index.now }
+    requires rows_len { (length ground.now.rows.now ≡ table_cells) × (row ≤ 16) }
+    requires person_bound { (person < credentials ground.now.table.now) × (j < credentials ground.now.table.now) }
     requires first_bound { (first ≤ 20) × (second ≤ 20) }
-    ensures { result ≡ (in_set (get_or rows.now (row_cell row first) 0) j
-        and in_set (get_or rows.now (row_cell row second) 0) person and is_person table.now j) }
+    ensures { let g = ground.now in result ≡ (in_set (get_or g.rows.now (row_cell row first) 0) j
+        and in_set (get_or g.rows.now (row_cell row second) 0) person and is_person g.table.now j) }
 {
-    if !is_listed(rows, row, j, first) {
-        return false;
-    }
-    if !is_listed(rows, row, person, second) {
-        return false;
-    }
-    members::is_person(table, index, j)
+    is_listed(ground.rows, row, j, first)
+        && is_listed(ground.rows, row, person, second)
+        && members::is_person(ground.table, ground.index, j)
 }
 
 // Levels are left, the role is defined, and the principal is in it by the row of the levels: else it need not be sought.
-pub fn may_be_proved(
-    table: &[Number],
-    rows: &[CredentialSet],
-    last: usize,
-    person: usize,
-    place: usize,
-    levels: usize,
-) -> bool
-    requires well_formed { WellFormed table.now }
-    requires rows_len { (length rows.now ≡ table_cells) × (last ≤ 16) }
+pub fn may_be_proved(ground: &Ground, person: usize, place: usize, levels: usize) -> bool
+    requires well_formed { WellFormed ground.now.table.now }
+    requires rows_len { (length ground.now.rows.now ≡ table_cells) × (ground.now.terms.last ≤ 16) }
     requires person_bound { (person < 20) × (place ≤ 20) }
-    ensures { result ≡ may_be_proved table.now rows.now last person place levels }
+    ensures { let g = ground.now in
+        result ≡ may_be_proved g.table.now g.rows.now g.terms.last person place levels }
 {
-    if levels == 0 {
-        return false;
-    }
-    if layout::credentials(table) <= place {
-        return false;
-    }
-    is_listed(rows, row_of(levels, last), person, place)
+    0 < levels
+        && place < layout::credentials(ground.table)
+        && is_listed(
+            ground.rows,
+            row_of(levels, ground.terms.last),
+            person,
+            place,
+        )
 }
 
 // By the row of the levels, the principal is in each role that credential i + 1 asks.
-pub fn are_listed(
-    index: &[u8],
-    rows: &[CredentialSet],
-    last: usize,
-    person: usize,
-    i: usize,
-    levels: usize,
-) -> bool
-    requires placed { Placed index.now }
-    requires rows_len { (length rows.now ≡ table_cells) × (last ≤ 16) }
+pub fn are_listed(ground: &Ground, person: usize, i: usize, levels: usize) -> bool
+    requires placed { Placed ground.now.index.now }
+    requires rows_len { (length ground.now.rows.now ≡ table_cells) × (ground.now.terms.last ≤ 16) }
     requires person_bound { (person < 20) × (i < 20) }
-    ensures { result ≡ in_set (asked_members index.now rows.now (lesser levels last) i) person }
+    ensures { let g = ground.now in
+        result ≡ in_set (asked_members g.index.now g.rows.now (lesser levels g.terms.last) i) person }
 {
+    let row = row_of(levels, ground.terms.last);
     sets::has(
-        masks::asked_members(index, rows, row_of(levels, last), i),
+        masks::asked_members(ground.index, ground.rows, row, i),
         person,
     )
 }
@@ -186,28 +160,21 @@ pub fn is_listed(rows: &[CredentialSet], row: usize, person: usize, place: usize
     sets::has(rows[ROW * row + place], person)
 }
 
-// The state sets moved on by the role at `place`, with the automata that are dead there; where no automaton is asked for nobody
+// The state sets moved on by the role at `place`, with the automata that are dead there; where no automaton is imposed or owed nobody
 // needs them.
-pub fn stepped(
-    table: &[Number],
-    arcs: &[StateSet],
-    asked: AutomatonSet,
-    place: usize,
-    states: StateSets,
-) -> Moved
-    requires well_formed { WellFormed table.now }
-    requires arcs { Arcs table.now arcs.now }
-    requires place_bound { place < credentials table.now }
-    ensures { result ≡ Goals.stepped_on table.now asked
-        (credential table.now (suc place)).role states }
+pub fn stepped(ground: &Ground, place: usize, states: StateSets) -> Moved
+    requires well_formed { WellFormed ground.now.table.now }
+    requires arcs { Arcs ground.now.table.now ground.now.arcs.now }
+    requires place_bound { place < credentials ground.now.table.now }
+    ensures { let g = ground.now in
+        result ≡ Goals.stepped_on g.table.now (bit_or g.terms.constraints g.terms.owed)
+        (credential g.table.now (suc place)).role states }
 {
+    let asked = ground.terms.constraints | ground.terms.owed;
     if asked == 0 {
-        return Moved {
-            states: states,
-            dead: 0,
-        };
+        return Moved { states, dead: 0 };
     }
-    moves::moved(states, table, arcs, place)
+    moves::moved(states, ground.table, ground.arcs, place)
 }
 
 // Some automaton that is imposed is dead.
@@ -218,15 +185,12 @@ pub fn any_dead(constraints: AutomatonSet, dead: AutomatonSet) -> bool
 }
 
 // Credential i + 1 is allowed and defines the role at `place`.
-pub fn may_use(index: &[u8], allowed: CredentialSet, place: usize, i: usize) -> bool
-    requires placed { Placed index.now }
+pub fn may_use(ground: &Ground, place: usize, i: usize) -> bool
+    requires placed { Placed ground.now.index.now }
     requires i_bound { i < 20 }
-    ensures { result ≡ usable index.now allowed place i }
+    ensures { result ≡ usable ground.now.index.now ground.now.terms.allowed place i }
 {
-    if !sets::has(allowed, i) {
-        return false;
-    }
-    members::role_cell(index, i) == place
+    sets::has(ground.terms.allowed, i) && members::role_cell(ground.index, i) == place
 }
 
 // Where nothing is owed, a chain that names a role more than once proves it once: every word is judged alike, whichever of them it
@@ -237,12 +201,10 @@ pub fn is_asked_before(index: &[u8], i: usize, k: usize) -> bool
     ensures { result ≡ asked_before index.now i k }
 {
     let place = members::asked_cell(index, i, k);
-    let mut j = 0;
-    while j < k {
+    for j in 0..k {
         if members::asked_cell(index, i, j) == place {
             return true;
         }
-        j += 1;
     }
     false
 }

@@ -4,12 +4,12 @@ use mathlib.Core.Path.{◌≡◌, refl, sym, ap, ◌∙◌}
 use mathlib.Core.List.{List, [], ◌∷◌}
 use mathlib.Core.Bool.{Bool, true, false, not}
 use mathlib.Core.Logic.{◌⊎◌, ⊎_elim}
-use Prim.Native.Nat.{ℕ, zero, suc, ◌+◌, ◌-◌, ◌<◌, ◌≤◌}
+use Prim.Native.Nat.{ℕ, zero, suc, ◌+◌, ◌<◌, ◌≤◌}
 use native.Mathlib.Omega.{arith}
 use native.Mathlib.Decide.{ℕ_discrete}
 use native.Mathlib.Nat.{zero-add}
-use lib.ListN.{get_or, length, set}
-use lib.Seq.{get_or-set_same, get_or-set_other}
+use lib.ListN.{drop, get_or, length, set}
+use lib.Seq.{drop-cons, drop-length, get_or-set_same, get_or-set_other}
 use lib.Bits.{bit_and, bit_or}
 use lib.Dec.{eqb}
 use borrow.Author.Tests.{ne_eqb}
@@ -27,12 +27,12 @@ use Rattle.members.specs.declared.above.Above.{Above}
 use Rattle.members.specs.Members.{asked_cell}
 use Rattle.failures.specs.Failures.{Joined}
 use Rattle.goals.specs.Goals.{Trimmed}
-use Rattle.search.specs.Asking.{Pair, SameLater, asked_pairs, pair, pairs_from, role_pairs}
-use Rattle.search.specs.declared.asking.Asked.{Asked}
+use Rattle.search.specs.Asking.{SameLater, pair, role_pairs}
+use Rattle.search.specs.declared.asking.Pair.{Pair}
 use Rattle.search.specs.Search.{AllStand, Searchable, Stands, Tried, ends, proves_at, shares}
 use Rattle.families.proofs.Covering.{covers-only}
-use Rattle.search.specs.Failing.{Bounds, Covers, Fails, Finds, Judged, LaterJudged, goal_test, no_family, own_test, shared_test}
-use Rattle.search.proofs.Pairs.{asked-end, asked-from}
+use Rattle.search.specs.Failing.{Bounds, Covers, Fails, Finds, Judged, LaterJudged, goal_test, no_family, own_test, pair_test, shared_test}
+use Rattle.search.proofs.Pairs.{roles-length}
 use Rattle.search.proofs.Owing.{proves-less}
 use Rattle.search.proofs.Sharing.{part_none, shares-member, shares-reached}
 use Rattle.search.proofs.Placing.{cell-middles, cell-named}
@@ -121,23 +121,20 @@ module _ (t : List ℕ) (S A O levels : ℕ) (s : StateSets) where
       }
 
   -- one goal before those that share already
-  pub shared-next : (persons places : List ℕ) (len k : ℕ) → suc k ≤ len → {above blocking blocking' both : Above} {f rest r trimmed : Family}
+  pub shared-next : (asked : List Pair) (k : ℕ) → k < length asked → {above blocking blocking' both : Above} {f rest r trimmed : Family}
       → FamilyOf (joins f rest) r → Trimmed r O trimmed → Joined blocking blocking' both
-      → Judged O (goal_test t S A O levels s (get_or persons k 0) (get_or places k 0)) above f blocking
-      → Judged O (shared_test t S A O levels s (pairs_from persons places (len - suc k) (suc k))) above rest blocking'
-      → Judged O (shared_test t S A O levels s (pairs_from persons places (len - k) k)) above trimmed both
-  shared-next persons places len k there {rest = rest} all trims joined one others =
-      let next : k + 1 ≡ suc k = omega arith in
-      let split = asked-from persons places len k (omega arith) in
+      → Judged O (pair_test t S A O levels s (get_or asked k (pair 0 0))) above f blocking
+      → Judged O (shared_test t S A O levels s (drop (suc k) asked)) above rest blocking'
+      → Judged O (shared_test t S A O levels s (drop k asked)) above trimmed both
+  shared-next asked k there all trims joined one others =
       judged-trimmed trims
-      (rw (split, next)
-      (judged-joined O at (pair (get_or persons k 0) (get_or places k 0)) (pairs_from persons places (len - suc k) (suc k))
-      (λ b Y Y'. at_less b _ Y Y') all joined one others))
+      (rw (drop-cons asked k (pair 0 0) there)
+      (judged-joined O at (get_or asked k (pair 0 0)) (drop (suc k) asked) (λ b Y Y'. at_less b _ Y Y') all joined one others))
 
   -- what each of the goals can meet, with one more
-  pub later-next : (asked : Asked) (k : ℕ) → {above blocking blocking' both : Above} (each : List Family) {f : Family} → k < length each
+  pub later-next : (asked : List Pair) (k : ℕ) → {above blocking blocking' both : Above} (each : List Family) {f : Family} → k < length each
       → Joined blocking blocking' both → Covers blocking above → Covers blocking' above
-      → Judged O (goal_test t S A O levels s (get_or asked.persons k 0) (get_or asked.places k 0)) above f blocking
+      → Judged O (pair_test t S A O levels s (get_or asked k (pair 0 0))) above f blocking
       → LaterJudged t S A O levels s asked (suc k) above each blocking'
       → LaterJudged t S A O levels s asked k above (set each k f) both
   later-next asked k {above} {blocking} {blocking'} {both} each {f} room joined covered covered' one later j from there = go (ℕ_discrete j k)
@@ -145,9 +142,7 @@ module _ (t : List ℕ) (S A O levels : ℕ) (s : StateSets) where
       all-covered : Covers both above
       all-covered = covered-both blocking blocking' both joined above covered covered'
 
-      go : Dec (j ≡ k)
-          → Judged O (goal_test t S A O levels s (get_or asked.persons j 0) (get_or asked.places j 0)) above
-          (get_or (set each k f) j no_family) both
+      go : Dec (j ≡ k) → Judged O (pair_test t S A O levels s (get_or asked j (pair 0 0))) above (get_or (set each k f) j no_family) both
       go (yes same) =
           rw (same, get_or-set_same each k f no_family room)
           (judged-more blocking both (λ test. fails-first blocking blocking' both joined) all-covered one)
@@ -156,25 +151,10 @@ module _ (t : List ℕ) (S A O levels : ℕ) (s : StateSets) where
           (judged-more blocking' both (λ test. fails-second blocking blocking' both joined) all-covered (later j (omega (arith, other)) there))
 
   -- a goal that is the same as a later one
-  pub same-judged : (asked : Asked) (k r : ℕ) → SameLater asked k r → (r ≡ k → ⊥) → {above blocking : Above} (each : List Family)
+  pub same-judged : (asked : List Pair) (k r : ℕ) → SameLater asked k r → {above blocking : Above} (each : List Family)
       → LaterJudged t S A O levels s asked (suc k) above each blocking
-      → Judged O (goal_test t S A O levels s (get_or asked.persons k 0) (get_or asked.places k 0)) above (get_or each r no_family) blocking
-  same-judged asked k r same other each later =
-      rw (← same.person-is, ← same.place_is) (later r (omega (arith, same.later, other)) same.there)
-
--- pairs by their number
-pub pair-at : (persons places : List ℕ) (n k j : ℕ) → j < n
-    → get_or (pairs_from persons places n k) j (pair 0 0) ≡ pair (get_or persons (k + j) 0) (get_or places (k + j) 0)
-unfolding pairs_from
-pair-at persons places zero k j l = absurd (omega arith)
-pair-at persons places (suc n) k zero l = let e : k + 0 ≡ k = omega arith in rw e
-pair-at persons places (suc n) k (suc j) l =
-    let e : suc k + j ≡ k + suc j = omega arith in rw e at (pair-at persons places n (suc k) j (omega arith))
-
-pub pairs-length : (persons places : List ℕ) (n k : ℕ) → length (pairs_from persons places n k) ≡ n
-unfolding pairs_from
-pairs-length persons places zero k = refl
-pairs-length persons places (suc n) k = ap suc (pairs-length persons places n (suc k))
+      → Judged O (pair_test t S A O levels s (get_or asked k (pair 0 0))) above (get_or each r no_family) blocking
+  same-judged asked k r same each later = rw (← same.same) (later r same.later same.there)
 
 role-at : (index : List ℕ) (person i n k j : ℕ) → j < n
     → get_or (role_pairs index person i n k) j (pair 0 0) ≡ pair person (get_or index (asked_cell i (k + j)) 0)
@@ -183,20 +163,6 @@ role-at index person i zero k j l = absurd (omega arith)
 role-at index person i (suc n) k zero l = let e : k + 0 ≡ k = omega arith in rw e
 role-at index person i (suc n) k (suc j) l =
     let e : suc k + j ≡ k + suc j = omega arith in rw e at (role-at index person i n (suc k) j (omega arith))
-
-roles-length : (index : List ℕ) (person i n k : ℕ) → length (role_pairs index person i n k) ≡ n
-unfolding role_pairs
-roles-length index person i zero k = refl
-roles-length index person i (suc n) k = ap suc (roles-length index person i n (suc k))
-
--- goal k of those that are asked stands at its places
-pub asked-stands : {t : List ℕ} (asked : Asked) → AllStand t (asked_pairs asked) → (k : ℕ) → k < asked.len
-    → Stands t (get_or asked.persons k 0) (get_or asked.places k 0)
-unfolding asked_pairs
-asked-stands {t} asked all k l =
-    let here = pair-at asked.persons asked.places asked.len 0 k l in
-    let there = all k (rw (pairs-length asked.persons asked.places asked.len 0) l) in
-    rw (here, zero-add k) at there
 
 -- the roles that a credential of kind 2 or 4 asks have places
 pub roles-stand : {t index arcs rows : List ℕ} {S levels last : ℕ} → Searchable t index arcs rows S levels last → {person i : ℕ}
@@ -304,31 +270,11 @@ module _ {t index arcs rows : List ℕ} {S levels last : ℕ} (searched : Search
       (λ X owed more b. absurd (false-true (sym more ∙ owed))))
 
 -- the goals behind the last one are none
-pub shared-end : (t : List ℕ) (S A O levels : ℕ) (s : StateSets) (persons places : List ℕ) (len : ℕ) {above blocking : Above} {found : Family}
+pub shared-end : (t : List ℕ) (S A O levels : ℕ) (s : StateSets) (asked : List Pair) {above blocking : Above} {found : Family}
     → FamilyOf (eqb 0) found → blocking ≡ nothing_above
-    → Judged O (shared_test t S A O levels s (pairs_from persons places (len - len) len)) above found blocking
-shared-end t S A O levels s persons places len only nothing =
-    rw (asked-end persons places len len (omega arith)) (shared-none t S A O levels s only nothing)
-
--- goal k of those that are asked fails: they fail together
-pub asked-failed : (t : List ℕ) (S A O levels : ℕ) (s : StateSets) (asked : Asked) (k : ℕ) → k < asked.len
-    → {above blocking : Above} {found : Family} → FamilyOf (λ X. false) found → Covers blocking above
-    → Fails (goal_test t S A O levels s (get_or asked.persons k 0) (get_or asked.places k 0) 0) blocking
-    → Judged O (shared_test t S A O levels s (asked_pairs asked)) above found blocking
-unfolding asked_pairs
-asked-failed t S A O levels s asked k l none covered fails =
-    let here = pair-at asked.persons asked.places asked.len 0 k l in
-    shared-failed t S A O levels s (pairs_from asked.persons asked.places asked.len 0) k
-    (rw (pairs-length asked.persons asked.places asked.len 0) l) none covered (rw (here, zero-add k) fails)
-
--- all goals that are asked
-pub asked-all : (t : List ℕ) (S A O levels : ℕ) (s : StateSets) (asked : Asked) (k : ℕ) → k ≡ 0
-    → {above blocking : Above} {found : Family}
-    → Judged O (shared_test t S A O levels s (pairs_from asked.persons asked.places (asked.len - k) k)) above found blocking
-    → Judged O (shared_test t S A O levels s (asked_pairs asked)) above found blocking
-unfolding asked_pairs
-asked-all t S A O levels s asked k first judged =
-    let whole : asked.len - 0 ≡ asked.len = omega arith in rw (first, whole) at judged
+    → Judged O (shared_test t S A O levels s (drop (length asked) asked)) above found blocking
+shared-end t S A O levels s asked only nothing =
+    rw (drop-length asked) (shared-none t S A O levels s only nothing)
 
 -- no more than nothing is owed
 pub none-owed : {O : ℕ} → O ≤ 0 → O ≡ 0

@@ -28,7 +28,8 @@ use Rattle.members.specs.declared.above.Above.{Above}
 use Rattle.members.specs.Members.{Indexed}
 use Rattle.failures.specs.Failures.{Joined, Spared}
 use Rattle.goals.specs.Goals.{Left, may_be_proved, stepped, stepped_on, usable}
-use Rattle.search.specs.Asking.{Pair, pair}
+use Rattle.search.specs.Asking.{pair}
+use Rattle.search.specs.declared.asking.Pair.{Pair}
 use Rattle.search.specs.Search.{Searchable, Stands, ends, goal_at, proves, proves_at, proves_with, shares}
 use Rattle.search.specs.Failing.{Bounds, Covers, Fails, Finds, Judged, Sought, Wide, any_test, goal_test}
 use Rattle.search.specs.Failing.{own_test, shared_test}

@@ -39,7 +39,8 @@ use Rattle.members.proofs.ByKind.{roles-few}
 use Rattle.members.specs.declared.above.Above.{Above}
 use Rattle.goals.specs.Goals.{stepped}
 use Rattle.goals.proofs.Testing.{row_within}
-use Rattle.search.specs.Asking.{Pair, pair, role_pairs}
+use Rattle.search.specs.Asking.{pair, role_pairs}
+use Rattle.search.specs.declared.asking.Pair.{Pair}
 use Rattle.search.specs.Search.{Searchable, Stands, Tried, ends, goal_at, proves, proves_at, shares}
 use Rattle.search.proofs.Owing.{proves-less}
 use Rattle.search.proofs.Sharing.{every-by, first-unshared, second-unshared, shares_each}

@@ -29,7 +29,8 @@ use Rattle.goals.specs.Goals.{asked_before, stepped, usable}
 use Rattle.search.proofs.Placing.{cell_parts, first_cell, linked_role, middle-unlisted, middle_tried, own-part, part-cell}
 use Rattle.search.proofs.Placing.{part-unlisted, part_missed, part_role, proves_own, second-cell, stands_at}
 use Rattle.members.specs.declared.above.Above.{Above}
-use Rattle.search.specs.Asking.{Pair, pair}
+use Rattle.search.specs.Asking.{pair}
+use Rattle.search.specs.declared.asking.Pair.{Pair}
 use Rattle.search.specs.Search.{Searchable, Stands, Tried, ends, goal_at, proves, proves_at, proves_with, shares}
 use Rattle.search.specs.Failing.{any_test}
 

@@ -13,8 +13,8 @@ use Rattle.members.specs.Above.{pair_above}
 use Rattle.members.specs.declared.above.Above.{Above}
 use Rattle.members.specs.Trying.{proves_by}
 use Rattle.failures.specs.Failures.{SlotHolds, SlotIn}
-use Rattle.search.specs.Asking.{Pair}
-use Rattle.search.specs.declared.asking.Asked.{Asked}
+use Rattle.search.specs.Asking.{pair}
+use Rattle.search.specs.declared.asking.Pair.{Pair}
 use Rattle.search.specs.Search.{ends, goal_at, proves, proves_at, proves_with, shares}
 
 -- a cell for every place of a role
@@ -74,6 +74,10 @@ pub record FoundBelow (O : ℕ) (test : ℕ → Above → Bool) (above : Above) 
 abbrev pub goal_test : List ℕ → ℕ → ℕ → ℕ → ℕ → StateSets → ℕ → ℕ → ℕ → Above → Bool
 goal_test t S A O levels s person place = λ X above. proves_at t S A O levels above s person place X
 
+-- the same of a goal that is asked
+abbrev pub pair_test : List ℕ → ℕ → ℕ → ℕ → ℕ → StateSets → Pair → ℕ → Above → Bool
+pair_test t S A O levels s p = goal_test t S A O levels s p.person p.place
+
 -- what a memory says of a goal below a branch, whatever table and credentials it is of: the blocking pairs are on the branch, and while
 -- they are, the goal can meet no more than the family `wanted`
 abbrev pub Recalls : ℕ → List ℕ → ℕ → ℕ → ℕ → StateSets → Above → Family → Above → Type 0
@@ -101,7 +105,7 @@ abbrev pub no_family : Family
 no_family = record { words = [] }
 
 -- what each of the goals that are asked can meet, from goal k on
-abbrev pub LaterJudged : List ℕ → ℕ → ℕ → ℕ → ℕ → StateSets → Asked → ℕ → Above → List Family → Above → Type 0
+abbrev pub LaterJudged : List ℕ → ℕ → ℕ → ℕ → ℕ → StateSets → List Pair → ℕ → Above → List Family → Above → Type 0
 LaterJudged t S A O levels s asked k above each blocking =
-    (j : ℕ) → k ≤ j → j < asked.len
-    → Judged O (goal_test t S A O levels s (get_or asked.persons j 0) (get_or asked.places j 0)) above (get_or each j no_family) blocking
+    (j : ℕ) → k ≤ j → j < length asked
+    → Judged O (pair_test t S A O levels s (get_or asked j (pair 0 0))) above (get_or each j no_family) blocking

@@ -1,4 +1,5 @@
 pub mod Asking
 pub mod Search
 pub mod Failing
+pub mod Grounds
 pub mod Promised

@@ -27,7 +27,8 @@ use Rattle.members.specs.declared.above.Above.{Above}
 use Rattle.members.specs.Trying.{may_use, proves_by}
 use Rattle.members.specs.Members.{Aimed, Indexed, Members}
 use Rattle.goals.specs.Goals.{stepped}
-use Rattle.search.specs.Asking.{Pair, pair}
+use Rattle.search.specs.Asking.{pair}
+use Rattle.search.specs.declared.asking.Pair.{Pair}
 
 -- a search is asked of an accepted table and a valid query, with their index and an index of arcs
 pub record Prepared (t : List ℕ) (q : Query) (index arcs : List ℕ) : Type 0 where

@@ -14,13 +14,14 @@ ghost use Rattle.members.specs.Above.{nothing_above};
 ghost use Rattle.table.specs.Holding.{WellFormed};
 ghost use Rattle.table.specs.Checks.{Valid};
 ghost use Rattle.members.specs.Members.{Aimed, Indexed, Members};
-ghost use Rattle.search.specs.Search.{Prepared, Searchable, Stands, TellsMet, provable};
-ghost use Rattle.search.specs.Failing.{Remembered, FoundBelow, goal_test};
+ghost use Rattle.search.specs.Search.{Prepared, Stands, TellsMet, provable};
+ghost use Rattle.search.specs.Failing.{FoundBelow, goal_test};
+ghost use Rattle.search.specs.Grounds.{RememberedOn, SearchableOn};
 
-pub use asking::{Asked, link_asked, roles_asked};
+pub use asking::{Pair, link_asked, roles_asked};
 use automata::StateSets;
 use families::Family;
-use goals::Terms;
+use goals::{Ground, Spot, Terms};
 use members::Above;
 pub use seeking::{Answer, credential_search, goal_search};
 use sets::{CredentialSet, StateSet};
@@ -46,7 +47,14 @@ pub fn is_member(
     }
     let place = members::goal_role(index);
     let levels = layout::wide(query.depth);
-    goals::may_be_proved(table, rows, terms.last, person, place, levels)
+    let ground = Ground {
+        table,
+        index,
+        arcs: &[],
+        rows,
+        terms,
+    };
+    goals::may_be_proved(&ground, person, place, levels)
 }
 
 // Which sets of the owed automata can be met by derivations of the queried membership that use only allowed credentials and each
@@ -73,67 +81,43 @@ pub fn query_search(
     }
     let place = members::goal_role(index);
     let levels = layout::wide(query.depth);
-    if !goals::may_be_proved(table, rows, terms.last, person, place, levels) {
-        return Family::none();
-    }
-    if failures::is_small(terms.allowed) {
-        let mut memory = [0; failures::FEW_CELLS];
-        return from_start(
-            table,
-            index,
-            arcs,
-            rows,
-            terms,
-            person,
-            place,
-            levels,
-            &mut memory,
-        );
-    }
-    let mut memory = [0; failures::CELLS];
-    from_start(
+    let ground = Ground {
         table,
         index,
         arcs,
         rows,
         terms,
-        person,
-        place,
-        levels,
-        &mut memory,
-    )
+    };
+    if !goals::may_be_proved(&ground, person, place, levels) {
+        return Family::none();
+    }
+    if failures::is_small(terms.allowed) {
+        let mut memory = [0; failures::FEW_CELLS];
+        return from_start(&ground, person, place, levels, &mut memory);
+    }
+    let mut memory = [0; failures::CELLS];
+    from_start(&ground, person, place, levels, &mut memory)
 }
 
 // What can be met where the principal at `person` is proved to be in the role at `place`, from the start of all words on.
 fn from_start(
-    table: &[Number],
-    index: &[u8],
-    arcs: &[StateSet],
-    rows: &[CredentialSet],
-    terms: Terms,
+    ground: &Ground,
     person: usize,
     place: usize,
     levels: usize,
     memory: &mut [u32],
 ) -> Family
-    requires searchable { Searchable table.now index.now arcs.now rows.now terms.allowed levels terms.last }
-    requires stands { Stands table.now person place }
-    requires remembered { Remembered table.now terms.allowed terms.constraints terms.owed memory.old }
-    ensures { FoundBelow terms.owed (goal_test table.now terms.allowed terms.constraints terms.owed
-        levels (starting_sets table.now) person place) nothing_above result }
+    requires searchable { SearchableOn ground.now levels }
+    requires stands { Stands ground.now.table.now person place }
+    requires remembered { RememberedOn ground.now memory.old }
+    ensures { let g = ground.now in FoundBelow g.terms.owed (goal_test g.table.now g.terms.allowed g.terms.constraints g.terms.owed
+        levels (starting_sets g.table.now) person place) nothing_above result }
 {
-    let answer = seeking::goal_search(
-        table,
-        index,
-        arcs,
-        rows,
-        terms,
-        person,
-        place,
+    let start = Spot {
         levels,
-        StateSets::start(table),
-        Above::nothing(),
-        memory,
-    );
+        states: StateSets::start(ground.table),
+        above: Above::nothing(),
+    };
+    let answer = seeking::goal_search(ground, person, place, start, memory);
     answer.found
 }
