@@ -2,7 +2,7 @@
 use mathlib.Core.Path.{◌≡◌, sym, ap, ◌∙◌}
 use mathlib.Core.List.{List}
 use mathlib.Core.Bool.{Bool, true, false}
-use Prim.Native.Nat.{ℕ, suc, ◌+◌, ◌<◌}
+use Prim.Native.Nat.{ℕ, suc, ◌+◌, ◌-◌, ◌<◌, ◌≤◌}
 use native.Mathlib.Omega.{arith}
 use native.Mathlib.Decide.{dec_lt, ℕ_discrete}
 use Rattle.sets.specs.Logic.{any_below}
@@ -36,6 +36,18 @@ module _ (index : List ℕ) (S place : ℕ) where
       go : Dec (k ≡ i) → ⊥
       go (yes e) = false-true (sym off ∙ sym (ap (usable index S place) e) ∙ may)
       go (no e) = none k behind (omega arith) may
+
+-- none of the first n from i on may be used
+abbrev pub NoneFrom : List ℕ → ℕ → ℕ → ℕ → ℕ → Type 0
+NoneFrom index S place n i = (k : ℕ) → i ≤ k → k < n → usable index S place k ≡ true → ⊥
+
+pub none-down : (index : List ℕ) (S place n i : ℕ) → 1 ≤ i → NoneFrom index S place n i → usable index S place (i - 1) ≡ false
+    → NoneFrom index S place n (i - 1)
+none-down index S place n i some none off k from l may = go (ℕ_discrete k (i - 1))
+  where
+    go : Dec (k ≡ i - 1) → ⊥
+    go (yes e) = false-true (sym off ∙ sym (ap (usable index S place) e) ∙ may)
+    go (no e) = none k (omega arith) l may
 
 pub tried-at : {t : List ℕ} {person place : ℕ} → Stands t person place → (i : ℕ) → i < credentials t → Tried t person i
 tried-at stands i l = record { there = l; who = stands.there; named = stands.named }

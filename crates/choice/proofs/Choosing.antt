@@ -13,6 +13,7 @@ use borrow.Author.Tests.{ne_eqb}
 use Rattle.sets.specs.Logic.{◌and◌, pick}
 use Rattle.sets.proofs.Tests.{and_both, and_first, and_second, any-shows, false-true}
 use Rattle.sets.proofs.Members.{part-zero}
+use Rattle.few.specs.Listed.{listed}
 use Rattle.table.specs.Limits.{most_parts, most_principals}
 use Rattle.table.specs.Layout.{credential, credentials, principal, role}
 use Rattle.table.specs.declared.Role.{Role}
@@ -36,9 +37,10 @@ use Rattle.members.proofs.ByKind.{padded-inside}
 use Rattle.members.proofs.ByKind.{by-none, middle_at, middle_goals, middle_role, names-principal, parts-few, role_goals, roles-2}
 use Rattle.members.proofs.ByKind.{roles-4}
 use Rattle.members.specs.declared.above.Above.{Above}
-use Rattle.search.specs.Asking.{Pair, pair, role_pairs}
+use Rattle.search.specs.Asking.{pair, role_pairs}
+use Rattle.search.specs.declared.asking.Pair.{Pair}
 use Rattle.search.specs.Search.{Searchable, Stands, Tried, goal_at, proves, proves_at, proves_with, shares}
-use Rattle.search.proofs.Pairs.{asks_none}
+use Rattle.search.proofs.Pairs.{asks_none, roles-length}
 use Rattle.search.proofs.Owing.{proves-less}
 use Rattle.search.proofs.Sharing.{shares-member, shares-shows}
 use Rattle.search.proofs.Placing.{first_cell, link_pairs, linked_role, linking-role, own, part-cell, part_role, proved-some}
@@ -47,8 +49,7 @@ use Rattle.choice.specs.declared.Node.{Node}
 use Rattle.choice.specs.Choice.{Children, Chosen, LeastMiddle, Made, asked, ends_well, leads, least_credential, least_middle}
 use Rattle.choice.specs.Choice.{suits}
 use Rattle.choice.proofs.Candidates.{tried-at}
-use Rattle.choice.proofs.Nodes.{AllPlaced, Placed, asked-at, asked-count, placed-goal, placed-proved, placed-stands}
-use Rattle.choice.proofs.Nodes.{roles-at, roles-count}
+use Rattle.choice.proofs.Nodes.{AllPlaced, Placed, placed-goal, placed-proved, placed-stands, roles-at}
 
 length_none : {A : Type 0} (xs : List A) → length xs ≡ 0 → xs ≡ []
 length_none [] e = refl
@@ -106,27 +107,16 @@ children-are : (t : List ℕ) (S A O levels : ℕ) (above : Above) (s : StateSet
     → AllPlaced t pairs goals
     → ((k : ℕ) → k < length goals → proves t S A O levels above s (get_or goals k no_goal) 0 ≡ true)
     → (credential middle : ℕ) (node : Node) → Made credential middle pairs node
-    → Children t S A O levels above s goals node.asked
+    → Children t S A O levels above s goals (listed node.asked)
 children-are t S A O levels above s goals pairs placed each credential middle node made =
+    rw made.asks
     record {
-      fits = made.fits;
-      count = count ∙ placed.count;
-      stands = rw made.asks (λ k l. placed-stands (placed.each k l));
-      proved = λ k l. rw (at k l) at (found k (inside k l));
-      goals-are = λ k l. rw (at k l) at
-          (placed-goal (placed.each k (inside k l)) S A O levels above s 0 (found k (inside k l)));
+      count = placed.count;
+      stands = λ k l. placed-stands (placed.each k l);
+      proved = found;
+      goals-are = λ k l. placed-goal (placed.each k l) S A O levels above s 0 (found k l);
     }
   where
-    count : node.asked.len ≡ length pairs
-    count = sym (asked-count node.asked) ∙ ap length made.asks
-
-    inside : (k : ℕ) → k < node.asked.len → k < length pairs
-    inside k l = omega (arith, count)
-
-    at : (k : ℕ) → k < node.asked.len
-        → get_or pairs k (pair 0 0) ≡ pair (get_or node.asked.persons k 0) (get_or node.asked.places k 0)
-    at k l = sym (ap (λ ps. get_or ps k (pair 0 0)) made.asks) ∙ asked-at node.asked k l
-
     found : (k : ℕ) → k < length pairs
         → proves_at t S A O levels above s (get_or pairs k (pair 0 0)).person (get_or pairs k (pair 0 0)).place 0 ≡ true
     found k l = placed-proved (placed.each k l) S A O levels above s 0 (each k (omega (arith, placed.count)))
@@ -179,7 +169,7 @@ module _ {t index arcs rows : List ℕ} {S levels last : ℕ} (searched : Search
       suited : (length (asked (premises t g (suc i) m)) ≡ 0 → ⊥) → all (asked (premises t g (suc i) m)) ≡ true
       suited = asked-proved all word (premises t g (suc i) m) proved
 
-      children : Children t S A O levels above s (asked (premises t g (suc i) m)) node.asked
+      children : Children t S A O levels above s (asked (premises t g (suc i) m)) (listed node.asked)
       children =
           children-are t S A O levels above s _ pairs placed
           (λ k l. suits-each t S A O levels above s wants _ (suited (λ none. omega arith)) k l) (suc i) m node made
@@ -243,10 +233,10 @@ module _ {t index arcs rows : List ℕ} {S levels last : ℕ} (searched : Search
     parts-placed =
         record {
           count =
-              roles-count index person i (length asks_of)
+              roles-length index person i (length asks_of) 0
               ∙ sym (ap length unlinked-asks.0 ∙ length-map asks_of (λ (r : Role). goal g.principal r));
           each = λ k l.
-              let inside : k < length asks_of = omega (arith, roles-count index person i (length asks_of)) in
+              let inside : k < length asks_of = omega (arith, roles-length index person i (length asks_of) 0) in
               rw (roles-at index person i (length asks_of) k inside) (part_placed k inside);
         }
 

@@ -29,7 +29,8 @@ use Rattle.members.specs.Trying.{proves_by}
 use Rattle.members.specs.declared.above.Above.{Above}
 use Rattle.members.proofs.Reading.{numbered}
 use Rattle.members.proofs.ByKind.{with-goals}
-use Rattle.search.specs.Asking.{Pair, pair}
+use Rattle.search.specs.Asking.{pair}
+use Rattle.search.specs.declared.asking.Pair.{Pair}
 use Rattle.search.specs.Failing.{FoundBelow, goal_test}
 use Rattle.search.specs.Search.{Searchable, Stands, Tried, goal_at, proves, proves_at}
 use Rattle.search.proofs.Sharing.{first-unshared}

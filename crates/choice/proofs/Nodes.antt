@@ -20,52 +20,26 @@ use Rattle.members.specs.Members.{asked_cell, link_cell}
 use Rattle.members.specs.declared.above.Above.{Above}
 use Rattle.members.proofs.Places.{role-stands}
 use Rattle.members.proofs.Reading.{as_read}
-use Rattle.search.specs.Asking.{Pair, asked_pairs, pair, pairs_from, role_pairs}
+use Rattle.search.specs.Asking.{pair, role_pairs}
+use Rattle.search.specs.declared.asking.Pair.{Pair}
 use Rattle.search.specs.Search.{Stands, goal_at, proves, proves_at}
-use Rattle.search.specs.declared.asking.Asked.{Asked}
 use Rattle.search.proofs.Placing.{link_pairs, proves-at, stands_at}
 use Rattle.choice.specs.declared.Node.{Node}
 use Rattle.choice.specs.Choice.{Made}
 
--- a list made goal by goal, from goal k on, has goal k + j at place j
-module _ (each : ℕ → ℕ → List Pair) (one : ℕ → Pair) (none : (k : ℕ) → each 0 k ≡ [])
-    (more : (n k : ℕ) → each (suc n) k ≡ one k ∷ each n (suc k)) where
-  made-count : (n k : ℕ) → length (each n k) ≡ n
-  made-count zero k = rw (none k)
-  made-count (suc n) k = rw (more n k) (ap suc (made-count n (suc k)))
+-- role k + j is at place j of the list from role k on
+role-from : (index : List ℕ) (person i n k j : ℕ) → j < n
+    → get_or (role_pairs index person i n k) j (pair 0 0) ≡ pair person (get_or index (asked_cell i (k + j)) 0)
+unfolding role_pairs
+role-from index person i zero k j l = absurd (omega arith)
+role-from index person i (suc n) k zero l = rw (add-zero k)
+role-from index person i (suc n) k (suc j) l =
+    let next : suc k + j ≡ k + suc j = omega arith in
+    rw next at (role-from index person i n (suc k) j (omega arith))
 
-  made_at : (n k j : ℕ) → j < n → get_or (each n k) j (pair 0 0) ≡ one (k + j)
-  made_at zero k j l = absurd (omega arith)
-  made_at (suc n) k zero l = rw (more n k, add-zero k)
-  made_at (suc n) k (suc j) l =
-      let next : suc k + j ≡ k + suc j = omega arith in
-      rw (more n k) (made_at n (suc k) j (omega arith) ∙ ap one next)
-
-module _ (a : Asked) where
-  pub asked-count : length (asked_pairs a) ≡ a.len
-  unfolding asked_pairs pairs_from
-  asked-count =
-      made-count (pairs_from a.persons a.places) (λ k. pair (get_or a.persons k 0) (get_or a.places k 0)) (λ k. refl)
-      (λ n k. refl) a.len 0
-
-  pub asked-at : (k : ℕ) → k < a.len → get_or (asked_pairs a) k (pair 0 0) ≡ pair (get_or a.persons k 0) (get_or a.places k 0)
-  unfolding asked_pairs pairs_from
-  asked-at k l =
-      rw (zero-add k) at
-      (made_at (pairs_from a.persons a.places) (λ k. pair (get_or a.persons k 0) (get_or a.places k 0)) (λ k. refl)
-      (λ n k. refl) a.len 0 k l)
-
-module _ (index : List ℕ) (person i n : ℕ) where
-  pub roles-count : length (role_pairs index person i n 0) ≡ n
-  unfolding role_pairs
-  roles-count =
-      made-count (role_pairs index person i) (λ k. pair person (get_or index (asked_cell i k) 0)) (λ k. refl) (λ n k. refl) n 0
-
-  pub roles-at : (k : ℕ) → k < n → get_or (role_pairs index person i n 0) k (pair 0 0) ≡ pair person (get_or index (asked_cell i k) 0)
-  unfolding role_pairs
-  roles-at k l =
-      rw (zero-add k) at
-      (made_at (role_pairs index person i) (λ k. pair person (get_or index (asked_cell i k) 0)) (λ k. refl) (λ n k. refl) n 0 k l)
+pub roles-at : (index : List ℕ) (person i n k : ℕ) → k < n
+    → get_or (role_pairs index person i n 0) k (pair 0 0) ≡ pair person (get_or index (asked_cell i k) 0)
+roles-at index person i n k l = rw (zero-add k) at (role-from index person i n 0 k l)
 
 -- a goal that stands at these places: its principal has one, and its role one where some credential defines it
 pub record Placed (t : List ℕ) (p : Pair) (g : Goal) : Type 0 where
@@ -99,18 +73,16 @@ module _ {t : List ℕ} {p : Pair} {g : Goal} (is : Placed t p g) where
 
 -- the node of credential i + 1, of kind 3, as its middle's number, both cells of the index and what it asks have been read
 pub made-linked : (t index : List ℕ) (person i j : ℕ) (x : Credential) → x ≡ credential t (j + 1) → {first second : ℕ}
-    → first ≡ get_or index (asked_cell i 0) 0 → second ≡ get_or index (link_cell i j) 0 → (a : Asked)
-    → asked_pairs a ≡ pair j first ∷ pair person second ∷ [] → (node : Node) → Made (suc i) x.first (asked_pairs a) node
+    → first ≡ get_or index (asked_cell i 0) 0 → second ≡ get_or index (link_cell i j) 0 → {pairs : List Pair}
+    → pairs ≡ pair j first ∷ pair person second ∷ [] → (node : Node) → Made (suc i) x.first pairs node
     → Made (suc i) (credential t (suc j)).first (link_pairs index person i j) node
-made-linked t index person i j x read one two a asks node made =
+made-linked t index person i j x read one two asks node made =
     record {
       credential-is = made.credential-is;
       middle-is = made.middle-is ∙ ap (λ (c : Credential). c.first) (as_read t j x read);
-      fits = made.fits;
       asks = made.asks ∙ asks ∙ rw (one, two);
     }
 
 -- and of one that is not, whose roles have been read
-pub made-unlinked : {c m : ℕ} {pairs : List Pair} (a : Asked) → asked_pairs a ≡ pairs → (node : Node)
-    → Made c m (asked_pairs a) node → Made c m pairs node
-made-unlinked a asks node made = rw asks at made
+pub made-unlinked : {c m : ℕ} {pairs roles : List Pair} → pairs ≡ roles → (node : Node) → Made c m pairs node → Made c m roles node
+made-unlinked asks node made = rw asks at made

@@ -28,7 +28,7 @@ use Rattle.members.specs.declared.above.Above.{Above}
 use Rattle.members.proofs.Stepping.{all-by-mono}
 use Rattle.members.proofs.Branching.{nothing-room}
 use Rattle.search.specs.Failing.{Judged, FoundBelow, own_test}
-use Rattle.search.specs.Asking.{Pair}
+use Rattle.search.specs.declared.asking.Pair.{Pair}
 use Rattle.search.specs.Search.{ends, goal_at, proves, proves_at, shares}
 use Rattle.search.proofs.Owing.{proves-less}
 use Rattle.search.proofs.Sharing.{shares-alone, shares-reached}

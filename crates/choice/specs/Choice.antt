@@ -5,6 +5,7 @@ use Rattle.std.specs.Prelude.{ℕ, suc, ◌<◌, ◌≤◌, ◌≡◌, List, [],
 use Rattle.std.proofs.Math.Option.{Option, none, some}
 use Rattle.sets.specs.Logic.{◌and◌, ◌or◌, any_below}
 use Rattle.sets.specs.Sets.{in_set, part, set_of}
+use Rattle.few.specs.Listed.{listed}
 use Rattle.families.specs.Families.{Inside, all_sets, in_family}
 use Rattle.families.specs.declared.Family.{Family}
 use Rattle.table.specs.Limits.{most_principals}
@@ -18,10 +19,12 @@ use Rattle.members.specs.Trying.{proved_premises}
 use Rattle.members.specs.Members.{asked_cell, link_cell, row_cell}
 use Rattle.members.specs.declared.above.Above.{Above}
 pub use Rattle.search.specs.Search.{proves_with}
+use Rattle.goals.specs.declared.Ground.{Ground}
+use Rattle.goals.specs.declared.Spot.{Spot}
 use Rattle.goals.specs.declared.Terms.{Terms}
 use Rattle.goals.specs.Goals.{usable}
-use Rattle.search.specs.Asking.{Fits, Pair, asked_pairs}
-use Rattle.search.specs.declared.asking.Asked.{Asked}
+use Rattle.search.specs.Asking.{pair}
+use Rattle.search.specs.declared.asking.Pair.{Pair}
 use Rattle.search.specs.Search.{AllStand, ends, goal_at, proves, proves_at, shares}
 use Rattle.choice.specs.declared.Node.{Node}
 
@@ -51,6 +54,13 @@ suits_all t terms wanted levels above s =
 abbrev pub suits_word : List ℕ → Terms → Family → StateSets → Bool
 suits_word t terms wanted s = ends_well t terms.constraints terms.owed (in_family wanted) s
 
+-- the same on a ground, below a spot
+abbrev pub suits_on : Ground → Family → Spot → List Goal → Bool
+suits_on g wanted spot = suits_all g.table.now g.terms wanted spot.levels spot.above spot.states
+
+abbrev pub word_on : Ground → Family → Spot → Bool
+word_on g wanted spot = suits_word g.table.now g.terms wanted spot.states
+
 -- the least credential of the set that proves the goal
 unfoldable pub least_credential : List ℕ → ℕ → (List Goal → Bool) → Bool → Goal → ℕ
 least_credential t S all word g = suc (least (proves_with t S all word g) (credentials t))
@@ -66,14 +76,13 @@ asked (some goals) = goals
 
 -- the goals by the places of principal and role, each of which can be proved
 pub record Children (t : List ℕ) (S A O levels : ℕ) (above : Above) (s : StateSets) (goals : List Goal)
-    (node : Asked) : Type 0 where
-  pub fits : Fits node
-  pub count : node.len ≡ length goals
-  pub stands : AllStand t (asked_pairs node)
-  pub proved : (k : ℕ) → k < node.len
-      → proves_at t S A O levels above s (get_or node.persons k 0) (get_or node.places k 0) 0 ≡ true
-  pub goals-are : (k : ℕ) → k < node.len
-      → goal_at t (get_or node.persons k 0) (get_or node.places k 0) ≡ get_or goals k no_goal
+    (pairs : List Pair) : Type 0 where
+  pub count : length pairs ≡ length goals
+  pub stands : AllStand t pairs
+  pub proved : (k : ℕ) → k < length pairs
+      → proves_at t S A O levels above s (get_or pairs k (pair 0 0)).person (get_or pairs k (pair 0 0)).place 0 ≡ true
+  pub goals-are : (k : ℕ) → k < length pairs
+      → goal_at t (get_or pairs k (pair 0 0)).person (get_or pairs k (pair 0 0)).place ≡ get_or goals k no_goal
 
 -- the node's numbers are the least, and its children are what they ask; so many levels are left below the node. Where it asks
 -- nothing a word ends well, and otherwise the goals that it asks suit what is wanted
@@ -83,16 +92,15 @@ pub record Chosen (t : List ℕ) (S A O levels : ℕ) (above : Above) (s : State
       ≡ least_credential t S (suits (proves t S A O levels above s) O wants) (ends_well t A O wants s) g
   pub middle-is : node.middle
       ≡ least_middle t (suits (proves t S A O levels above s) O wants) (ends_well t A O wants s) g node.credential
-  pub children : Children t S A O levels above s (asked (premises t g node.credential node.middle)) node.asked
-  pub suited : (node.asked.len ≡ 0 → ⊥)
+  pub children : Children t S A O levels above s (asked (premises t g node.credential node.middle)) (listed node.asked)
+  pub suited : (length (listed node.asked) ≡ 0 → ⊥)
       → suits (proves t S A O levels above s) O wants (asked (premises t g node.credential node.middle)) ≡ true
 
 -- the node has these two numbers, and asks these goals, by places
 pub record Made (credential middle : ℕ) (pairs : List Pair) (node : Node) : Type 0 where
   pub credential-is : node.credential ≡ credential
   pub middle-is : node.middle ≡ middle
-  pub fits : Fits node.asked
-  pub asks : asked_pairs node.asked ≡ pairs
+  pub asks : listed node.asked ≡ pairs
 
 -- r is the last of the first n credentials that the index lets be used for the role at `place`
 pub record LastUsable (index : List ℕ) (S place n r : ℕ) : Type 0 where

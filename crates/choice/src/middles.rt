@@ -7,88 +7,62 @@ ghost use Rattle.table.specs.Holding.{WellFormed};
 ghost use Rattle.members.specs.Members.{Indexed, table_cells};
 ghost use Rattle.members.specs.Places.{is_person};
 ghost use Rattle.members.specs.Trying.{proves_by};
-ghost use Rattle.search.specs.Search.{Searchable, Tried, goal_at};
-ghost use Rattle.search.specs.Failing.{Remembered};
+ghost use Rattle.search.specs.Search.{Tried, goal_at};
+ghost use Rattle.search.specs.Grounds.{RememberedOn, SearchableOn};
 ghost use Rattle.choice.specs.Choice.{LeastMiddle, LeastNamed, Wanted, comes_before, leads};
-ghost use Rattle.choice.specs.Choice.{listed_middles, suits_all, suits_word};
+ghost use Rattle.choice.specs.Choice.{listed_middles, suits_on, word_on};
 
-use automata::StateSets;
 use families::Family;
-use goals::Terms;
-use members::Above;
-use sets::{CredentialSet, StateSet};
+use goals::{Ground, Spot};
+use sets::CredentialSet;
 use table::{Number, layout};
 
 // Where the middle of the least number stands with which credential i + 1 proves its goal. Those whom the table of members has
 // are tried in the order of their numbers; the last that is left needs no search.
 pub fn least_middle(
-    table: &[Number],
-    index: &[u8],
-    arcs: &[StateSet],
-    rows: &[CredentialSet],
-    terms: Terms,
+    ground: &Ground,
     wanted: Family,
     person: usize,
     i: usize,
-    levels: usize,
-    states: StateSets,
-    above: Above,
+    spot: Spot,
     memory: &mut [u32],
 ) -> usize
-    requires searchable { Searchable table.now index.now arcs.now rows.now terms.allowed levels terms.last }
-    requires tried { Tried table.now person i × ((credential table.now (suc i)).kind ≡ 3) }
-    requires wanted { Wanted terms.owed wanted }
-    requires remembered { Remembered table.now terms.allowed terms.constraints terms.owed memory.old }
-    requires i_value { proves_by table.now
-        (suits_all table.now terms wanted levels above states) (suits_word table.now terms wanted states)
-        (goal_at table.now person i) (suc i) ≡ true }
-    ensures { LeastMiddle table.now (leads table.now
-        (suits_all table.now terms wanted levels above states) (suits_word table.now terms wanted states)
-        (goal_at table.now person i) (suc i)) result
-        × Remembered table.now terms.allowed terms.constraints terms.owed memory.new }
+    requires searchable { SearchableOn ground.now spot.levels }
+    requires tried { Tried ground.now.table.now person i × ((credential ground.now.table.now (suc i)).kind ≡ 3) }
+    requires wanted { Wanted ground.now.terms.owed wanted }
+    requires remembered { RememberedOn ground.now memory.old }
+    requires i_value { let g = ground.now in proves_by g.table.now
+        (suits_on g wanted spot) (word_on g wanted spot) (goal_at g.table.now person i) (suc i) ≡ true }
+    ensures { let g = ground.now in LeastMiddle g.table.now (leads g.table.now
+        (suits_on g wanted spot) (word_on g wanted spot) (goal_at g.table.now person i) (suc i)) result
+        × RememberedOn g memory.new }
 {
-    let row = goals::row_of(levels, terms.last);
-    let mut left = listed_middles(table, index, rows, row, person, i);
+    let row = goals::row_of(spot.levels, ground.terms.last);
+    let mut left = listed_middles(ground, row, person, i);
     while left & (left - 1) != 0 {
-        let j = least_named(table, left);
-        if leads_on(
-            table, index, arcs, rows, terms, wanted, person, i, j, levels, states, above, memory,
-        ) {
+        let j = least_named(ground.table, left);
+        if leads_on(ground, wanted, person, i, j, spot, memory) {
             return j;
         }
-        left = left ^ (1 << j);
+        left ^= 1 << j;
     }
-    least_named(table, left)
+    least_named(ground.table, left)
 }
 
 // The principals whom the row has as middles of credential i + 1.
-fn listed_middles(
-    table: &[Number],
-    index: &[u8],
-    rows: &[CredentialSet],
-    row: usize,
-    person: usize,
-    i: usize,
-) -> CredentialSet
-    requires well_formed { WellFormed table.now }
-    requires indexed { Indexed table.now index.now }
-    requires rows_len { (length rows.now ≡ table_cells) × (row ≤ most_depth) }
-    requires person_bound { (person < credentials table.now) × (i < credentials table.now) }
-    ensures { result ≡ listed_middles table.now index.now rows.now row person i
-        (credentials table.now) }
+fn listed_middles(ground: &Ground, row: usize, person: usize, i: usize) -> CredentialSet
+    requires well_formed { WellFormed ground.now.table.now }
+    requires indexed { Indexed ground.now.table.now ground.now.index.now }
+    requires rows_len { (length ground.now.rows.now ≡ table_cells) × (row ≤ most_depth) }
+    requires person_bound { (person < credentials ground.now.table.now) × (i < credentials ground.now.table.now) }
+    ensures { let g = ground.now in
+        result ≡ listed_middles g.table.now g.index.now g.rows.now row person i (credentials g.table.now) }
 {
-    let n = layout::credentials(table);
-    let first = members::asked_cell(index, i, 0);
-    let mut found = 0;
-    let mut j = 0;
-    while j < n {
-        let second = members::link_cell(index, i, j);
-        if goals::is_middle(table, index, rows, row, person, j, first, second) {
-            found = sets::with(found, j);
-        }
-        j += 1;
-    }
-    found
+    let first = members::asked_cell(ground.index, i, 0);
+    sets::those(layout::credentials(ground.table), |j| {
+        let second = members::link_cell(ground.index, i, j);
+        goals::is_middle(ground, row, person, j, first, second)
+    })
 }
 
 // Of the principals at the places, where the one of the least number stands.
@@ -99,14 +73,10 @@ fn least_named(table: &[Number], places: CredentialSet) -> usize
 {
     let n = layout::credentials(table);
     let mut best = n;
-    let mut j = 0;
-    while j < n {
-        if sets::has(places, j) {
-            if comes_before(table, j, best) {
-                best = j;
-            }
+    for j in 0..n {
+        if sets::has(places, j) && comes_before(table, j, best) {
+            best = j;
         }
-        j += 1;
     }
     best
 }
@@ -127,59 +97,29 @@ fn comes_before(table: &[Number], j: usize, best: usize) -> bool
 
 // With the principal at j as the middle credential i + 1 proves its goal: what both goals can meet together is wanted.
 fn leads_on(
-    table: &[Number],
-    index: &[u8],
-    arcs: &[StateSet],
-    rows: &[CredentialSet],
-    terms: Terms,
+    ground: &Ground,
     wanted: Family,
     person: usize,
     i: usize,
     j: usize,
-    levels: usize,
-    states: StateSets,
-    above: Above,
+    spot: Spot,
     memory: &mut [u32],
 ) -> bool
-    requires searchable { Searchable table.now index.now arcs.now rows.now terms.allowed levels terms.last }
-    requires tried { Tried table.now person i × ((credential table.now (suc i)).kind ≡ 3) }
-    requires j_bound { (j < credentials table.now) × (is_person table.now j ≡ true) }
-    requires wanted { Wanted terms.owed wanted }
-    requires remembered { Remembered table.now terms.allowed terms.constraints terms.owed memory.old }
-    ensures { (result ≡ leads table.now
-        (suits_all table.now terms wanted levels above states) (suits_word table.now terms wanted states)
-        (goal_at table.now person i) (suc i) j)
-        × Remembered table.now terms.allowed terms.constraints terms.owed memory.new }
+    requires searchable { SearchableOn ground.now spot.levels }
+    requires tried { Tried ground.now.table.now person i × ((credential ground.now.table.now (suc i)).kind ≡ 3) }
+    requires j_bound { (j < credentials ground.now.table.now) × (is_person ground.now.table.now j ≡ true) }
+    requires wanted { Wanted ground.now.terms.owed wanted }
+    requires remembered { RememberedOn ground.now memory.old }
+    ensures { let g = ground.now in (result ≡ leads g.table.now
+        (suits_on g wanted spot) (word_on g wanted spot) (goal_at g.table.now person i) (suc i) j)
+        × RememberedOn g memory.new }
 {
-    let one = search::goal_search(
-        table,
-        index,
-        arcs,
-        rows,
-        terms,
-        j,
-        members::asked_cell(index, i, 0),
-        levels,
-        states,
-        above,
-        memory,
-    );
+    let first = members::asked_cell(ground.index, i, 0);
+    let one = search::goal_search(ground, j, first, spot, memory);
     if one.found.is_none() {
         return false;
     }
-    let two = search::goal_search(
-        table,
-        index,
-        arcs,
-        rows,
-        terms,
-        person,
-        members::link_cell(index, i, j),
-        levels,
-        states,
-        above,
-        memory,
-    );
-    let both = one.found.joined(two.found);
-    both.meets(wanted)
+    let second = members::link_cell(ground.index, i, j);
+    let two = search::goal_search(ground, person, second, spot, memory);
+    one.found.joined(two.found).meets(wanted)
 }
