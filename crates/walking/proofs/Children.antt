@@ -4,7 +4,8 @@ use mathlib.Core.Path.{◌≡◌, refl, sym, ap, fun_ext, ◌∙◌}
 use mathlib.Core.List.{List, [], ◌∷◌, ◌++◌, append_assoc, append-nil}
 use mathlib.Core.Bool.{Bool, true}
 use Prim.Native.Nat.{ℕ, zero, suc, ◌+◌, ◌<◌, ◌≤◌}
-use lib.ListN.{get_or}
+use lib.ListN.{drop, get_or, length}
+use Rattle.std.proofs.lemmas.List.{drop_all, drop_more}
 use lib.Bits.{bit_or, or_zero_r}
 use Rattle.sets.specs.Sets.{in_set, part}
 use Rattle.sets.specs.Logic.{◌or◌}
@@ -17,12 +18,12 @@ use Rattle.derivation.specs.Forest.{Forest, written}
 use Rattle.derivation.specs.Forest.Forest.{end, node}
 use Rattle.members.specs.declared.above.Above.{Above}
 use Rattle.search.specs.Search.{goal_at, proves}
-use Rattle.search.specs.declared.asking.Asked.{Asked}
-use Rattle.search.proofs.Pairs.{asked-end, asked-from}
+use Rattle.search.specs.Asking.{pair}
+use Rattle.search.specs.declared.asking.Pair.{Pair}
 use Rattle.search.proofs.Owing.{proves-less}
 use Rattle.choice.specs.Choice.{suits}
 use Rattle.walking.specs.First.{first_forest, leaves, met_from}
-use Rattle.walking.specs.Walked.{Walked, goals_at, goals_from}
+use Rattle.walking.specs.Walked.{Walked, goals_at}
 use Rattle.walking.proofs.Wanting.{Wanted, first-suits, suits-alone, wanted-after, wanted-here}
 use Rattle.walking.proofs.Meeting.{met-end, met-few, met-split}
 use Rattle.walking.proofs.FirstNode.{first-end, first-node, first_tree, wants_here}
@@ -221,49 +222,50 @@ module _ (t : List ℕ) (wf : WellFormed t) (S A O : ℕ) (above : Above) (s : S
       tree-beyond t wf S A O levels above s wants wanted goals rest g passed room (rw same at on) over
 
 -- goal by goal of those that are asked
-pub goals-next : (t : List ℕ) (a : Asked) (k : ℕ) → k < a.len
-    → goals_from t a k ≡ goal_at t (get_or a.persons k 0) (get_or a.places k 0) ∷ goals_from t a (k + 1)
+pub goals-next : (t : List ℕ) (pairs : List Pair) (k : ℕ) → k < length pairs
+    → goals_at t (drop k pairs)
+    ≡ goal_at t (get_or pairs k (pair 0 0)).person (get_or pairs k (pair 0 0)).place ∷ goals_at t (drop (k + 1) pairs)
 unfolding goals_at
-goals-next t a k l = rw (asked-from a.persons a.places a.len k l)
+goals-next t pairs k l = rw (drop_more pairs k (pair 0 0) l)
 
-pub goals-last : (t : List ℕ) (a : Asked) (k : ℕ) → a.len ≤ k → goals_from t a k ≡ []
+pub goals-last : (t : List ℕ) (pairs : List Pair) (k : ℕ) → length pairs ≤ k → goals_at t (drop k pairs) ≡ []
 unfolding goals_at
-goals-last t a k all = rw (asked-end a.persons a.places a.len k all)
+goals-last t pairs k all = rw (drop_all k pairs all)
 
 pub asked-last : (t : List ℕ) (S A O levels : ℕ) (above : Above) (s : StateSets) (wants : ℕ → Bool) (goals : List Goal)
-    (a : Asked) (k : ℕ)
-    → a.len ≤ k → {from most next met : ℕ} {before mid : List ℕ}
-    → Passed t S A O levels above s wants goals (goals_from t a k) from most before mid next met
+    (pairs : List Pair) (k : ℕ)
+    → length pairs ≤ k → {from most next met : ℕ} {before mid : List ℕ}
+    → Passed t S A O levels above s wants goals (goals_at t (drop k pairs)) from most before mid next met
     → Walked from most (written (first_forest t S A O levels above s wants goals)) before mid next
     × (met ≡ met_from t A O s (first_forest t S A O levels above s wants goals))
-asked-last t S A O levels above s wants goals a k all passed =
-    passed-last t S A O levels above s wants goals (rw (goals-last t a k all) at passed)
+asked-last t S A O levels above s wants goals pairs k all passed =
+    passed-last t S A O levels above s wants goals (rw (goals-last t pairs k all) at passed)
 
 module _ {t : List ℕ} (wf : WellFormed t) (S A O levels : ℕ) (above : Above) (s : StateSets) (wants : ℕ → Bool)
     (wanted : Wanted O wants)
-    {goals : List Goal} (a : Asked) (k : ℕ) (l : k < a.len) {from most next met : ℕ} {before mid : List ℕ}
-    (passed : Passed t S A O levels above s wants goals (goals_from t a k) from most before mid next met) (may : ℕ → Bool)
-    (alike : Alike may (leaves (proves t S A O levels above s) O (λ X. wants (bit_or met X)) (goals_from t a (k + 1)))) where
+    {goals : List Goal} (pairs : List Pair) (k : ℕ) (l : k < length pairs) {from most next met : ℕ} {before mid : List ℕ}
+    (passed : Passed t S A O levels above s wants goals (goals_at t (drop k pairs)) from most before mid next met) (may : ℕ → Bool)
+    (alike : Alike may (leaves (proves t S A O levels above s) O (λ X. wants (bit_or met X)) (goals_at t (drop (k + 1) pairs)))) where
   abbrev g : Goal
-  g = goal_at t (get_or a.persons k 0) (get_or a.places k 0)
+  g = goal_at t (get_or pairs k (pair 0 0)).person (get_or pairs k (pair 0 0)).place
 
-  here : Passed t S A O levels above s wants goals (g ∷ goals_from t a (k + 1)) from most before mid next met
-  here = rw (goals-next t a k l) at passed
+  here : Passed t S A O levels above s wants goals (g ∷ goals_at t (drop (k + 1) pairs)) from most before mid next met
+  here = rw (goals-next t pairs k l) at passed
 
   pub asked-wanted : Wanted O may
-  asked-wanted = may-wanted t wf S A O above s wants wanted goals (goals_from t a (k + 1)) g may levels here alike
+  asked-wanted = may-wanted t wf S A O above s wants wanted goals (goals_at t (drop (k + 1) pairs)) g may levels here alike
 
   pub asked-suits : suits (proves t S A O levels above s) O may (g ∷ []) ≡ true
-  asked-suits = may-suits t wf S A O above s wants wanted goals (goals_from t a (k + 1)) g may levels here alike
+  asked-suits = may-suits t wf S A O above s wants wanted goals (goals_at t (drop (k + 1) pairs)) g may levels here alike
 
   module _ (room : next ≤ most) {next' : ℕ} {after : List ℕ}
       (on : Walked next most (written (first_forest t S A O levels above s may (g ∷ []))) mid after next') where
     pub asked-next : (now : ℕ) → now ≡ met_from t A O s (first_forest t S A O levels above s may (g ∷ []))
-        → Passed t S A O levels above s wants goals (goals_from t a (k + 1)) from most before after next' (bit_or met now)
+        → Passed t S A O levels above s wants goals (goals_at t (drop (k + 1) pairs)) from most before after next' (bit_or met now)
     asked-next now is =
-        passed-next t wf S A O above s wants wanted goals (goals_from t a (k + 1)) g may levels here alike room on now is
+        passed-next t wf S A O above s wants wanted goals (goals_at t (drop (k + 1) pairs)) g may levels here alike room on now is
 
     pub asked-beyond : most < next'
         → Walked from most (written (first_forest t S A O levels above s wants goals)) before after next'
     asked-beyond over =
-        passed-beyond t wf S A O above s wants wanted goals (goals_from t a (k + 1)) g may levels here alike room on over
+        passed-beyond t wf S A O above s wants wanted goals (goals_at t (drop (k + 1) pairs)) g may levels here alike room on over

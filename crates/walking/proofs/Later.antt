@@ -3,9 +3,10 @@
 use mathlib.Core.Path.{◌≡◌, refl, sym, ap, ◌∙◌}
 use mathlib.Core.List.{List, [], ◌∷◌}
 use mathlib.Core.Bool.{Bool, true}
-use Prim.Native.Nat.{ℕ, zero, suc, ◌+◌, ◌-◌, ◌<◌, ◌≤◌}
+use Prim.Native.Nat.{ℕ, suc, ◌+◌, ◌<◌, ◌≤◌}
 use native.Mathlib.Omega.{arith}
-use lib.ListN.{get_or}
+use lib.ListN.{drop, get_or, length}
+use lib.Seq.{drop-length}
 use lib.Bits.{bit_or, or_comm, or_lt, or_zero_r}
 use lib.Dec.{eqb}
 use borrow.Author.Tests.{eq-eqb, eqb-true, lt-ltb, ltb-true}
@@ -21,20 +22,19 @@ use Rattle.table.specs.Layout.{credentials}
 use Rattle.table.specs.declared.Goal.{Goal}
 use Rattle.automata.specs.declared.StateSets.{StateSets}
 use Rattle.members.specs.declared.above.Above.{Above}
-use Rattle.search.specs.Asking.{pairs_from}
+use Rattle.search.specs.Asking.{pair}
 use Rattle.search.specs.Search.{goal_at, proves, proves_at, shares}
-use Rattle.search.specs.Failing.{FoundBelow, goal_test}
-use Rattle.search.proofs.Pairs.{asked-end, asked-from}
+use Rattle.search.specs.Failing.{FoundBelow, goal_test, pair_test}
 use Rattle.search.proofs.Sharing.{shares-reached}
 use Rattle.search.proofs.Owing.{proves-less}
-use Rattle.search.specs.declared.asking.Asked.{Asked}
+use Rattle.search.specs.declared.asking.Pair.{Pair}
 use Rattle.choice.specs.Choice.{Children}
 use Rattle.choice.specs.Choice as choice
 use Rattle.walking.specs.First.{leaves}
-use Rattle.walking.specs.Walked.{goals_at, goals_from, later_test}
+use Rattle.walking.specs.Walked.{goals_at, later_test}
 use Rattle.walking.proofs.Wanting.{Wanted, leaves-reached, leaves-shows, shared-owed, wanted-after}
 use Rattle.walking.proofs.Alike.{Alike}
-use Rattle.walking.proofs.Children.{or-behind}
+use Rattle.walking.proofs.Children.{goals-next, or-behind}
 
 module _ (t : List ℕ) (S A O levels : ℕ) (s : StateSets) {above : Above} where
   -- no goals meet nothing
@@ -77,48 +77,40 @@ module _ (t : List ℕ) (S A O levels : ℕ) (s : StateSets) {above : Above} whe
       one = proves t S A O levels above s
 
 -- from the last of the goals that are asked to the first
-abbrev Later : List ℕ → ℕ → ℕ → ℕ → ℕ → StateSets → List ℕ → List ℕ → ℕ → Above → ℕ → Family → Type 0
-Later t S A O levels s persons places len above k f =
-    FoundBelow O (later_test t S A O levels s (goals_at t (pairs_from persons places (len - k) k))) above f
-
-module _ (t : List ℕ) (S A O levels : ℕ) (s : StateSets) (persons places : List ℕ) (len : ℕ) {above : Above} where
-  pub later-none : {f : Family} → FamilyOf (eqb 0) f → Later t S A O levels s persons places len above len f
+module _ (t : List ℕ) (S A O levels : ℕ) (s : StateSets) (pairs : List Pair) {above : Above} where
+  pub later-none : {f : Family} → FamilyOf (eqb 0) f
+      → FoundBelow O (later_test t S A O levels s (goals_at t (drop (length pairs) pairs))) above f
   unfolding goals_at
-  later-none only = rw (asked-end persons places len len (omega arith)) (told_none t S A O levels s only)
+  later-none only = rw (drop-length pairs) (told_none t S A O levels s only)
 
-  pub later-next : (k : ℕ) → 1 ≤ k → k ≤ len → get_or places (k - 1) 0 < credentials t → {f g r : Family} → FamilyOf (joins f g) r
-      → FoundBelow O (goal_test t S A O levels s (get_or persons (k - 1) 0) (get_or places (k - 1) 0)) above f
-      → Later t S A O levels s persons places len above k g → Later t S A O levels s persons places len above (k - 1) r
-  unfolding goals_at
-  later-next k one few there all first others =
-      let back : k - 1 + 1 ≡ k = omega arith in
-      rw (asked-from persons places len (k - 1) (omega arith), back)
-      (told-next t S A O levels s (get_or persons (k - 1) 0) (get_or places (k - 1) 0) there _ all first others)
+  pub later-next : (k : ℕ) → k < length pairs → (get_or pairs k (pair 0 0)).place < credentials t → {f g r : Family} → FamilyOf (joins f g) r
+      → FoundBelow O (pair_test t S A O levels s (get_or pairs k (pair 0 0))) above f
+      → FoundBelow O (later_test t S A O levels s (goals_at t (drop (k + 1) pairs))) above g
+      → FoundBelow O (later_test t S A O levels s (goals_at t (drop k pairs))) above r
+  later-next k l there all first others =
+      rw (goals-next t pairs k l) (told-next t S A O levels s _ _ there _ all first others)
 
 -- goals each of which is proved
-pub shares-nothing : (t : List ℕ) (S A O levels : ℕ) (above : Above) (s : StateSets) (persons places : List ℕ) (n k : ℕ)
-    → ((j : ℕ) → k ≤ j → j < k + n → proves_at t S A O levels above s (get_or persons j 0) (get_or places j 0) 0 ≡ true)
-    → shares (proves t S A O levels above s) O (goals_at t (pairs_from persons places n k)) 0 ≡ true
-unfolding shares goals_at pairs_from proves_at
-shares-nothing t S A O levels above s persons places zero k each = eq-eqb 0 0 refl
-shares-nothing t S A O levels above s persons places (suc n) k each =
-    shares-reached (proves t S A O levels above s) O (goal_at t (get_or persons k 0) (get_or places k 0))
-    (goals_at t (pairs_from persons places n (suc k))) 0 0 0 (omega arith) (omega arith)
-    (and_second _ _ (each k (omega arith) (omega arith)))
-    (shares-nothing t S A O levels above s persons places n (suc k) (λ j from l. each j (omega arith) (omega arith)))
+pub shares-nothing : (t : List ℕ) (S A O levels : ℕ) (above : Above) (s : StateSets) (pairs : List Pair)
+    → ((k : ℕ) → k < length pairs
+    → proves_at t S A O levels above s (get_or pairs k (pair 0 0)).person (get_or pairs k (pair 0 0)).place 0 ≡ true)
+    → shares (proves t S A O levels above s) O (goals_at t pairs) 0 ≡ true
+unfolding shares goals_at proves_at
+shares-nothing t S A O levels above s [] each = eq-eqb 0 0 refl
+shares-nothing t S A O levels above s (p ∷ pairs) each =
+    shares-reached (proves t S A O levels above s) O (goal_at t p.person p.place) (goals_at t pairs) 0 0 0 (omega arith) (omega arith)
+    (and_second _ _ (each 0 (omega arith))) (shares-nothing t S A O levels above s pairs (λ k l. each (suc k) (omega arith)))
     (part-zero (bit_or 0 0))
 
--- a child's role is defined, and those from one child on are proved
-module _ {t : List ℕ} {S A O levels : ℕ} {above : Above} {s : StateSets} {goals : List Goal} {a : Asked}
-    (children : Children t S A O levels above s goals a) where
-  pub child-there : (k : ℕ) → k < a.len → get_or a.places k 0 < credentials t
+-- a child's role is defined, and all children are proved
+module _ {t : List ℕ} {S A O levels : ℕ} {above : Above} {s : StateSets} {goals : List Goal} {pairs : List Pair}
+    (children : Children t S A O levels above s goals pairs) where
+  pub child-there : (k : ℕ) → k < length pairs → (get_or pairs k (pair 0 0)).place < credentials t
   unfolding proves_at
   child-there k l = ltb-true _ (credentials t) (and_first _ _ (children.proved k l))
 
-  pub children-nothing : (from : ℕ) → from ≤ a.len → shares (proves t S A O levels above s) O (goals_from t a from) 0 ≡ true
-  children-nothing from few =
-      shares-nothing t S A O levels above s a.persons a.places (a.len - from) from
-      (λ j later l. children.proved j (omega arith))
+  pub children-nothing : shares (proves t S A O levels above s) O (goals_at t pairs) 0 ≡ true
+  children-nothing = shares-nothing t S A O levels above s pairs children.proved
 
 -- a family says what is wanted
 pub family-wants : {O : ℕ} {wanted : Family} → choice.Wanted O wanted → Wanted O (in_family wanted)

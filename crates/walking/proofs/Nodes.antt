@@ -7,7 +7,7 @@ use mathlib.Core.Option.{some}
 use Prim.Native.Nat.{ℕ, zero, suc, ◌+◌, ◌-◌, ◌<◌, ◌≤◌}
 use native.Mathlib.Omega.{arith}
 use native.Mathlib.Decide.{ℕ_discrete}
-use lib.ListN.{get_or, length}
+use lib.ListN.{drop, get_or, length}
 use lib.Seq.{ext_get_or}
 use lib.Bits.{bit_and, bit_or}
 use Rattle.sets.specs.Logic.{any_below, pick}
@@ -25,15 +25,17 @@ use Rattle.members.specs.Above.{with_goal, with_pair}
 use Rattle.members.proofs.Places.{is-person}
 use Rattle.members.specs.declared.above.Above.{Above}
 use Rattle.goals.specs.Goals.{stepped}
-use Rattle.search.specs.Asking.{pairs_from}
+use Rattle.std.proofs.lemmas.List.{get_or-drop, length-drop}
+use Rattle.few.specs.Listed.{listed}
+use Rattle.search.specs.Asking.{pair}
 use Rattle.search.specs.Search.{Stands, goal_at, proves, proves_with}
-use Rattle.search.specs.declared.asking.Asked.{Asked}
+use Rattle.search.specs.declared.asking.Pair.{Pair}
 use Rattle.search.proofs.Sharing.{shares-alone}
 use Rattle.search.proofs.Owing.{proves-less}
 use Rattle.choice.specs.declared.Node.{Node}
 use Rattle.choice.specs.Choice.{Children, Chosen, asked, ends_well, suits}
 use Rattle.walking.specs.First.{first_forest, met_from}
-use Rattle.walking.specs.Walked.{Walked, goals_at, goals_from}
+use Rattle.walking.specs.Walked.{Walked, goals_at}
 use Rattle.walking.proofs.Wanting.{Wanted, suits-shows}
 use Rattle.walking.proofs.Meeting.{met-alone, node-asks, node_met}
 use Rattle.walking.proofs.FirstNode.{first-applies, first-end, first_found}
@@ -42,38 +44,43 @@ use Rattle.walking.proofs.FirstMet.{level-none}
 use Rattle.walking.proofs.Walking.{walked-any, walked-beyond, walked_then}
 
 -- the goals that are asked, one by one
-module _ (t : List ℕ) (persons places : List ℕ) where
-  goals-count : (n k : ℕ) → length (goals_at t (pairs_from persons places n k)) ≡ n
-  unfolding goals_at pairs_from
-  goals-count zero k = refl
-  goals-count (suc n) k = ap suc (goals-count n (suc k))
+module _ (t : List ℕ) where
+  goals-count : (pairs : List Pair) → length (goals_at t pairs) ≡ length pairs
+  unfolding goals_at
+  goals-count [] = refl
+  goals-count (p ∷ pairs) = ap suc (goals-count pairs)
 
-  goals-each : (n k j : ℕ) → j < n
-      → get_or (goals_at t (pairs_from persons places n k)) j no_goal ≡ goal_at t (get_or persons (k + j) 0) (get_or places (k + j) 0)
-  unfolding goals_at pairs_from
-  goals-each zero k j l = absurd (omega arith)
-  goals-each (suc n) k zero l = let same : k + 0 ≡ k = omega arith in rw same
-  goals-each (suc n) k (suc j) l =
-      let same : suc k + j ≡ k + suc j = omega arith in
-      goals-each n (suc k) j (omega arith) ∙ ap (λ i. goal_at t (get_or persons i 0) (get_or places i 0)) same
+  goals-each : (pairs : List Pair) (k : ℕ) → k < length pairs
+      → get_or (goals_at t pairs) k no_goal ≡ goal_at t (get_or pairs k (pair 0 0)).person (get_or pairs k (pair 0 0)).place
+  unfolding goals_at
+  goals-each [] k l = absurd (omega arith)
+  goals-each (p ∷ pairs) zero l = refl
+  goals-each (p ∷ pairs) (suc k) l = goals-each pairs k (omega arith)
 
 -- what a node's children are asked is what its numbers ask
-pub children-goals : {t : List ℕ} {S A O levels : ℕ} {above : Above} {s : StateSets} {goals : List Goal} {a : Asked}
-    → Children t S A O levels above s goals a → goals ≡ goals_from t a 0
-children-goals {t} {goals = goals} {a = a} children =
-    let all : a.len - 0 ≡ a.len = omega arith in
-    rw all
-    (ext_get_or no_goal goals (goals_at t (pairs_from a.persons a.places a.len 0))
-    (sym children.count ∙ sym (goals-count t a.persons a.places a.len 0))
-    (λ k l.
-    let here : 0 + k ≡ k = omega arith in
-    sym (children.goals-are k (omega (arith, children.count)))
-    ∙ sym (goals-each t a.persons a.places a.len 0 k (omega (arith, children.count))
-    ∙ ap (λ i. goal_at t (get_or a.persons i 0) (get_or a.places i 0)) here)))
+module _ {t : List ℕ} {S A O levels : ℕ} {above : Above} {s : StateSets} {goals : List Goal} {pairs : List Pair}
+    (children : Children t S A O levels above s goals pairs) where
+  pub children-goals : goals ≡ goals_at t pairs
+  children-goals =
+      ext_get_or no_goal goals (goals_at t pairs) (sym children.count ∙ sym (goals-count t pairs))
+      (λ k l.
+      sym (children.goals-are k (omega (arith, children.count))) ∙ sym (goals-each t pairs k (omega (arith, children.count))))
 
-pub children-asked : {t : List ℕ} {S A O levels : ℕ} {above : Above} {s : StateSets} {goals : List Goal} {a : Asked}
-    → Children t S A O levels above s goals a → Children t S A O levels above s (goals_from t a 0) a
-children-asked children = rw (children-goals children) at children
+  pub children-asked : Children t S A O levels above s (goals_at t pairs) pairs
+  children-asked = rw children-goals at children
+
+  -- and so from goal k on
+  pub children-drop : (k : ℕ) → Children t S A O levels above s (goals_at t (drop k pairs)) (drop k pairs)
+  children-drop k =
+      record {
+        count = sym (goals-count t (drop k pairs));
+        stands = λ j l. rw (get_or-drop k pairs j (pair 0 0)) (children.stands (k + j) (later j l));
+        proved = λ j l. rw (get_or-drop k pairs j (pair 0 0)) (children.proved (k + j) (later j l));
+        goals-are = λ j l. sym (goals-each t (drop k pairs) j l);
+      }
+    where
+      later : (j : ℕ) → j < length (drop k pairs) → k + j < length pairs
+      later j l = omega (arith, length-drop k pairs)
 
 -- a goal whose node is to be chosen: it suits what is wanted, and branch and state sets are one role on
 pub record Entered (t : List ℕ) (S A O levels : ℕ) (above deeper : Above) (s below : StateSets) (wants : ℕ → Bool)
@@ -162,8 +169,8 @@ module _ {t : List ℕ} {S A O levels : ℕ} {above deeper : Above} {s below : S
         ∙ met-alone t A O entered.well_formed g n.credential n.middle asks applies s children
         ∙ ap (λ x. node_met t A O x asks children) (sym entered.moved)
 
-    pub chosen-suits : (n.asked.len ≡ 0 → ⊥)
-        → suits (proves t S A O (levels - 1) deeper below) O wants (goals_from t n.asked 0) ≡ true
+    pub chosen-suits : (length (listed n.asked) ≡ 0 → ⊥)
+        → suits (proves t S A O (levels - 1) deeper below) O wants (goals_at t (listed n.asked)) ≡ true
     chosen-suits some-goals = rw (children-goals chosen.children) at (chosen.suited some-goals)
 
     -- its numbers are put
@@ -176,7 +183,7 @@ module _ {t : List ℕ} {S A O levels : ℕ} {above deeper : Above} {s below : S
           × (next ≤ most → met ≡ met_from t A O s (first_forest t S A O levels above s wants (g ∷ [])))
 
       -- it asks nothing
-      pub node-ends : n.asked.len ≡ 0 → {accepting : ℕ} → accepting ≡ accepting_set t below
+      pub node-ends : length (listed n.asked) ≡ 0 → {accepting : ℕ} → accepting ≡ accepting_set t below
           → Told mid (at + 2) (bit_and O accepting)
       unfolding node_met pick written
       node-ends none accepting-is =
@@ -200,11 +207,11 @@ module _ {t : List ℕ} {S A O levels : ℕ} {above deeper : Above} {s below : S
           (rw tree-written (walked-beyond (walked-any put most) (written children) over), λ room. absurd (omega arith))
 
       -- what it asks is walked
-      pub node-goes : (n.asked.len ≡ 0 → ⊥) → {after : List ℕ} {next met : ℕ}
-          → Walked (at + 2) most (written (first_forest t S A O (levels - 1) deeper below wants (goals_from t n.asked 0))) mid
+      pub node-goes : (length (listed n.asked) ≡ 0 → ⊥) → {after : List ℕ} {next met : ℕ}
+          → Walked (at + 2) most (written (first_forest t S A O (levels - 1) deeper below wants (goals_at t (listed n.asked)))) mid
           after next
           → (next ≤ most → met ≡ met_from t A O below
-          (first_forest t S A O (levels - 1) deeper below wants (goals_from t n.asked 0)))
+          (first_forest t S A O (levels - 1) deeper below wants (goals_at t (listed n.asked))))
           → Told after next met
       node-goes some-goals on meets =
           let same = children-goals chosen.children in (

@@ -14,17 +14,18 @@ ghost use Rattle.derivation.specs.Rules.{goal_of};
 ghost use Rattle.derivation.specs.Forest.{written};
 ghost use Rattle.members.specs.Above.{nothing_above};
 ghost use Rattle.members.specs.Members.{Members};
-ghost use Rattle.search.specs.Search.{Prepared, Searchable, Stands, goal_at, provable, proves};
-ghost use Rattle.search.specs.Failing.{Remembered, FoundBelow};
-ghost use Rattle.choice.specs.Choice.{Children, Wanted, suits_all};
+ghost use Rattle.search.specs.Search.{Prepared, Stands, goal_at, provable, proves};
+ghost use Rattle.search.specs.Failing.{FoundBelow, Remembered};
+ghost use Rattle.search.specs.Grounds.{RememberedOn, SearchableOn};
+ghost use Rattle.choice.specs.Choice.{Wanted, suits_on};
 ghost use Rattle.walking.specs.First.{first_forest, leaves};
-ghost use Rattle.walking.specs.Walked.{Walked, Walks, first_on, goals_from, later_test};
+ghost use Rattle.walking.specs.Walked.{ChildrenOn, Walked, WalksOn, goals_at, later_test};
 
 use automata::StateSets;
 use families::Family;
-use goals::Terms;
+use goals::{Ground, Spot, Terms};
 use members::Above;
-use search::Asked;
+use search::Pair;
 use sets::{AutomatonSet, CredentialSet, StateSet};
 use table::{Number, Query, layout};
 
@@ -57,18 +58,24 @@ pub fn from_goal(
         rec.old rec.new result
         × Remembered table.now terms.allowed terms.constraints terms.owed memory.new }
 {
-    let walked = walk(
+    let ground = Ground {
         table,
         index,
         arcs,
         rows,
         terms,
+    };
+    let start = Spot {
+        levels: layout::wide(query.depth),
+        states: StateSets::start(table),
+        above: Above::nothing(),
+    };
+    let walked = walk(
+        &ground,
         Family::only(terms.owed),
         members::goal_person(index),
         members::goal_role(index),
-        layout::wide(query.depth),
-        StateSets::start(table),
-        Above::nothing(),
+        start,
         memory,
         most,
         0,
@@ -81,220 +88,138 @@ pub fn from_goal(
 // goes into the cells from `at` on. Where the cell behind it lies beyond `most`, the walk may have stopped before.
 #[cycle(walk_on)]
 fn walk(
-    table: &[Number],
-    index: &[u8],
-    arcs: &[StateSet],
-    rows: &[CredentialSet],
-    terms: Terms,
+    ground: &Ground,
     wanted: Family,
     person: usize,
     place: usize,
-    levels: usize,
-    states: StateSets,
-    above: Above,
+    spot: Spot,
     memory: &mut [u32],
     most: usize,
     at: usize,
     rec: &mut [Number],
 ) -> Reached
-    requires searchable { Searchable table.now index.now arcs.now rows.now terms.allowed levels terms.last }
-    requires stands { Stands table.now person place × (place < credentials table.now) }
-    requires wanted { Wanted terms.owed wanted }
-    requires remembered { Remembered table.now terms.allowed terms.constraints terms.owed memory.old }
-    requires place_value { suits_all table.now terms wanted levels above states (goal_at table.now person place ∷ []) ≡ true }
+    requires searchable { SearchableOn ground.now spot.levels }
+    requires stands { Stands ground.now.table.now person place × (place < credentials ground.now.table.now) }
+    requires wanted { Wanted ground.now.terms.owed wanted }
+    requires remembered { RememberedOn ground.now memory.old }
+    requires place_value { suits_on ground.now wanted spot (goal_at ground.now.table.now person place ∷ []) ≡ true }
     requires at_le_most { (at ≤ most) × (most < 2 ^ 63) }
-    ensures { Walks table.now terms states
-        (first_on table.now terms wanted levels above states (goal_at table.now person place ∷ []))
-        at most rec.old rec.new result
-        × Remembered table.now terms.allowed terms.constraints terms.owed memory.new }
+    ensures { WalksOn ground.now wanted spot (goal_at ground.now.table.now person place ∷ []) at most rec.old rec.new result
+        × RememberedOn ground.now memory.new }
 {
-    let below = goals::stepped(table, arcs, terms.constraints | terms.owed, place, states);
-    let deeper = above.with(person, place);
-    let node = choice::choose(
-        table,
-        index,
-        arcs,
-        rows,
-        terms,
-        wanted,
-        person,
-        place,
-        levels - 1,
-        below.states,
-        deeper,
-        memory,
-    );
+    let moved = goals::stepped(ground, place, spot.states);
+    let below = Spot {
+        levels: spot.levels - 1,
+        states: moved.states,
+        above: spot.above.with(person, place),
+    };
+    let node = choice::choose(ground, wanted, person, place, below, memory);
     put(node.credential, node.middle, at, rec);
     let next = at + 2;
-    if node.asked.len == 0 {
+    if node.asked.len() == 0 {
+        let accepting = moves::accepting(below.states, ground.table, ground.arcs);
         return Reached {
-            next: next,
-            met: terms.owed & moves::accepting(below.states, table, arcs),
+            next,
+            met: ground.terms.owed & accepting,
         };
     }
     if most < next {
-        return Reached { next: next, met: 0 };
+        return Reached { next, met: 0 };
     }
-    walk_asked(
-        table,
-        index,
-        arcs,
-        rows,
-        terms,
-        wanted,
-        node.asked,
-        levels - 1,
-        below.states,
-        deeper,
-        memory,
-        most,
-        next,
-        rec,
-    )
+    let asked = node.asked.as_slice();
+    walk_asked(ground, wanted, asked, below, memory, most, next, rec)
 }
 
 // Walks the records of the goals that are asked, in order. Each goal may meet what leaves to those behind it what they can meet
 // of what those before it have not met.
 #[cycle(walk_on)]
 fn walk_asked(
-    table: &[Number],
-    index: &[u8],
-    arcs: &[StateSet],
-    rows: &[CredentialSet],
-    terms: Terms,
+    ground: &Ground,
     wanted: Family,
-    asked: Asked,
-    levels: usize,
-    states: StateSets,
-    above: Above,
+    asked: &[Pair],
+    spot: Spot,
     memory: &mut [u32],
     most: usize,
     from: usize,
     rec: &mut [Number],
 ) -> Reached
-    requires searchable { Searchable table.now index.now arcs.now rows.now terms.allowed levels terms.last }
-    requires children { Children table.now terms.allowed terms.constraints terms.owed levels above states
-        (goals_from table.now asked 0) asked }
-    requires wanted { Wanted terms.owed wanted }
-    requires remembered { Remembered table.now terms.allowed terms.constraints terms.owed memory.old }
-    requires asked_value { suits_all table.now terms wanted levels above states (goals_from table.now asked 0) ≡ true }
+    requires searchable { SearchableOn ground.now spot.levels }
+    requires children { ChildrenOn ground.now spot asked.now }
+    requires wanted { Wanted ground.now.terms.owed wanted }
+    requires remembered { RememberedOn ground.now memory.old }
+    requires asked_value { suits_on ground.now wanted spot (goals_at ground.now.table.now asked.now) ≡ true }
     requires from_le_most { (from ≤ most) × (most < 2 ^ 63) }
-    ensures { Walks table.now terms states
-        (first_on table.now terms wanted levels above states (goals_from table.now asked 0))
-        from most rec.old rec.new result
-        × Remembered table.now terms.allowed terms.constraints terms.owed memory.new }
+    ensures { WalksOn ground.now wanted spot (goals_at ground.now.table.now asked.now) from most rec.old rec.new result
+        × RememberedOn ground.now memory.new }
 {
-    let persons = asked.persons;
-    let places = asked.places;
     let mut next = from;
     let mut met = 0;
-    let mut k = 0;
-    while k < asked.len {
-        let here = wanted_here(
-            table,
-            index,
-            arcs,
-            rows,
-            terms,
-            wanted,
-            met,
-            asked,
-            k + 1,
-            levels,
-            states,
-            above,
-            memory,
-        );
+    for (k, goal) in asked.iter().enumerate() {
+        let here = wanted_here(ground, wanted, met, &asked[k + 1..], spot, memory);
         let walked = walk(
-            table, index, arcs, rows, terms, here, persons[k], places[k], levels, states, above,
-            memory, most, next, rec,
+            ground,
+            here,
+            goal.person,
+            goal.place,
+            spot,
+            memory,
+            most,
+            next,
+            rec,
         );
         next = walked.next;
         if most < next {
             break;
         }
-        met = met | walked.met;
-        k += 1;
+        met |= walked.met;
     }
-    Reached {
-        next: next,
-        met: met,
-    }
+    Reached { next, met }
 }
 
-// What the goal before the goals from `from` on may meet, where those before it have met `met`. Where nothing is owed there is
-// nothing to share out; where what has been met is wanted already, what the goals behind it can meet need not be known.
+// What a goal may meet before the later ones, where those before it have met `met`. Where nothing is owed there is nothing to share
+// out; where what has been met is wanted already, what the goals behind it can meet need not be known.
 fn wanted_here(
-    table: &[Number],
-    index: &[u8],
-    arcs: &[StateSet],
-    rows: &[CredentialSet],
-    terms: Terms,
+    ground: &Ground,
     wanted: Family,
     met: AutomatonSet,
-    asked: Asked,
-    from: usize,
-    levels: usize,
-    states: StateSets,
-    above: Above,
+    later: &[Pair],
+    spot: Spot,
     memory: &mut [u32],
 ) -> Family
-    requires searchable { Searchable table.now index.now arcs.now rows.now terms.allowed levels terms.last }
-    requires children { Children table.now terms.allowed terms.constraints terms.owed levels above states
-        (goals_from table.now asked 0) asked }
-    requires wanted { Wanted terms.owed wanted }
-    requires remembered { Remembered table.now terms.allowed terms.constraints terms.owed memory.old }
-    requires owed_value { (part met terms.owed ≡ true) × (from ≤ asked.len) }
-    ensures { FamilyOf (leaves
-        (proves table.now terms.allowed terms.constraints terms.owed levels above states) terms.owed
-        (λ X. in_family wanted (bit_or met X)) (goals_from table.now asked from)) result
-        × Remembered table.now terms.allowed terms.constraints terms.owed memory.new }
+    requires searchable { SearchableOn ground.now spot.levels }
+    requires children { ChildrenOn ground.now spot later.now }
+    requires wanted { Wanted ground.now.terms.owed wanted }
+    requires remembered { RememberedOn ground.now memory.old }
+    requires met_owed { part met ground.now.terms.owed ≡ true }
+    ensures { let g = ground.now in FamilyOf (leaves
+        (proves g.table.now g.terms.allowed g.terms.constraints g.terms.owed spot.levels spot.above spot.states) g.terms.owed
+        (λ X. in_family wanted (bit_or met X)) (goals_at g.table.now later.now)) result
+        × RememberedOn g memory.new }
 {
-    if terms.owed == 0 {
+    let owed = ground.terms.owed;
+    if owed == 0 {
         return wanted;
     }
     let now = Family::only(met);
     if wanted.has(met) {
-        return wanted.left_by(now, terms.owed);
+        return wanted.left_by(now, owed);
     }
-    let later = met_from(
-        table, index, arcs, rows, terms, asked, from, levels, states, above, memory,
-    );
-    wanted.left_by(now.joined(later), terms.owed)
+    let rest = met_from(ground, later, spot, memory);
+    wanted.left_by(now.joined(rest), owed)
 }
 
-// What the goals from `from` on can meet together, the last of them first.
-fn met_from(
-    table: &[Number],
-    index: &[u8],
-    arcs: &[StateSet],
-    rows: &[CredentialSet],
-    terms: Terms,
-    asked: Asked,
-    from: usize,
-    levels: usize,
-    states: StateSets,
-    above: Above,
-    memory: &mut [u32],
-) -> Family
-    requires searchable { Searchable table.now index.now arcs.now rows.now terms.allowed levels terms.last }
-    requires children { Children table.now terms.allowed terms.constraints terms.owed levels above states
-        (goals_from table.now asked 0) asked }
-    requires from_le_len { from ≤ asked.len }
-    requires remembered { Remembered table.now terms.allowed terms.constraints terms.owed memory.old }
-    ensures { FoundBelow terms.owed (later_test table.now terms.allowed terms.constraints terms.owed
-        levels states (goals_from table.now asked from)) above result
-        × Remembered table.now terms.allowed terms.constraints terms.owed memory.new }
+// What these goals can meet together, the last of them first.
+fn met_from(ground: &Ground, later: &[Pair], spot: Spot, memory: &mut [u32]) -> Family
+    requires searchable { SearchableOn ground.now spot.levels }
+    requires children { ChildrenOn ground.now spot later.now }
+    requires remembered { RememberedOn ground.now memory.old }
+    ensures { let g = ground.now in FoundBelow g.terms.owed (later_test g.table.now g.terms.allowed g.terms.constraints g.terms.owed
+        spot.levels spot.states (goals_at g.table.now later.now)) spot.above result
+        × RememberedOn g memory.new }
 {
-    let persons = asked.persons;
-    let places = asked.places;
     let mut met = Family::only(0);
-    let mut k = asked.len;
-    while from < k {
-        k -= 1;
-        let answer = search::goal_search(
-            table, index, arcs, rows, terms, persons[k], places[k], levels, states, above, memory,
-        );
+    for k in (0..later.len()).rev() {
+        let answer = search::goal_search(ground, later[k].person, later[k].place, spot, memory);
         met = answer.found.joined(met);
     }
     met
