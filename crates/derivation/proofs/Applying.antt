@@ -6,7 +6,7 @@ use mathlib.Core.Bool.{Bool, true, false}
 use mathlib.Core.Option.{Option, none, some}
 use Prim.Native.Nat.{ℕ, ◌≤◌}
 use native.Mathlib.Omega.{arith}
-use lib.ListN.{length, take}
+use lib.ListN.{length}
 use borrow.Author.Tests.{eqb-true}
 use Rattle.sets.specs.Logic.{◌and◌, pick}
 use Rattle.table.specs.Layout.{Numbered, cell, chain, credential, credentials, parts, parts_by, role, same_role}
@@ -14,8 +14,6 @@ use Rattle.table.specs.declared.Role.{Role}
 use Rattle.table.specs.declared.Goal.{Goal}
 use Rattle.sets.proofs.Tests.{and_first, and_second}
 use Rattle.derivation.specs.Rules.{asks, premises, premises_by, usable, when}
-use Rattle.derivation.specs.Held.{given}
-use Rattle.derivation.specs.declared.Premises.{Premises}
 use Rattle.derivation.proofs.Usable.{usable-numbered}
 use Rattle.derivation.proofs.Asking.{asks-1}
 
@@ -75,12 +73,3 @@ pub asks-more : (t : List ℕ) (g : Goal) (c m : ℕ) (h : Goal) (goals : List G
     → (credential t c).kind ≡ 1 → ⊥
 asks-more t g c m h goals applies one =
     cons-nil (sym (when-some _ [] (h ∷ goals) (asks-1 t g (credential t c) m one ∙ applies-asks t g c m (h ∷ goals) applies)))
-
--- what the code holds of the premises
-pub given-none : (p : Premises) → p.applies ≡ false → given p ≡ none
-unfolding given pick
-given-none p h = rw h
-
-pub given-some : (p : Premises) → p.applies ≡ true → given p ≡ some (take p.len p.goals)
-unfolding given pick
-given-some p h = rw h

@@ -1,14 +1,15 @@
 -- The rules, case by case: what a credential asks once the code's tests are known.
 use mathlib.Core.Path.{◌≡◌, refl, sym, ap, ◌∙◌}
 use mathlib.Core.List.{List, map, map-append}
-use mathlib.Core.Bool.{Bool, true, false}
+use mathlib.Core.Bool.{Bool, true, false, not, ◌&&◌}
 use mathlib.Core.Option.{none, some}
 use Prim.Native.Nat.{ℕ, ◌+◌, ◌≤◌, ◌<◌}
 use native.Mathlib.Omega.{arith}
 use native.Mathlib.Numerals.{add-one}
 use lib.ListN.{get_or, length, set, take, length-set}
 use lib.Seq.{take-suc, take-suc-set}
-use borrow.Author.Tests.{ne_eqb, le-leb, lt-leb}
+use lib.Dec.{eqb}
+use borrow.Author.Tests.{ne_eqb, le-leb, lt-leb, not-true, not-false}
 use Rattle.sets.specs.Logic.{◌and◌, pick}
 use Rattle.table.specs.Limits.{most_parts, most_principals}
 use Rattle.table.specs.Layout.{Numbered, cells, credential, credentials, parts, principal, same_role}
@@ -18,13 +19,11 @@ use Rattle.table.proofs.WellFormed.{wf-chain-ok, wf-credential}
 use Rattle.table.specs.declared.Role.{Role}
 use Rattle.table.specs.declared.Goal.{Goal}
 use Rattle.table.specs.declared.Credential.{Credential}
-use Rattle.sets.proofs.Tests.{and_is, and-is-off}
+use Rattle.sets.proofs.Tests.{and_is, and-is-off, passed}
+use Rattle.table.proofs.Equality.{role-eq}
+use Rattle.derivation.proofs.Usable.{usable-numbered}
 use Rattle.derivation.specs.Rules.{asks, asks_by, containment_asks, goal, intersection_asks}
 use Rattle.derivation.specs.Rules.{linking_asks, membership_asks, premises, premises_by, usable, when}
-
--- a callee's answer, which is what the caller promises
-pub answer-is : {A B : Type 0} {x y z : B} → A × (x ≡ y) → y ≡ z → A × (x ≡ z)
-answer-is h e = (h.0, h.1 ∙ e)
 
 pub when-off : {test : Bool} (goals : List Goal) → test ≡ false → none ≡ when test goals
 unfolding pick
@@ -84,27 +83,24 @@ module _ (t : List ℕ) (g : Goal) (c m : ℕ) where
     unfolding premises premises_by pick
     own-role h = rw (and_is may (rw read at h), read)
 
--- the goals of an intersection, gathered part by part
-pub record Asked (g : Goal) (roles : List Role) (goals : List Goal) (i : ℕ) : Type 0 where
-  pub size : length goals ≡ most_parts
-  pub so_far : take i goals ≡ map (λ (r : Role). goal g.principal r) (take i roles)
+-- the same by what the code's calls and tests tell: whether c is usable, and the number by which it is read
+module _ (t : List ℕ) {c at : ℕ} {can : Bool} (usables : can ≡ usable t c) (may : can ≡ true) (place : at ≡ c) where
+  pub there : Numbered (credentials t) c
+  there = usable-numbered t c (passed usables may)
 
--- one part more: role r of the chain stands at i
-pub asked-more : (g : Goal) (roles : List Role) (goals : List Goal) (i : ℕ) (d : Role) → Asked g roles goals i → i < most_parts
-    → i < length roles → Asked g roles (set goals i (goal g.principal (get_or roles i d))) (i + 1)
-asked-more g roles goals i d a room there =
-    let one_more = take-suc-set goals i (goal g.principal (get_or roles i d)) (omega (arith, a.size)) in
-    record {
-      size = simp length-set a.size;
-      so_far = rw (add-one i, one_more, take-suc roles i d there, map-append, ← a.so_far);
-    }
+  pub found : {x : Credential} → x ≡ credential t at → x ≡ credential t c
+  found read = read ∙ ap (credential t) place
 
-pub asked-none : (g : Goal) (roles : List Role) (goals : List Goal) → length goals ≡ most_parts → Asked g roles goals 0
-asked-none g roles goals size = record { size = size; so_far = refl }
+  -- and whether its role is another than the goal's
+  module _ {other : Bool} {x : Credential} (g : Goal) (m : ℕ) (read : x ≡ credential t at)
+      (differs : other ≡ not (eqb x.role.owner.0 g.role.owner.0 && eqb x.role.name.0 g.role.name.0)) where
+    pub asks-other : other ≡ true → none ≡ premises t g c m
+    asks-other h =
+        other-role t g c m (passed usables may) x (found read) (sym (role-eq x.role g.role refl) ∙ not-true _ (sym differs ∙ h))
 
-pub asked-all : (g : Goal) (roles : List Role) (goals : List Goal) (i len : ℕ) → i ≡ len → Asked g roles goals i
-    → take len goals ≡ map (λ (r : Role). goal g.principal r) (take len roles)
-asked-all g roles goals i len all a = rw all at a.so_far
+    pub asks-own : other ≡ false → asks t g x m ≡ premises t g c m
+    asks-own h =
+        own-role t g c m (passed usables may) x (found read) (sym (role-eq x.role g.role refl) ∙ not-false _ (sym differs ∙ h))
 
 -- an intersection's first cell is there, and its chain has 2 to 4 cells; the code has read credential c as x
 pub chain-there : (t : List ℕ) → WellFormed t → (c : ℕ) → Numbered (credentials t) c → (x : Credential) → x ≡ credential t c

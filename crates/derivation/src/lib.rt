@@ -8,28 +8,21 @@ pub mod rules; // rules.rt: which goals a credential asks
 ghost use Rattle.std.specs.Prelude.{◌≡◌};
 ghost use Rattle.derivation.specs.Rules.{goal_of};
 
+use few::Few;
 use table::{Goal, Query, Role, layout};
 
-// Which goals a credential asks: the first `len`; or that it does not apply.
-#[derive(Clone, Copy)]
-pub struct Premises {
-    pub applies: bool,
-    pub len: usize,
-    pub goals: [Goal; layout::MOST_PARTS],
-}
+// The goals that a credential asks, in order.
+pub type Premises = Few<Goal, { layout::MOST_PARTS }>;
 
 // The queried membership.
 pub fn goal_of(query: Query) -> Goal
     ensures { result ≡ goal_of query }
 {
-    let principal = query.principal;
-    let owner = query.owner;
-    let name = query.name;
     Goal {
-        principal: principal,
+        principal: query.principal,
         role: Role {
-            owner: owner,
-            name: name,
+            owner: query.owner,
+            name: query.name,
         },
     }
 }

@@ -1,16 +1,8 @@
--- What the accessors of a table ask and promise: that the head and every record are there, what a count is, and how a chain is
--- held in an array.
-use Rattle.std.specs.Prelude.{ℕ, ◌≤◌, ◌≡◌, List, length, take}
-use Rattle.table.specs.Limits.{most_credentials, most_cells, most_automata, most_edges, most_parts}
-use Rattle.table.specs.Layout.{automata, cells, credentials, edges, head_size, parts, table_length}
+-- What the accessors of a table ask and promise: that the head and every record are there, and what a count is.
+use Rattle.std.specs.Prelude.{ℕ, ◌≤◌, ◌≡◌, List, length}
+use Rattle.table.specs.Limits.{most_credentials, most_cells, most_automata, most_edges}
+use Rattle.table.specs.Layout.{automata, cells, credentials, edges, head_size, table_length}
 use Rattle.table.specs.Checks.{AcceptedTable}
-use Rattle.table.specs.declared.Chain.{Chain}
-
--- a chain held in an array: the first `len` of its four roles are the parts
-pub record HoldsChain (t : List ℕ) (first : ℕ) (held : Chain) : Type 0 where
-  pub few : held.len ≤ most_parts
-  pub room : length held.roles ≡ most_parts
-  pub roles : take held.len held.roles ≡ parts t first
 
 -- a count that the head says is n: it is inside its limit
 pub record Counts (most n count : ℕ) : Type 0 where

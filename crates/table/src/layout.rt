@@ -5,9 +5,11 @@ ghost use Rattle.table.specs.Limits.{most_automata, most_cells, most_credentials
 ghost use Rattle.table.specs.Layout;
 ghost use Rattle.table.specs.Layout.{Numbered, automaton_size, cell_size, credential_size, edge_size};
 ghost use Rattle.table.specs.Checks.{chain_ok};
-ghost use Rattle.table.specs.Holding.{Counted, Counts, HoldsChain, Sized, WellFormed};
+ghost use Rattle.table.specs.Holding.{Counted, Counts, Sized, WellFormed};
+ghost use Rattle.few.specs.Listed.{listed};
 
 use crate::{Automaton, Cell, Chain, Credential, Edge, Name, Number, Principal, Role};
+use few::Few;
 use sets::StateSet;
 
 pub const MOST_CREDENTIALS: Number = 20;
@@ -135,25 +137,19 @@ pub fn chain(table: &[Number], first: Number) -> Chain
     requires well_formed { WellFormed table.now }
     requires numbered { Numbered (Layout.cells table.now) first }
     requires first_value { chain_ok table.now first ≡ true }
-    ensures { HoldsChain table.now first result }
+    ensures { listed result ≡ Layout.parts table.now first }
 {
-    let mut roles = [Role {
+    let mut roles = Few::none(Role {
         owner: Principal(0),
         name: Name(0),
-    }; MOST_PARTS];
-    let mut len = 0;
+    });
     let mut j = first;
     while j != 0 {
         let c = cell(table, wide(j));
-        let role = c.role;
-        roles[len] = role;
-        len += 1;
+        roles.push(c.role);
         j = c.next;
     }
-    Chain {
-        len: len,
-        roles: roles,
-    }
+    roles
 }
 
 pub fn automaton(table: &[Number], k: usize) -> Automaton

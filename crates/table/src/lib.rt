@@ -10,6 +10,8 @@ ghost use Rattle.table.specs.Layout.{same_role};
 ghost use Rattle.table.specs.Kinds.{Reads, kind_number, label_number, mark_number};
 ghost use Rattle.table.specs.Checks.{number_of};
 
+use few::Few;
+
 // The width of every number of a table, a query and a record.
 pub type Number = u16;
 
@@ -111,12 +113,8 @@ pub struct Cell {
     pub next: Number,
 }
 
-// The parts of an intersection, in chain order: the first `len` roles.
-#[derive(Clone, Copy)]
-pub struct Chain {
-    pub len: usize,
-    pub roles: [Role; layout::MOST_PARTS],
-}
+// The parts of an intersection, in chain order.
+pub type Chain = Few<Role, { layout::MOST_PARTS }>;
 
 // Sets of states: state s counts 2^s. The mark says what is demanded of a record's words: that every one is accepted, or one.
 #[derive(Clone, Copy)]
