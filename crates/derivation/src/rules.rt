@@ -8,10 +8,7 @@ ghost use Rattle.derivation.specs.Held.{given};
 
 use crate::Premises;
 use few::Few;
-use table::{
-    Chain, Credential, Goal, INTERSECTION_CONTAINMENT, LINKING_CONTAINMENT, Name, Number,
-    Principal, Role, SIMPLE_CONTAINMENT, SIMPLE_MEMBERSHIP, layout,
-};
+use table::{Chain, Credential, Goal, Kind, Name, Number, Principal, Role, layout};
 
 // What the credential asks with this middle, or none where it does not apply.
 pub fn premises(table: &[Number], goal: Goal, c: Number, middle: Number) -> Option<Premises>
@@ -25,16 +22,16 @@ pub fn premises(table: &[Number], goal: Goal, c: Number, middle: Number) -> Opti
     if credential.role != goal.role {
         return None;
     }
-    match credential.kind {
-        SIMPLE_MEMBERSHIP => membership(credential, goal, middle),
-        SIMPLE_CONTAINMENT => containment(credential, goal, middle),
-        LINKING_CONTAINMENT => linking(credential, goal, middle),
-        INTERSECTION_CONTAINMENT => intersection(
+    match Kind::try_from(credential.kind) {
+        Ok(Kind::SimpleMembership) => membership(credential, goal, middle),
+        Ok(Kind::SimpleContainment) => containment(credential, goal, middle),
+        Ok(Kind::LinkingContainment) => linking(credential, goal, middle),
+        Ok(Kind::IntersectionContainment) => intersection(
             layout::chain(table, credential.first),
             goal,
             middle,
         ),
-        _ => None,
+        Err(_) => None,
     }
 }
 

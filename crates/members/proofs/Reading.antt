@@ -6,11 +6,9 @@ use Prim.Native.Nat.{ℕ, zero, suc, ◌+◌, ◌<◌}
 use native.Mathlib.Omega.{arith}
 use native.Mathlib.Decide.{ℕ_discrete}
 use native.Mathlib.Numerals.{add-one}
-use lib.ListN.{length, replicate}
-use lib.Seq.{length-take-le}
-use Rattle.table.specs.Layout.{Numbered, credential, credentials, parts}
-use Rattle.table.specs.Holding.{HoldsChain, WellFormed}
-use Rattle.table.specs.declared.Chain.{Chain}
+use lib.ListN.{replicate}
+use Rattle.table.specs.Layout.{Numbered, credential, credentials}
+use Rattle.table.specs.Holding.{WellFormed}
 use Rattle.table.specs.declared.Credential.{Credential}
 use Rattle.table.proofs.WellFormed.{wf-credential}
 use Rattle.derivation.proofs.Asking.{chain-there}
@@ -44,11 +42,6 @@ whole t wf i there x read =
       first = λ four. (chained four).0;
       chained = λ four. (chained four).1;
     }
-
--- a chain as the code holds it
-pub held-length : (t : List ℕ) (first : ℕ) (held : Chain) → HoldsChain t first held → length (parts t first) ≡ held.len
-held-length t first held holds =
-    rw (← holds.roles) (length-take-le held.len held.roles (omega (arith, holds.few, holds.room)))
 
 -- zeros are blank
 pub zeros : (n : ℕ) → Blank (replicate n 0)
