@@ -1,4 +1,4 @@
--- A node's entry, test by test: rows 11, 12 and 13, and what the code's step says of them.
+-- A node's entry, test by test: rows 11, 12 and 13.
 use mathlib.Core.Path.{◌≡◌, refl, ap, ◌∙◌}
 use mathlib.Core.List.{List, [], ◌∷◌}
 use mathlib.Core.Bool.{Bool, true, false}
@@ -8,14 +8,11 @@ use native.Mathlib.Omega.{arith}
 use lib.ListN.{drop, get_or, length, take}
 use borrow.Author.Tests.{ne_eqb}
 use Rattle.sets.specs.Logic.{pick}
-use Rattle.table.specs.Limits.{most_parts}
 use Rattle.table.specs.declared.Goal.{Goal}
 use Rattle.derivation.specs.Rules.{fresh, premises}
 use Rattle.entering.specs.Entry.{Entry, admitted, entry, entry_by}
 use Rattle.entering.specs.Entry.Entry.{ask, halt}
-use Rattle.derivation.specs.Held.{GoalsFit}
-use Rattle.entering.specs.Steps.{Halted, may, stepped}
-use Rattle.entering.specs.declared.Step.{Step}
+use Rattle.entering.specs.Steps.{may}
 
 pub may_none : (levels : ℕ) (branch : List Goal) (g : Goal) → levels ≡ 0 → may levels branch g ≡ false
 unfolding may
@@ -25,22 +22,6 @@ pub may-fresh : (levels : ℕ) (branch : List Goal) (g : Goal) → (levels ≡ 0
 unfolding may
 may-fresh zero branch g h = absurd (h refl)
 may-fresh (suc levels) branch g h = refl
-
--- the code's step says how a node is entered
-pub step-halts : (s : Step) (rec : List ℕ) → (s.refusal ≡ 0 → ⊥) → stepped s rec ≡ halt s.refusal
-unfolding stepped pick
-step-halts s rec h = rw (ne_eqb s.refusal 0 h)
-
-pub step-asks : (s : Step) (rec : List ℕ) → s.refusal ≡ 0
-    → stepped s rec ≡ ask s.credential s.middle (take s.len s.goals) (drop 2 rec)
-unfolding stepped pick
-step-asks s rec h = rw h
-
--- a step that halts says of the record what its entry says
-pub halts-with : {s : Step} {number : ℕ} {e : Entry} (rec : List ℕ) → 0 < number → Halted s number → halt number ≡ e
-    → GoalsFit most_parts s.len s.goals × (stepped s rec ≡ e)
-halts-with {s} {number} rec Some-number halted h =
-    (halted.room, step-halts s rec (λ z. omega (arith, halted.refusal)) ∙ ap halt halted.refusal ∙ h)
 
 module _ (t : List ℕ) (open' : Bool) (g : Goal) where
   pub entry-short : (rec : List ℕ) → length rec < 2 → halt 11 ≡ entry t open' g rec
