@@ -22,7 +22,10 @@ use Rattle.entering.specs.Entry.Entry.{ask, halt}
 use Rattle.entering.specs.Steps.{after_node, may}
 use Rattle.reader.specs.Reading.{Reading, entered, followed, joined, read_all, reader, reader_by}
 use Rattle.reader.specs.Reading.Reading.{read, stop}
-use Rattle.reader.specs.Tally.{ReadOn, Tallied, kept_from, numbers_told, tally, tally_on}
+use Rattle.table.specs.Checks.{number_of}
+use Rattle.table.specs.declared.Reason.{Reason}
+use Rattle.reader.specs.declared.Tally.{Tally}
+use Rattle.reader.specs.Tally.{ReadOn, StopsAt, Tallied, kept_from, read_from, tally, tally_on}
 use Rattle.reader.specs.Tally.Tallied.{passed, stopped}
 use Rattle.table.specs.Holding.{WellFormed}
 use Rattle.reader.proofs.FirstGoal.{reader-end}
@@ -79,33 +82,24 @@ unfolding tally_on tally reader_by read_all used_from count_from kept_from
 reads_none t zero branch s rec used nodes every some = refl
 reads_none t (suc levels) branch s rec used nodes every some = refl
 
--- the code's reader has read the first of Option.some goals: it passed, or it stopped
-module _ {t : List ℕ} {levels : ℕ} {branch : List Goal} {g : Goal} {s : StateSets} {rec : List ℕ} {used nodes every some : ℕ}
-    {rest : List ℕ} {used' nodes' every' some' refusal : ℕ}
-    (r : ReadOn t levels branch g s rec used nodes every some rest used' nodes' every' some' refusal) (goals : List Goal) where
-  abbrev both : Tallied
-  both = tally_on t levels branch (g ∷ goals) s rec used nodes every some
+-- the first of some goals is read before the others
+split : (t : List ℕ) (levels : ℕ) (branch : List Goal) (g : Goal) (goals : List Goal) (s : StateSets) (rec : List ℕ) (before : Tally)
+    → onward t s (reader t levels branch goals) (read_from t levels branch (g ∷ []) s rec before)
+    ≡ read_from t levels branch (g ∷ goals) s rec before
+split t levels branch g goals s rec before =
+    sym (reads_on t levels branch g goals s rec before.used before.nodes before.words.every before.words.some)
 
-  split : onward t s (reader t levels branch goals) (tally_on t levels branch (g ∷ []) s rec used nodes every some) ≡ both
-  split = sym (reads_on t levels branch g goals s rec used nodes every some)
+-- the code's reader has read it: it passed, or it stopped
+module _ {t : List ℕ} {levels : ℕ} {branch : List Goal} {g : Goal} {s : StateSets} {rec : List ℕ} {before : Tally} where
+  pub first-passed : (goals : List Goal) {rest : List ℕ} {after : Tally} → ReadOn t levels branch g s rec before rest after
+      → read_from t levels branch goals s rest after ≡ read_from t levels branch (g ∷ goals) s rec before
+  unfolding tally_on onward
+  first-passed goals r = ap (onward t s (reader t levels branch goals)) r.told ∙ split t levels branch g goals s rec before
 
-  pub first-passed : refusal ≡ 0 → tally_on t levels branch goals s rest used' nodes' every' some' ≡ both
-  unfolding tally_on numbers_told onward pick
-  first-passed h = ap (onward t s (reader t levels branch goals)) (rw h at r.told) ∙ split
-
-  pub first-stopped : (refusal ≡ 0 → ⊥) → stopped refusal nodes' ≡ both
-  unfolding numbers_told onward pick
-  first-stopped h = ap (onward t s (reader t levels branch goals)) (rw (ne_eqb refusal 0 h) at r.told) ∙ split
-
-pub stopped-told : (rest : List ℕ) (used nodes every some refusal : ℕ) → (refusal ≡ 0 → ⊥)
-    → numbers_told rest used nodes every some refusal ≡ stopped refusal nodes
-unfolding numbers_told pick
-stopped-told rest used nodes every some refusal h = rw (ne_eqb refusal 0 h)
-
-pub passed-told : (rest : List ℕ) (used nodes every some refusal : ℕ) → refusal ≡ 0
-    → numbers_told rest used nodes every some refusal ≡ passed rest used nodes every some
-unfolding numbers_told pick
-passed-told rest used nodes every some refusal h = rw h
+  pub first-stopped : (goals : List Goal) {why : Reason} {after : Tally} → StopsAt t levels branch g s rec before why after
+      → stopped (number_of why) after.nodes ≡ read_from t levels branch (g ∷ goals) s rec before
+  unfolding onward
+  first-stopped goals r = ap (onward t s (reader t levels branch goals)) r.told ∙ split t levels branch g goals s rec before
 
 -- a node that is entered: a level is left, two numbers are there, and the credential applies
 pub record Asks (t : List ℕ) (levels : ℕ) (g : Goal) (rec : List ℕ) (c m : ℕ) (goals : List Goal) : Type 0 where

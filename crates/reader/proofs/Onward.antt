@@ -5,40 +5,30 @@ use Prim.Native.Nat.{ℕ, suc, ◌+◌, ◌-◌, ◌^◌, ◌≤◌, ◌<◌}
 use native.Mathlib.Omega.{arith}
 use native.Mathlib.Numerals.{add-one}
 use lib.ListN.{drop, get_or, length, take, drop_of_length-le, length-drop}
-use lib.Seq.{drop-cons, get_or-take, length-take-le, take_all}
+use lib.Seq.{drop-cons, take_all}
 use lib.Bits.{bit_and, bit_or}
-use Rattle.table.specs.Limits.{most_credentials, most_parts}
+use Rattle.std.specs.Prelude.{Ok, Err}
+use Rattle.few.specs.Listed.{listed}
+use Rattle.table.specs.Limits.{most_credentials}
 use Rattle.table.specs.Layout.{Numbered, credential, credentials}
+use Rattle.table.specs.Checks.{number_of}
 use Rattle.table.specs.Holding.{WellFormed}
 use Rattle.table.specs.declared.Goal.{Goal}
+use Rattle.table.specs.declared.Reason.{Reason}
 use Rattle.automata.specs.Together.{moved_on, moved_sets}
 use Rattle.automata.specs.declared.Moved.{Moved}
 use Rattle.automata.specs.declared.StateSets.{StateSets}
 use Rattle.automata.proofs.Together.{states-moved}
 use Rattle.entering.specs.Entry.{entry}
 use Rattle.entering.specs.Entry.Entry.{ask}
-use Rattle.derivation.specs.Held.{GoalsFit, no_goal}
-use Rattle.branches.specs.Held.{above}
+use Rattle.derivation.specs.Held.{no_goal}
 use Rattle.entering.specs.Steps.{after_node, may, stepped}
-use Rattle.reader.specs.Tally.{ReadOn, Tallied, tally_on}
-use Rattle.reader.specs.Tally.Tallied.{passed, stopped}
-use Rattle.branches.specs.declared.Branch.{Branch}
+use Rattle.reader.specs.Tally.{ReadOn, StopsAt, passed_by, read_from}
+use Rattle.reader.specs.Tally.Tallied.{stopped}
+use Rattle.reader.specs.declared.Tally.{Tally}
 use Rattle.entering.specs.declared.Step.{Step}
 use Rattle.derivation.proofs.Applying.{applies-numbered, applies-role}
-use Rattle.entering.proofs.Entering.{step-asks, step-halts}
-use Rattle.reader.proofs.Keeping.{Asks, entry-asked, first-passed, first-stopped}
-use Rattle.reader.proofs.Keeping.{node-asks, node-stops, passed-told, reads_none, stopped-told}
-
--- the goals from the i-th on
-goals-from : (goals : List Goal) (len i : ℕ) → i < len → len ≤ length goals
-    → drop i (take len goals) ≡ get_or goals i no_goal ∷ drop (i + 1) (take len goals)
-goals-from goals len i less fits =
-    let there : i < length (take len goals) = omega (arith, length-take-le len goals fits) in
-    rw (add-one i, drop-cons (take len goals) i no_goal there, get_or-take)
-
-goals-through : (goals : List Goal) (len i : ℕ) → i ≡ len → len ≤ length goals → drop i (take len goals) ≡ []
-goals-through goals len i all fits =
-    rw all (drop_of_length-le (take len goals) {i = len} (omega (arith, length-take-le len goals fits)))
+use Rattle.reader.proofs.Keeping.{Asks, entry-asked, first-passed, first-stopped, node-asks, node-stops, reads_none}
 
 -- a part of a slice from a place on to its end
 part-behind : (rec : List ℕ) (n : ℕ) → n ≤ length rec → take (length rec - n) (drop n rec) ≡ drop n rec
@@ -47,98 +37,65 @@ part-behind rec n h = take_all (length rec - n) (drop n rec) (omega (arith, leng
 part_length : (rec : List ℕ) (n : ℕ) → n ≤ length rec → length (take (length rec - n) (drop n rec)) ≡ length rec - n
 part_length rec n h = rw (part-behind rec n h) (length-drop n rec)
 
--- each node takes two numbers, so nodes and numbers left stay below what they were
-room-kept : (rec rest : List ℕ) (nodes before : ℕ) → 2 ≤ length rec
-    → nodes + length rest ≤ before + 1 + length (take (length rec - 2) (drop 2 rec)) → nodes + length rest ≤ before + length rec
-room-kept rec rest nodes before long h = omega (arith, part_length rec 2 long)
+-- the first i children have been read, and the others are still to be read
+pub record Onward (t : List ℕ) (levels : ℕ) (branch goals : List Goal) (s : StateSets) (rest₀ : List ℕ) (kept₀ : Tally)
+    (rest : List ℕ) (kept : Tally) (i : ℕ) : Type 0 where
+  pub room : kept.nodes + length rest ≤ kept₀.nodes + length rest₀
+  pub whole : read_from t levels branch (drop i goals) s rest kept ≡ read_from t levels branch goals s rest₀ kept₀
 
--- reading has stopped, and the whole record is handed back
-stops-told : {t : List ℕ} {levels : ℕ} {branch : List Goal} {g : Goal} {s : StateSets} {rec : List ℕ} {used nodes every some : ℕ}
-    {used' nodes' every' some' refusal : ℕ} → (refusal ≡ 0 → ⊥)
-    → stopped refusal nodes' ≡ tally_on t levels branch (g ∷ []) s rec used nodes every some
-    → ReadOn t levels branch g s rec used nodes every some rec used' nodes' every' some' refusal
-stops-told stops told = record { told = stopped-told _ _ _ _ _ _ stops ∙ told; room = λ e. absurd (stops e); whole = λ h. refl }
+pub onward-starts : {t : List ℕ} {levels : ℕ} {branch goals : List Goal} {s : StateSets} {rest : List ℕ} {kept : Tally}
+    → Onward t levels branch goals s rest kept rest kept 0
+onward-starts = record { room = omega arith; whole = refl }
 
--- the first i children have been read, none was refused, and the others are still to be read
-pub record Onward (t : List ℕ) (levels : ℕ) (branch goals : List Goal) (len : ℕ) (s : StateSets) (rest₀ : List ℕ)
-    (used₀ nodes₀ every₀ some₀ : ℕ) (rest : List ℕ) (used nodes every some refusal i : ℕ) : Type 0 where
-  pub held : GoalsFit most_parts len goals
-  pub few : i ≤ len
-  pub no-refusal : refusal ≡ 0
-  pub room : nodes + length rest ≤ nodes₀ + length rest₀
-  pub whole : tally_on t levels branch (drop i (take len goals)) s rest used nodes every some
-      ≡ tally_on t levels branch (take len goals) s rest₀ used₀ nodes₀ every₀ some₀
-
-pub onward-starts : {t : List ℕ} {levels : ℕ} {branch goals : List Goal} {len : ℕ} {s : StateSets} {rest : List ℕ}
-    {used nodes every some refusal : ℕ} → GoalsFit most_parts len goals → refusal ≡ 0
-    → Onward t levels branch goals len s rest used nodes every some rest used nodes every some refusal 0
-onward-starts held h = record { held = held; few = omega arith; no-refusal = h; room = omega arith; whole = refl }
-
-module _ {t : List ℕ} {levels : ℕ} {branch goals : List Goal} {len : ℕ} {s : StateSets} {rest₀ : List ℕ}
-    {used₀ nodes₀ every₀ some₀ : ℕ} {rest : List ℕ} {used nodes every some refusal i : ℕ}
-    (o : Onward t levels branch goals len s rest₀ used₀ nodes₀ every₀ some₀ rest used nodes every some refusal i) where
-  -- what is kept once every child is read
-  abbrev all-kept : Tallied
-  all-kept = tally_on t levels branch (take len goals) s rest₀ used₀ nodes₀ every₀ some₀
-
-  onward-fits : len ≤ length goals
-  onward-fits = omega (arith, o.held.fits, o.held.size)
-
-  onward-ends : len ≤ i → passed rest used nodes every some ≡ all-kept
+module _ {t : List ℕ} {levels : ℕ} {branch goals : List Goal} {s : StateSets} {rest₀ : List ℕ} {kept₀ : Tally}
+    {rest : List ℕ} {kept : Tally} {i : ℕ} (o : Onward t levels branch goals s rest₀ kept₀ rest kept i) where
+  onward-ends : length goals ≤ i → passed_by rest kept ≡ read_from t levels branch goals s rest₀ kept₀
   onward-ends all =
-      let through = goals-through goals len i (omega (arith, o.few)) onward-fits in
-      sym (reads_none t levels branch s rest used nodes every some) ∙ rw through at o.whole
+      let through = drop_of_length-le goals {i = i} all in
+      sym (reads_none t levels branch s rest kept.used kept.nodes kept.words.every kept.words.some) ∙ rw through at o.whole
 
-  -- the i-th child has been read
-  module _ {rest' : List ℕ} {used' nodes' every' some' refusal' : ℕ} (less : i < len)
-      (child : ReadOn t levels branch (get_or goals i no_goal) s rest used nodes every some
-      rest' used' nodes' every' some' refusal') where
-    whole_from : tally_on t levels branch (get_or goals i no_goal ∷ drop (i + 1) (take len goals)) s rest used nodes every some
-        ≡ all-kept
-    whole_from = rw (← goals-from goals len i less onward-fits) o.whole
+  -- the i-th child is read next
+  module _ (less : i < length goals) where
+    next : read_from t levels branch (get_or goals i no_goal ∷ drop (i + 1) goals) s rest kept
+        ≡ read_from t levels branch goals s rest₀ kept₀
+    next = rw (add-one i, ← drop-cons goals i no_goal less) o.whole
 
-    pub onward-goes : refusal' ≡ 0
-        → Onward t levels branch goals len s rest₀ used₀ nodes₀ every₀ some₀ rest' used' nodes' every' some' refusal' (i + 1)
-    onward-goes h =
-        record {
-          held = o.held;
-          few = omega arith;
-          no-refusal = h;
-          room = omega (arith, o.room, child.room h);
-          whole = first-passed child _ h ∙ whole_from;
-        }
+    pub onward-goes : {rest' : List ℕ} {kept' : Tally}
+        → ReadOn t levels branch (get_or goals i no_goal) s rest kept rest' kept'
+        → Onward t levels branch goals s rest₀ kept₀ rest' kept' (i + 1)
+    onward-goes child = record { room = omega (arith, o.room, child.room); whole = first-passed _ child ∙ next }
 
-    onward_stops : (refusal' ≡ 0 → ⊥) → stopped refusal' nodes' ≡ all-kept
-    onward_stops h = first-stopped child (drop (i + 1) (take len goals)) h ∙ whole_from
+    onward_stops : {why : Reason} {kept' : Tally} → StopsAt t levels branch (get_or goals i no_goal) s rest kept why kept'
+        → stopped (number_of why) kept'.nodes ≡ read_from t levels branch goals s rest₀ kept₀
+    onward_stops child = first-stopped (drop (i + 1) goals) child ∙ next
 
 -- a node that the code has entered with `step`
-pub record Node (t : List ℕ) (levels : ℕ) (branch : Branch) (g : Goal) (rec : List ℕ) (step : Step) : Type 0 where
+pub record Node (t : List ℕ) (levels : ℕ) (branch : List Goal) (g : Goal) (rec : List ℕ) (step : Step) : Type 0 where
   pub table : WellFormed t
-  pub held : GoalsFit most_parts step.len step.goals
-  pub enters : stepped step rec ≡ entry t (may levels (above branch) g) g rec
-  pub goes : step.refusal ≡ 0
+  pub enters : stepped (Ok step) rec ≡ entry t (may levels branch g) g rec
 
-pub entered-node : {t : List ℕ} {levels : ℕ} {branch : Branch} {g : Goal} {rec : List ℕ} {step : Step} → WellFormed t
-    → GoalsFit most_parts step.len step.goals × (stepped step rec ≡ entry t (may levels (above branch) g) g rec)
-    → step.refusal ≡ 0 → Node t levels branch g rec step
-entered-node table told goes = record { table = table; held = told.0; enters = told.1; goes = goes }
+pub entered-node : {t : List ℕ} {levels : ℕ} {branch : List Goal} {g : Goal} {rec : List ℕ} {step : Step} → WellFormed t
+    → stepped (Ok step) rec ≡ entry t (may levels branch g) g rec → Node t levels branch g rec step
+entered-node table enters = record { table = table; enters = enters }
 
 -- what the code keeps for its children
-pub record Down (t : List ℕ) (branch : Branch) (g : Goal) (s : StateSets) (step : Step) (used every some : ℕ)
-    (deeper : List Goal) (below : StateSets) (used₀ every₀ some₀ : ℕ) : Type 0 where
-  pub branches : deeper ≡ g ∷ above branch
+pub record Down (t : List ℕ) (branch : List Goal) (g : Goal) (s : StateSets) (step : Step) (before : Tally)
+    (deeper : List Goal) (below : StateSets) (kept : Tally) : Type 0 where
+  pub branches : deeper ≡ g ∷ branch
   pub moves : below ≡ moved_sets t g.role s
-  pub uses : used₀ ≡ bit_or used (2 ^ (step.credential - 1))
-  pub keeps : (every₀ ≡ after_node bit_and t every below step.len) × (some₀ ≡ after_node bit_or t some below step.len)
+  pub counts : kept.nodes ≡ before.nodes + 1
+  pub uses : kept.used ≡ bit_or before.used (2 ^ (step.credential - 1))
+  pub every : kept.words.every ≡ after_node bit_and t before.words.every below (length (listed step.asked))
+  pub some : kept.words.some ≡ after_node bit_or t before.words.some below (length (listed step.asked))
 
-module _ {t : List ℕ} {levels : ℕ} {branch : Branch} {g : Goal} {rec : List ℕ} {step : Step}
+module _ {t : List ℕ} {levels : ℕ} {branch : List Goal} {g : Goal} {rec : List ℕ} {step : Step}
     (n : Node t levels branch g rec step) where
-  node-entry : entry t (may levels (above branch) g) g rec
-      ≡ ask step.credential step.middle (take step.len step.goals) (drop 2 rec)
-  node-entry = sym n.enters ∙ step-asks step rec n.goes
+  node-entry : entry t (may levels branch g) g rec ≡ ask step.credential step.middle (listed step.asked) (drop 2 rec)
+  unfolding stepped
+  node-entry = sym n.enters
 
-  node-facts : Asks t levels g rec step.credential step.middle (take step.len step.goals)
-  node-facts = entry-asked t levels (above branch) g _ _ _ _ rec node-entry
+  node-facts : Asks t levels g rec step.credential step.middle (listed step.asked)
+  node-facts = entry-asked t levels branch g _ _ _ _ rec node-entry
 
   pub node-level : 1 ≤ levels
   node-level = node-facts.level
@@ -163,65 +120,60 @@ module _ {t : List ℕ} {levels : ℕ} {branch : Branch} {g : Goal} {rec : List 
         let own : suc (c - 1) ≡ step.credential = omega (arith, node-numbered) in
         rw (← applies-role t g _ _ _ node-facts.own, ← own) (states-moved t _ s moves)
 
-module _ {t : List ℕ} {levels : ℕ} {branch : Branch} {g : Goal} {s : StateSets} {rec : List ℕ} {step : Step}
-    {used every some : ℕ} {deeper : List Goal} {below : StateSets} {used₀ every₀ some₀ : ℕ} (n : Node t levels branch g rec step)
-    (d : Down t branch g s step used every some deeper below used₀ every₀ some₀) (nodes : ℕ) where
+module _ {t : List ℕ} {levels : ℕ} {branch : List Goal} {g : Goal} {s : StateSets} {rec : List ℕ} {step : Step}
+    {before : Tally} {deeper : List Goal} {below : StateSets} {kept₀ : Tally} (n : Node t levels branch g rec step)
+    (d : Down t branch g s step before deeper below kept₀) where
   abbrev behind : List ℕ
   behind = take (length rec - 2) (drop 2 rec)
 
   -- its children, read from what the code keeps by then, are the whole
-  node-whole : tally_on t (levels - 1) deeper (take step.len step.goals) below behind used₀ (nodes + 1) every₀ some₀
-      ≡ tally_on t levels (above branch) (g ∷ []) s rec used nodes every some
+  node-whole : read_from t (levels - 1) deeper (listed step.asked) below behind kept₀
+      ≡ read_from t levels branch (g ∷ []) s rec before
   node-whole =
       let one_less : levels ≡ suc (levels - 1) = omega (arith, node-level n) in
-      let size = length-take-le step.len step.goals (omega (arith, n.held.fits, n.held.size)) in
-      let asked = node-asks t n.table g s used nodes every some _ _ levels (levels - 1) in
+      let asked = node-asks t n.table g s before.used before.nodes before.words.every before.words.some _ _ levels (levels - 1) in
       let told = asked _ _ rec _ one_less (node-facts n).own (node-entry n) in
-      rw (d.branches, part-behind rec 2 (node-long n), d.uses, d.keeps.0, d.keeps.1, d.moves, add-one nodes)
-      (rw size at told)
+      rw (d.branches, part-behind rec 2 (node-long n), d.counts, d.uses, d.every, d.some, d.moves, add-one before.nodes) told
 
-  module _ {rest : List ℕ} {used' nodes' every' some' refusal i : ℕ}
-      (o : Onward t (levels - 1) deeper step.goals step.len below behind used₀ (nodes + 1) every₀ some₀
-      rest used' nodes' every' some' refusal i) where
-    left : nodes' + length rest ≤ nodes + length rec
-    left = room-kept rec rest nodes' nodes (node-long n) o.room
+  module _ {rest : List ℕ} {kept : Tally} {i : ℕ}
+      (o : Onward t (levels - 1) deeper (listed step.asked) below behind kept₀ rest kept i) where
+    -- each node takes two numbers, so nodes and numbers left stay below what they were
+    pub left : kept.nodes + length rest ≤ before.nodes + length rec
+    left = omega (arith, part_length rec 2 (node-long n), node-long n, o.room, d.counts)
 
-    -- nodes and numbers left stay below the caller's bound
-    pub room-below : {most : ℕ} → nodes + length rec < most → nodes' + length rest < most
-    room-below bound = omega (arith, left)
+    pub children-read : length (listed step.asked) ≤ i → ReadOn t levels branch g s rec before rest kept
+    children-read all = record { told = onward-ends o all ∙ node-whole; room = left }
 
-    pub children-read : step.len ≤ i
-        → ReadOn t levels (above branch) g s rec used nodes every some rest used' nodes' every' some' refusal
-    children-read all =
-        let passes = passed-told rest used' nodes' every' some' refusal o.no-refusal in
-        record {
-          told = passes ∙ onward-ends o all ∙ node-whole;
-          room = λ e. left;
-          whole = λ stops. absurd (stops o.no-refusal);
-        }
-
-    pub child-stops : {rest'' : List ℕ} {used'' nodes'' every'' some'' refusal'' : ℕ} → i < step.len
-        → ReadOn t (levels - 1) deeper (get_or step.goals i no_goal) below rest used' nodes' every' some'
-        rest'' used'' nodes'' every'' some'' refusal''
-        → (refusal'' ≡ 0 → ⊥) → ReadOn t levels (above branch) g s rec used nodes every some rec used'' nodes'' every'' some'' refusal''
-    child-stops less child stops =
-        stops-told stops (onward_stops o less child stops ∙ node-whole)
+    pub child-stops : {why : Reason} {kept' : Tally} → i < length (listed step.asked)
+        → StopsAt t (levels - 1) deeper (get_or (listed step.asked) i no_goal) below rest kept why kept'
+        → StopsAt t levels branch g s rec before why kept'
+    child-stops less child = record { told = onward_stops o less child ∙ node-whole }
 
 -- what is kept of a node for its children, by what the code has called
-pub kept-down : {t : List ℕ} {levels : ℕ} {branch : Branch} {g : Goal} {rec : List ℕ} {step : Step}
+pub kept-down : {t : List ℕ} {levels : ℕ} {branch : List Goal} {g : Goal} {rec : List ℕ} {step : Step}
     → Node t levels branch g rec step → {c : ℕ} → c ≡ step.credential → (s : StateSets) {x : Moved}
-    → x ≡ moved_on t (credential t (suc (c - 1))).role s → {used every some used₀ every₀ some₀ : ℕ}
-    → used₀ ≡ bit_or used (2 ^ (step.credential - 1))
-    → (every₀ ≡ after_node bit_and t every x.states step.len) × (some₀ ≡ after_node bit_or t some x.states step.len)
-    → {deeper : List Goal} → deeper ≡ g ∷ above branch → Down t branch g s step used every some deeper x.states used₀ every₀ some₀
-kept-down n place s moves uses keeps branches =
-    record { branches = branches; moves = node-moves n place s moves; uses = uses; keeps = keeps }
+    → x ≡ moved_on t (credential t (suc (c - 1))).role s → {before kept : Tally} → kept.nodes ≡ before.nodes + 1
+    → kept.used ≡ bit_or before.used (2 ^ (step.credential - 1)) → {len : ℕ} → len ≡ length (listed step.asked)
+    → (kept.words.every ≡ after_node bit_and t before.words.every x.states len)
+    × (kept.words.some ≡ after_node bit_or t before.words.some x.states len)
+    → {deeper : List Goal} → deeper ≡ g ∷ branch → Down t branch g s step before deeper x.states kept
+kept-down n place s moves counts uses size keeps branches =
+    record {
+      branches = branches;
+      moves = node-moves n place s moves;
+      counts = counts;
+      uses = uses;
+      every = rw (← size) keeps.0;
+      some = rw (← size) keeps.1;
+    }
 
 -- a node that the code could not enter
-pub node-halts : {t : List ℕ} {levels : ℕ} {g : Goal} {s : StateSets} {rec : List ℕ} {used nodes every some : ℕ}
-    (branch : Branch) (step : Step) → stepped step rec ≡ entry t (may levels (above branch) g) g rec → (step.refusal ≡ 0 → ⊥)
-    → ReadOn t levels (above branch) g s rec used nodes every some rec used (nodes + 1) every some step.refusal
-node-halts {t} {levels} {g} {s} {rec} {used} {nodes} {every} {some} branch step enters stops =
-    let halts = sym enters ∙ step-halts step rec stops in
-    let here = node-stops t levels (above branch) g s rec used nodes every some step.refusal halts in
-    stops-told stops (ap (stopped step.refusal) (add-one nodes) ∙ here)
+pub node-halts : {t : List ℕ} {levels : ℕ} {branch : List Goal} {g : Goal} {s : StateSets} {rec : List ℕ} {before after : Tally}
+    {why : Reason} → stepped (Err why) rec ≡ entry t (may levels branch g) g rec → after.nodes ≡ before.nodes + 1
+    → StopsAt t levels branch g s rec before why after
+unfolding stepped
+node-halts {t} {levels} {branch} {g} {s} {rec} {before} {after} {why} enters counts =
+    record {
+      told = rw (counts, add-one before.nodes)
+          (node-stops t levels branch g s rec before.used before.nodes before.words.every before.words.some _ (sym enters));
+    }
