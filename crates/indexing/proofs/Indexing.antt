@@ -8,17 +8,15 @@ use Rattle.std.proofs.Common.{Option, Some, None, MatchOption, unwrap_or}
 use native.Mathlib.Decide.{ℕ_discrete}
 use lib.Dec.{eqb, ltb}
 use lib.ListN.{get_or, length, length-map, length-replicate, length-set, replicate, set}
-use lib.Seq.{get_or-set_other, get_or-set_same, get_or-take}
+use lib.Seq.{get_or-set_other, get_or-set_same}
 use borrow.Author.Tests.{ltb-false, ltb-true, ne_eqb}
 use Rattle.sets.specs.Logic.{◌and◌}
 use Rattle.sets.proofs.Tests.{any_none}
 use Rattle.table.specs.Limits.{most_credentials, most_parts}
 use Rattle.table.specs.Layout.{cell, chain, credential, credentials, name, parts, parts_by, role}
 use Rattle.table.specs.Checks.{chain_ok}
-use Rattle.table.specs.Holding.{HoldsChain}
 use Rattle.table.specs.declared.Role.{Role}
 use Rattle.table.specs.declared.Query.{Query}
-use Rattle.table.specs.declared.Chain.{Chain}
 use Rattle.table.specs.declared.Credential.{Credential}
 use Rattle.table.proofs.Chains.{chain-range}
 use Rattle.derivation.specs.Rules.{goal_of}
@@ -26,7 +24,7 @@ use Rattle.members.specs.Places.{person_at, role_at}
 use Rattle.members.specs.Members.{Aimed, Indexed, asked_cell, goal_person, goal_role, index_cells, link_cell, links_base}
 use Rattle.members.specs.Members.{Whole, padded, role_cell, roles_asked}
 use Rattle.indexing.specs.Indexing.{Asked, FirstPlace, Linked, OneAsked, PartsAt, Place, Put, EntryRoom, Written, names}
-use Rattle.members.proofs.Reading.{as_read, below_next, held-length, kind-read, zeros}
+use Rattle.members.proofs.Reading.{as_read, below_next, kind-read, zeros}
 use Rattle.members.proofs.Places.{least-found, least-none, role-few}
 use Rattle.members.proofs.ByKind.{one-padded, padded-inside, roles-2, roles-3, roles-4}
 
@@ -127,30 +125,28 @@ padded-behind (r ∷ s ∷ roles) zero (suc last) d e l = absurd (omega arith)
 padded-behind (r ∷ s ∷ roles) (suc k) (suc last) d e l = padded-behind (s ∷ roles) k last d (omega arith) (omega arith)
 
 -- a chain as the code holds it
-module _ (t : List ℕ) (first : ℕ) (held : Chain) (holds : HoldsChain t first held) where
-  pub held-some : chain_ok t first ≡ true → 1 ≤ held.len
+module _ (t : List ℕ) (first : ℕ) (held : List Role) (holds : held ≡ parts t first) where
+  pub held-some : chain_ok t first ≡ true → 1 ≤ length held
   unfolding parts_by
   held-some ok =
-      omega (arith, held-length t first held holds, length-map (chain t first) (λ (k : ℕ). (cell t k).role), (chain-range t first ok).least)
+      omega (arith, ap length holds, length-map (chain t first) (λ (k : ℕ). (cell t k).role), (chain-range t first ok).least)
 
-  held-role : (k : ℕ) (d : Role) → k < held.len → get_or held.roles k d ≡ get_or (parts t first) k d
-  held-role k d l =
-      sym (get_or-take held.len held.roles k d l) ∙ ap (λ (roles : List Role). get_or roles k d) holds.roles
+  held-role : (k : ℕ) (d : Role) → get_or held k d ≡ get_or (parts t first) k d
+  held-role k d = ap (λ (roles : List Role). get_or roles k d) holds
 
   -- the part that stands in cell k: its own, or the last
-  pub part-at : (k : ℕ) (d : Role) → 1 ≤ held.len → get_or held.roles (min k (held.len - 1)) d ≡ padded (parts t first) k
-  part-at k d some = go (ltb k (held.len - 1)) refl
+  pub part-at : (k : ℕ) (d : Role) → 1 ≤ length held → get_or held (min k (length held - 1)) d ≡ padded (parts t first) k
+  part-at k d some = go (ltb k (length held - 1)) refl
     where
-      go : (b : Bool) → ltb k (held.len - 1) ≡ b → get_or held.roles (min k (held.len - 1)) d ≡ padded (parts t first) k
+      go : (b : Bool) → ltb k (length held - 1) ≡ b → get_or held (min k (length held - 1)) d ≡ padded (parts t first) k
       go true e =
-          let l = ltb-true k (held.len - 1) e in
-          let own : min k (held.len - 1) ≡ k = omega arith in
-          rw own (held-role k d (omega arith) ∙ padded-inside _ k d (omega (arith, held-length t first held holds)))
+          let l = ltb-true k (length held - 1) e in
+          let own : min k (length held - 1) ≡ k = omega arith in
+          rw own (held-role k d ∙ padded-inside _ k d (omega (arith, ap length holds)))
       go false e =
-          let l = ltb-false k (held.len - 1) e in
-          let last : min k (held.len - 1) ≡ held.len - 1 = omega arith in
-          rw last
-          (held-role (held.len - 1) d (omega arith) ∙ padded-behind _ k (held.len - 1) d (omega (arith, held-length t first held holds)) l)
+          let l = ltb-false k (length held - 1) e in
+          let last : min k (length held - 1) ≡ length held - 1 = omega arith in
+          rw last (held-role (length held - 1) d ∙ padded-behind _ k (length held - 1) d (omega (arith, ap length holds)) l)
 
 -- the places of all parts
 pub parts-at : (t : List ℕ) (first : ℕ) (found : List ℕ) → credentials t ≤ most_credentials → length found ≡ most_parts

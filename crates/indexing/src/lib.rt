@@ -133,8 +133,9 @@ fn parts(table: &[Number], first: Number) -> [u8; layout::MOST_PARTS]
     ensures { PartsAt table.now first most_parts result }
 {
     let chain = layout::chain(table, first);
-    let last = chain.len - 1;
-    array::from_fn(|k| role_at(table, chain.roles[k.min(last)]))
+    let roles = chain.as_slice();
+    let last = roles.len() - 1;
+    array::from_fn(|k| role_at(table, roles[k.min(last)]))
 }
 
 // The role of that name of each principal that a simple membership names, for credential i + 1.
