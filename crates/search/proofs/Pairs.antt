@@ -10,20 +10,19 @@ use lib.ListN.{get_or, length}
 use borrow.Author.Tests.{ne_eqb}
 use Rattle.sets.specs.Logic.{pick}
 use Rattle.table.specs.Limits.{most_parts}
-use Rattle.table.specs.Layout.{credential, credentials}
-use Rattle.table.specs.Holding.{HoldsChain, WellFormed}
-use Rattle.table.specs.declared.Chain.{Chain}
+use Rattle.table.specs.Layout.{credential, credentials, parts}
+use Rattle.table.specs.Holding.{WellFormed}
+use Rattle.table.specs.declared.Role.{Role}
 use Rattle.table.specs.declared.Credential.{Credential}
 use Rattle.members.specs.Members.{asked_cell, roles_asked}
 use Rattle.members.proofs.Reading.{numbered}
-use Rattle.members.proofs.Reading.{held-length}
 use Rattle.members.proofs.ByKind.{parts-few, roles-2, roles-4}
 use Rattle.search.specs.Asking.{pair, role_pairs}
 
 -- how many roles a credential asks, by its kind
 module _ (t : List ℕ) (c : Credential) where
-  pub asks-parts : c.kind ≡ 4 → (held : Chain) → HoldsChain t c.first held → held.len ≡ length (roles_asked t c)
-  asks-parts four held holds = sym (ap length (roles-4 t c four) ∙ held-length t c.first held holds)
+  pub asks-parts : c.kind ≡ 4 → (held : List Role) → held ≡ parts t c.first → length held ≡ length (roles_asked t c)
+  asks-parts four held holds = sym (ap length (roles-4 t c four ∙ sym holds))
 
   pub asks-one : c.kind ≡ 2 → 1 ≡ length (roles_asked t c)
   asks-one two = sym (ap length (roles-2 t c two))

@@ -70,7 +70,7 @@ fn parts_asked(table: &[Number], c: Credential) -> usize
     ensures { result ≡ length (roles_asked table.now c) }
 {
     if c.is(Kind::IntersectionContainment) {
-        layout::chain(table, c.first).len
+        layout::chain(table, c.first).len()
     } else if c.is(Kind::SimpleContainment) {
         1
     } else {
