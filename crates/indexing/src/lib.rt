@@ -34,14 +34,9 @@ pub fn index(table: &[Number], query: Query) -> [u8; INDEX_CELLS]
             links(table, credential.second, i, &mut index);
         }
     }
-    index[GOAL_ROLE] = role_at(
-        table,
-        Role {
-            owner: query.owner,
-            name: query.name,
-        },
-    );
-    index[GOAL_PERSON] = person_at(table, query.principal.0);
+    let goal = derivation::goal_of(query);
+    index[GOAL_ROLE] = role_at(table, goal.role);
+    index[GOAL_PERSON] = person_at(table, goal.principal.0);
     index
 }
 

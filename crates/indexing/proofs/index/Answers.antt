@@ -47,4 +47,4 @@ pub returns : goal.returns
 returns c =
     let few = c.requires.sized.counted.few_credentials in
     let all : c.loop-i.i ≡ credentials c.args.table.now = omega arith in
-    index-made _ _ few (rw all at c.loop-i.invariant) _ _ _ c.role_at-2.ensures c.person_at.ensures
+    index-made _ _ few (rw all at c.loop-i.invariant) _ _ _ (rw c.goal_of-goal.ensures at c.role_at-2.ensures) (rw c.goal_of-goal.ensures at c.person_at.ensures)
