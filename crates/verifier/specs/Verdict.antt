@@ -1,18 +1,17 @@
 -- docs/DEFINITION.md, "Where each input is stopped": the verifier's end. The request's rows, then 11 to 13 at each node, then
 -- numbers left over, then 14.
-use Rattle.std.specs.Prelude.{ℕ, List, [], ◌∷◌, Bool}
+use Rattle.std.specs.Prelude.{ℕ, List, [], ◌∷◌, Bool, Result}
 use Rattle.table.specs.Outcome.{Outcome, ◌and_then◌, demand_each}
 use Rattle.table.specs.Outcome.Outcome.{accepted, refused}
 use Rattle.table.specs.Layout.{automata}
-use Rattle.table.specs.Checks.{request_outcome, told}
+use Rattle.table.specs.Checks.{outcome_of, request_outcome}
 use Rattle.table.specs.declared.Query.{Query}
+use Rattle.table.specs.declared.Refusal.{Refusal}
 use Rattle.derivation.specs.Rules.{goal_of}
 use Rattle.derivation.specs.Forest.{Forest, count_from, used_set}
 use Rattle.derivation.specs.Words.{met}
 use Rattle.reader.specs.Reading.{Reading, reader}
 use Rattle.reader.specs.Reading.Reading.{read, stop}
-use Rattle.verifier.specs.declared.Verdict.{Verdict}
-use Rattle.verifier.specs.declared.Verdict.TheVariants as verdict'
 
 -- numbers left over come after the last node, and 14, with the lowest used automaton that is not met, last
 -- by when a derivation meets an automaton, of so many
@@ -28,6 +27,6 @@ judged t r = judged_by (met t) (automata t) r
 unfoldable pub verdict : List ℕ → Query → List ℕ → Outcome
 verdict t q rec = request_outcome t q and_then judged t (reader t q.depth [] (goal_of q ∷ []) rec 1)
 
-unfoldable pub verdict_told : Verdict → Outcome
-verdict_told (verdict'.Accepted used) = accepted used
-verdict_told (verdict'.Refused why) = told why
+-- what the verifier's result tells: the used set, or why the record is refused
+abbrev pub verdict_told : Result ℕ Refusal → Outcome
+verdict_told result = outcome_of (λ used. used) result

@@ -6,7 +6,6 @@
 mod words; // words.rt: row 14
 
 ghost use Rattle.std.specs.Prelude.{◌≡◌, [], ◌∷◌, ◌≤◌};
-ghost use Rattle.table.specs.Outcome.{Outcome};
 ghost use Rattle.table.specs.Holding.{WellFormed};
 ghost use Rattle.table.specs.Checks.{Valid, number_of};
 ghost use Rattle.moves.specs.Arcs.{Arcs};
@@ -16,40 +15,30 @@ ghost use Rattle.verifier.specs.Verdict.{judged, verdict, verdict_told};
 
 use automata::StateSets;
 use branches::Branch;
-use checks::QueryCheck;
 use sets::{CredentialSet, StateSet};
 use table::{Number, Query, Reason, Refusal, layout};
-
-// Accepted, with the used set: credential i counts 2^(i-1).
-#[derive(Clone, Copy)]
-pub enum Verdict {
-    Accepted(CredentialSet),
-    Refused(Refusal),
-}
 
 // So many numbers make a record long.
 const LONG: usize = 64;
 
-// Whether the record derives the queried membership and complies: the request's rows, then 11 to 14, for any three inputs.
-pub fn verify(table: &[Number], query: Query, rec: &[Number]) -> Verdict
+// The used set of a record that derives the queried membership and complies, where credential i counts 2^(i-1): the request's
+// rows, then 11 to 14, for any three inputs.
+pub fn verify(table: &[Number], query: Query, rec: &[Number]) -> Result<CredentialSet, Refusal>
     ensures { verdict_told result ≡ verdict table.now query rec.now }
 {
-    match checks::check_request(table, query) {
-        QueryCheck::Valid => judge(table, query, rec),
-        QueryCheck::Refused(why) => Verdict::Refused(why),
-    }
+    checks::check_request(table, query)?;
+    judge(table, query, rec)
 }
 
 // Rows 11 to 14. A short record is read without an index of arcs, which would take longer to make than it saves.
-fn judge(table: &[Number], query: Query, rec: &[Number]) -> Verdict
+fn judge(table: &[Number], query: Query, rec: &[Number]) -> Result<CredentialSet, Refusal>
     requires well_formed { WellFormed table.now }
     requires valid { Valid query }
     ensures { verdict_told result
         ≡ judged table.now (reader table.now query.depth [] (goal_of query ∷ []) rec.now 1) }
 {
     if rec.len() < LONG {
-        let mut none = [0; 1];
-        return judge_by(table, query, rec, &mut none[..0]);
+        return judge_by(table, query, rec, &mut []);
     }
     let mut arcs = [0; moves::INDEX_CELLS];
     arcs::begin(table, &mut arcs);
@@ -57,7 +46,12 @@ fn judge(table: &[Number], query: Query, rec: &[Number]) -> Verdict
 }
 
 // The same with an index of arcs. The goal is at level 1, with nothing above it.
-fn judge_by(table: &[Number], query: Query, rec: &[Number], arcs: &mut [StateSet]) -> Verdict
+fn judge_by(
+    table: &[Number],
+    query: Query,
+    rec: &[Number],
+    arcs: &mut [StateSet],
+) -> Result<CredentialSet, Refusal>
     requires well_formed { WellFormed table.now }
     requires valid { Valid query }
     requires arcs { Arcs table.now arcs.old }
@@ -87,10 +81,16 @@ fn judge_by(table: &[Number], query: Query, rec: &[Number], arcs: &mut [StateSet
         &mut refusal,
     );
     if refusal != 0 {
-        return refused(reason_of(refusal), nodes);
+        return Err(Refusal {
+            reason: reason_of(refusal),
+            position: nodes,
+        });
     }
     if rest.len() != 0 {
-        return refused(Reason::RecordLength, nodes + 1);
+        return Err(Refusal {
+            reason: Reason::RecordLength,
+            position: nodes + 1,
+        });
     }
     words::judge_words(table, used, every, some)
 }
@@ -100,20 +100,9 @@ fn reason_of(refusal: u32) -> Reason
     requires { (11 ≤ refusal) × (refusal ≤ 13) }
     ensures { number_of result ≡ refusal }
 {
-    if refusal == 11 {
-        return Reason::RecordLength;
+    match refusal {
+        11 => Reason::RecordLength,
+        12 => Reason::Node,
+        _ => Reason::Branch,
     }
-    if refusal == 12 {
-        return Reason::Node;
-    }
-    Reason::Branch
-}
-
-fn refused(reason: Reason, position: usize) -> Verdict
-    ensures { verdict_told result ≡ Outcome.refused (number_of reason) position }
-{
-    Verdict::Refused(Refusal {
-        reason: reason,
-        position: position,
-    })
 }

@@ -9,9 +9,8 @@ ghost use Rattle.sets.specs.Sets.{in_set};
 ghost use Rattle.verifier.specs.Kept.{keeps};
 ghost use Rattle.verifier.specs.Verdict.{verdict_told};
 
-use crate::{Verdict, refused};
 use sets::{AutomatonSet, CredentialSet};
-use table::{Number, Reason, SOME_WORD, layout};
+use table::{Automaton, Mark, Number, Reason, Refusal, layout};
 
 // The set of all eight automata: automaton k counts 2^(k-1).
 pub const ALL_AUTOMATA: AutomatonSet = 255;
@@ -23,33 +22,35 @@ pub fn judge_words(
     used: CredentialSet,
     every: AutomatonSet,
     some: AutomatonSet,
-) -> Verdict
+) -> Result<CredentialSet, Refusal>
     requires { WellFormed table.now }
     ensures { verdict_told result
         ≡ (demand_each (keeps table.now used every some) (automata table.now) 14
         and_then Outcome.accepted used) }
 {
     let imposed = attached::automata_of(table, used);
-    let a = layout::automata(table);
-    let mut k = 0;
-    while k < a {
-        k += 1;
-        let automaton = layout::automaton(table, k);
-        if !is_kept(imposed, demanded(automaton.mark, every, some), k) {
-            return refused(Reason::Word, k);
-        }
+    let unmet = (1..=layout::automata(table)).find(|k| {
+        let asked = demanded(layout::automaton(table, *k), every, some);
+        !is_kept(imposed, asked, *k)
+    });
+    match unmet {
+        Some(position) => Err(Refusal {
+            reason: Reason::Word,
+            position,
+        }),
+        None => Ok(used),
     }
-    Verdict::Accepted(used)
 }
 
-// The set that an automaton of this mark must be in.
-fn demanded(mark: Number, every: AutomatonSet, some: AutomatonSet) -> AutomatonSet
-    ensures { result ≡ pick (eqb mark 1) some every }
+// The set that the automaton must be in, by its mark.
+fn demanded(automaton: Automaton, every: AutomatonSet, some: AutomatonSet) -> AutomatonSet
+    ensures { result ≡ pick (eqb automaton.mark 1) some every }
 {
-    if mark == SOME_WORD {
-        return some;
+    if automaton.demands(Mark::SomeWord) {
+        some
+    } else {
+        every
     }
-    every
 }
 
 // Automaton k is not imposed, or it is in the set.
@@ -57,8 +58,5 @@ fn is_kept(imposed: AutomatonSet, set: AutomatonSet, k: usize) -> bool
     requires { Numbered most_automata k }
     ensures { result ≡ (not (in_set imposed (k - 1)) or in_set set (k - 1)) }
 {
-    if !sets::has(imposed, k - 1) {
-        return true;
-    }
-    sets::has(set, k - 1)
+    !sets::has(imposed, k - 1) || sets::has(set, k - 1)
 }
