@@ -80,6 +80,11 @@ pub record Begins (t : List ℕ) (q : Query) (levels : ℕ) (branch : List Goal)
   pub asked : g ≡ goal_of q
   pub starting : s ≡ starting_sets t
 
+pub begins : {t : List ℕ} {q : Query} {levels : ℕ} {branch : List Goal} {g : Goal} {s : StateSets}
+    → levels ≡ q.depth → branch ≡ [] → g ≡ goal_of q → s ≡ starting_sets t → Begins t q levels branch g s
+begins all-levels nothing_above asked starting =
+    record { all-levels = all-levels; nothing_above = nothing_above; asked = asked; starting = starting }
+
 -- reading stops with 11, 12 or 13 alone
 stop-number : {t : List ℕ} {levels at number position : ℕ} {branch goals : List Goal} {rec : List ℕ}
     → Stops t levels branch goals rec at number position → (11 ≤ number) × (number ≤ 13)

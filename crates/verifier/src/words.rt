@@ -29,17 +29,17 @@ pub fn judge_words(
         and_then Outcome.accepted used) }
 {
     let imposed = attached::automata_of(table, used);
-    let unmet = (1..=layout::automata(table)).find(|k| {
-        let asked = demanded(layout::automaton(table, *k), every, some);
-        !is_kept(imposed, asked, *k)
-    });
-    match unmet {
-        Some(position) => Err(Refusal {
-            reason: Reason::Word,
-            position,
-        }),
-        None => Ok(used),
+    for i in 0..layout::automata(table) {
+        let k = i + 1;
+        let asked = demanded(layout::automaton(table, k), every, some);
+        if !is_kept(imposed, asked, k) {
+            return Err(Refusal {
+                reason: Reason::Word,
+                position: k,
+            });
+        }
     }
+    Ok(used)
 }
 
 // The set that the automaton must be in, by its mark.
