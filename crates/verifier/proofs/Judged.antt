@@ -15,7 +15,6 @@ use Rattle.table.specs.Holding.{WellFormed}
 use Rattle.table.specs.declared.Automaton.{Automaton}
 use Rattle.table.specs.declared.Query.{Query}
 use Rattle.table.specs.declared.Goal.{Goal}
-use borrow.Author.Tests.{ne_eqb}
 use Rattle.sets.specs.Sets.{in_set}
 use Rattle.automata.specs.Together.{starting_sets}
 use Rattle.automata.specs.declared.StateSets.{StateSets}
@@ -24,13 +23,13 @@ use Rattle.derivation.specs.Forest.{Forest, count_from, used_from, used_set}
 use Rattle.reader.specs.Reading.{Reading}
 use Rattle.reader.specs.Reading.Reading.{read, stop}
 use Rattle.attached.specs.Attached.{automata_of}
-use Rattle.reader.specs.Tally.{ReadOn, every_from, numbers_told, some_from, tally, tally_on}
+use Rattle.reader.specs.Tally.{ReadOn, StopsAt, every_from, passed_by, read_from, some_from, tally, tally_on}
+use Rattle.reader.specs.declared.Tally.{Tally}
+use Rattle.table.specs.Checks.{number_of}
+use Rattle.table.specs.declared.Reason.{Reason}
 use Rattle.reader.specs.Tally.Tallied.{passed, stopped}
 use Rattle.verifier.specs.Kept.{all_automata, keeps}
 use Rattle.verifier.specs.Verdict.{judged, judged_by}
-use Rattle.verifier.specs.DemandTwo.{Stops}
-use Rattle.verifier.specs.DemandTwo.Stops.{short, unfit, deep, again, below, behind}
-use Rattle.verifier.proofs.DemandTwo.{first-refusal}
 use Rattle.verifier.proofs.Readings.{queried, reader-sound}
 use Rattle.reader.proofs.Keeping.{count_next}
 use Rattle.verifier.proofs.Judging.{words-judged}
@@ -45,29 +44,31 @@ kept-flag t used every some imposed set k those found asked = rw (those, asked, 
 passed-stopped : {rest : List ℕ} {used nodes every some number at : ℕ} → passed rest used nodes every some ≡ stopped number at → ⊥
 passed-stopped e = let z : ◌≡◌ {A = ℕ} 0 1 = cc in omega arith
 
+-- the tally with which the code begins
+abbrev pub begun : Tally
+begun = record { used = 0; nodes = 0; words = record { every = all_automata; some = 0 } }
+
 -- what is told of a reading: where it stopped, or the forest that was read
-pub record Whole (t : List ℕ) (s : StateSets) (rest : List ℕ) (used nodes every some : ℕ) (after : Reading) : Type 0 where
+pub record Whole (t : List ℕ) (s : StateSets) (rest : List ℕ) (kept : Tally) (after : Reading) : Type 0 where
   pub forest : Forest
   pub reads : after ≡ read rest forest
-  pub uses : used ≡ used_from 0 forest
-  pub counts : nodes ≡ count_from 0 forest
-  pub judges : (every ≡ every_from t s all_automata forest) × (some ≡ some_from t s 0 forest)
+  pub uses : kept.used ≡ used_from 0 forest
+  pub counts : kept.nodes ≡ count_from 0 forest
+  pub judges : (kept.words.every ≡ every_from t s all_automata forest) × (kept.words.some ≡ some_from t s 0 forest)
 
-module _ (t : List ℕ) (s : StateSets) (rest : List ℕ) (used nodes every some refusal : ℕ) where
-  told-stop : (after : Reading) → numbers_told rest used nodes every some refusal ≡ tally t s 0 0 all_automata 0 after
-      → (refusal ≡ 0 → ⊥) → after ≡ stop refusal nodes
-  unfolding numbers_told tally pick
-  told-stop (read more f) told h = absurd (passed-stopped (sym (rw (ne_eqb refusal 0 h) at told)))
-  told-stop (stop number at) told h = let e = rw (ne_eqb refusal 0 h) at told in cc
+module _ (t : List ℕ) (s : StateSets) where
+  told-stop : (number at : ℕ) (after : Reading) → stopped number at ≡ tally t s 0 0 all_automata 0 after → after ≡ stop number at
+  unfolding tally
+  told-stop number at (read more f) told = absurd (passed-stopped (sym told))
+  told-stop number at (stop number' at') told = cc
 
-  told-read : (after : Reading) → numbers_told rest used nodes every some refusal ≡ tally t s 0 0 all_automata 0 after
-      → refusal ≡ 0 → Whole t s rest used nodes every some after
-  unfolding numbers_told tally pick
-  told-read (read more f) told h =
-      let e = rw h at told in
+  told-read : (rest : List ℕ) (kept : Tally) (after : Reading) → passed_by rest kept ≡ tally t s 0 0 all_automata 0 after
+      → Whole t s rest kept after
+  unfolding tally
+  told-read rest kept (read more f) told =
       let same : more ≡ rest = cc in
       record { forest = f; reads = ap (λ (x : List ℕ). read x f) same; uses = cc; counts = cc; judges = (cc, cc) }
-  told-read (stop number at) told h = absurd (passed-stopped (rw h at told))
+  told-read rest kept (stop number at) told = absurd (passed-stopped told)
 
 no-numbers : (rest : List ℕ) → length rest ≡ 0 → rest ≡ []
 no-numbers [] h = refl
@@ -84,16 +85,6 @@ pub begins : {t : List ℕ} {q : Query} {levels : ℕ} {branch : List Goal} {g :
     → levels ≡ q.depth → branch ≡ [] → g ≡ goal_of q → s ≡ starting_sets t → Begins t q levels branch g s
 begins all-levels nothing_above asked starting =
     record { all-levels = all-levels; nothing_above = nothing_above; asked = asked; starting = starting }
-
--- reading stops with 11, 12 or 13 alone
-stop-number : {t : List ℕ} {levels at number position : ℕ} {branch goals : List Goal} {rec : List ℕ}
-    → Stops t levels branch goals rec at number position → (11 ≤ number) × (number ≤ 13)
-stop-number (short h) = (omega arith, omega arith)
-stop-number (unfit h) = (omega arith, omega arith)
-stop-number (deep h) = (omega arith, omega arith)
-stop-number (again h f) = (omega arith, omega arith)
-stop-number (below h f more) = stop-number more
-stop-number (behind h f d more) = stop-number more
 
 -- numbers are left over: 11 behind the last node
 leftover : (t rest : List ℕ) (f : Forest) (nodes : ℕ) (after : Reading) → after ≡ read rest f → nodes ≡ count_from 0 f
@@ -113,33 +104,32 @@ words-verdict t wf q rec f used every some whole uses (all, any) =
     rw (whole, uses, all, any)
     (ap (λ (o : Outcome). o and_then accepted (used_from 0 f)) (words-judged t q.depth [] (goal_of q ∷ []) f wf derives))
 
--- the code's numbers after the whole record
-module _ {t : List ℕ} {q : Query} {levels : ℕ} {branch : List Goal} {g : Goal} {s : StateSets} {rec rest : List ℕ}
-    {used nodes every some refusal : ℕ} (wf : WellFormed t) (b : Begins t q levels branch g s)
-    (r : ReadOn t levels branch g s rec 0 0 all_automata 0 rest used nodes every some refusal) where
-  whole-told : numbers_told rest used nodes every some refusal ≡ tally t (starting_sets t) 0 0 all_automata 0 (queried t q rec)
-  unfolding tally_on
-  whole-told = r.told ∙ rw (b.all-levels, b.nothing_above, b.asked, b.starting)
+-- what is kept after the whole record, from the code's beginning on
+whole-told : {t : List ℕ} {q : Query} {levels : ℕ} {branch : List Goal} {g : Goal} {s : StateSets} (rec : List ℕ)
+    → Begins t q levels branch g s
+    → read_from t levels branch (g ∷ []) s rec begun ≡ tally t (starting_sets t) 0 0 all_automata 0 (queried t q rec)
+unfolding tally_on
+whole-told rec b = rw (b.all-levels, b.nothing_above, b.asked, b.starting)
 
-  stops-there : (refusal ≡ 0 → ⊥) → queried t q rec ≡ stop refusal nodes
-  stops-there h = told-stop t (starting_sets t) rest used nodes every some refusal _ whole-told h
+-- reading has stopped there
+pub verdict-stops : {t : List ℕ} {q : Query} {levels : ℕ} {branch : List Goal} {g : Goal} {s : StateSets} {rec : List ℕ}
+    {why : Reason} {kept : Tally} → Begins t q levels branch g s → StopsAt t levels branch g s rec begun why kept
+    → refused (number_of why) kept.nodes ≡ judged t (queried t q rec)
+unfolding judged_by
+verdict-stops {t} {rec = rec} b r = rw (told-stop t (starting_sets t) _ _ _ (r.told ∙ whole-told rec b))
 
-  whole : refusal ≡ 0 → Whole t (starting_sets t) rest used nodes every some (queried t q rec)
-  whole h = told-read t (starting_sets t) rest used nodes every some refusal _ whole-told h
+-- reading has passed
+module _ {t : List ℕ} {q : Query} {levels : ℕ} {branch : List Goal} {g : Goal} {s : StateSets} {rec rest : List ℕ} {kept : Tally}
+    (b : Begins t q levels branch g s) (r : ReadOn t levels branch g s rec begun rest kept) where
+  whole : Whole t (starting_sets t) rest kept (queried t q rec)
+  whole = told-read t (starting_sets t) rest kept _ (r.told ∙ whole-told rec b)
 
-  pub stops-number : (refusal ≡ 0 → ⊥) → (11 ≤ refusal) × (refusal ≤ 13)
-  stops-number h = stop-number ((first-refusal t q.depth [] (goal_of q ∷ []) rec 1 refusal nodes).0 (stops-there h))
+  pub verdict-leftover : (length rest ≡ 0 → ⊥) → refused 11 (kept.nodes + 1) ≡ judged t (queried t q rec)
+  verdict-leftover more = leftover t rest whole.forest kept.nodes _ whole.reads whole.counts more
 
-  pub verdict-stops : (refusal ≡ 0 → ⊥) → refused refusal nodes ≡ judged t (queried t q rec)
-  unfolding judged_by
-  verdict-stops h = rw (stops-there h)
-
-  pub verdict-leftover : refusal ≡ 0 → (length rest ≡ 0 → ⊥) → refused 11 (nodes + 1) ≡ judged t (queried t q rec)
-  verdict-leftover h more = let w = whole h in leftover t rest w.forest nodes _ w.reads w.counts more
-
-  pub verdict-words : refusal ≡ 0 → length rest ≡ 0
-      → (demand_each (keeps t used every some) (automata t) 14 and_then accepted used) ≡ judged t (queried t q rec)
-  verdict-words h nothing =
-      let w = whole h in
-      let all_read = w.reads ∙ ap (λ (x : List ℕ). read x w.forest) (no-numbers rest nothing) in
-      words-verdict t wf q rec w.forest used every some all_read w.uses w.judges
+  pub verdict-words : WellFormed t → length rest ≡ 0
+      → (demand_each (keeps t kept.used kept.words.every kept.words.some) (automata t) 14 and_then accepted kept.used)
+      ≡ judged t (queried t q rec)
+  verdict-words wf nothing =
+      let all_read = whole.reads ∙ ap (λ (x : List ℕ). read x whole.forest) (no-numbers rest nothing) in
+      words-verdict t wf q rec whole.forest kept.used kept.words.every kept.words.some all_read whole.uses whole.judges

@@ -5,9 +5,9 @@
 
 mod words; // words.rt: row 14
 
-ghost use Rattle.std.specs.Prelude.{◌≡◌, [], ◌∷◌, ◌≤◌};
+ghost use Rattle.std.specs.Prelude.{◌≡◌, [], ◌∷◌};
 ghost use Rattle.table.specs.Holding.{WellFormed};
-ghost use Rattle.table.specs.Checks.{Valid, number_of};
+ghost use Rattle.table.specs.Checks.{Valid};
 ghost use Rattle.moves.specs.Arcs.{Arcs};
 ghost use Rattle.derivation.specs.Rules.{goal_of};
 ghost use Rattle.reader.specs.Reading.{reader};
@@ -15,6 +15,8 @@ ghost use Rattle.verifier.specs.Verdict.{judged, verdict, verdict_told};
 
 use automata::StateSets;
 use branches::Branch;
+use entering::WordsKept;
+use reader::Tally;
 use sets::{CredentialSet, StateSet};
 use table::{Number, Query, Reason, Refusal, layout};
 
@@ -58,15 +60,18 @@ fn judge_by(
     ensures { verdict_told result
         ≡ judged table.now (reader table.now query.depth [] (goal_of query ∷ []) rec.now 1) }
 {
-    let mut used = 0;
-    let mut nodes = 0;
-    let mut every = words::ALL_AUTOMATA;
-    let mut some = 0;
-    let mut refusal = 0;
+    let mut tally = Tally {
+        used: 0,
+        nodes: 0,
+        words: WordsKept {
+            every: words::ALL_AUTOMATA,
+            some: 0,
+        },
+    };
     let goal = derivation::goal_of(query);
     let levels = layout::wide(query.depth);
     let start = StateSets::start(table);
-    let rest = reader::read(
+    let read = reader::read(
         table,
         rec,
         goal,
@@ -74,35 +79,22 @@ fn judge_by(
         start,
         Branch::empty(),
         arcs,
-        &mut used,
-        &mut nodes,
-        &mut every,
-        &mut some,
-        &mut refusal,
+        &mut tally,
     );
-    if refusal != 0 {
-        return Err(Refusal {
-            reason: reason_of(refusal),
-            position: nodes,
-        });
-    }
+    let rest = match read {
+        Ok(rest) => rest,
+        Err(reason) => {
+            return Err(Refusal {
+                reason,
+                position: tally.nodes,
+            });
+        }
+    };
     if rest.len() != 0 {
         return Err(Refusal {
             reason: Reason::RecordLength,
-            position: nodes + 1,
+            position: tally.nodes + 1,
         });
     }
-    words::judge_words(table, used, every, some)
-}
-
-// The reason with which reading stops at a node.
-fn reason_of(refusal: u32) -> Reason
-    requires { (11 ≤ refusal) × (refusal ≤ 13) }
-    ensures { number_of result ≡ refusal }
-{
-    match refusal {
-        11 => Reason::RecordLength,
-        12 => Reason::Node,
-        _ => Reason::Branch,
-    }
+    words::judge_words(table, tally.used, tally.words.every, tally.words.some)
 }
