@@ -11,7 +11,7 @@ ghost use Rattle.levels.specs.Levels.{Copied, FirstLevel, RowGrown};
 
 use masks::ROW;
 use sets::CredentialSet;
-use table::{Number, SIMPLE_MEMBERSHIP, layout};
+use table::{Kind, Number, layout};
 
 // Rows from 0 to the greatest depth.
 pub const TABLE_CELLS: usize = ROW * (layout::MOST_DEPTH as usize + 1);
@@ -61,8 +61,7 @@ fn first_level(
     let mut others = 0;
     for i in 0..n {
         if sets::has(allowed, i) {
-            let credential = layout::credential(table, i + 1);
-            if credential.kind == SIMPLE_MEMBERSHIP {
+            if layout::credential(table, i + 1).is(Kind::SimpleMembership) {
                 let cell = ROW + members::role_cell(index, i);
                 rows[cell] = sets::with(rows[cell], members::asked_cell(index, i, 0));
             } else {

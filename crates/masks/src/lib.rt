@@ -9,7 +9,7 @@ ghost use Rattle.table.specs.Layout.{credentials};
 ghost use Rattle.masks.specs.Masks.{Readable, asked_mask, asked_members, linked_members, proved_members};
 
 use sets::CredentialSet;
-use table::{LINKING_CONTAINMENT, Number, layout};
+use table::{Kind, Number, layout};
 
 // A cell for each place of a role, and one for the roles that nobody defines, which stays empty.
 pub const ROW: usize = layout::MOST_CREDENTIALS as usize + 1;
@@ -28,8 +28,7 @@ pub fn proved_by(
     ensures { result ≡ proved_members table.now index.now rows.now level i }
 {
     let asked = asked_members(index, rows, level, i);
-    let credential = layout::credential(table, i + 1);
-    if credential.kind != LINKING_CONTAINMENT {
+    if !layout::credential(table, i + 1).is(Kind::LinkingContainment) {
         return asked;
     }
     linked_members(table, index, rows, level, i, asked)

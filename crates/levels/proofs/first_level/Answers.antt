@@ -1,8 +1,9 @@
 -- A simple membership of the set names whoever stands in its cell, another credential of it is told, any other number changes
 -- nothing.
 use Rattle.std.proofs.Common.{sym, ◌∙◌}
+use Rattle.table.proofs.Reading.{is-number, not-number}
 use Rattle.levels.proofs.Rows.{first-is, first-named, first-other, first-outside, first-starts}
-use Rattle.levels.proofs.first_level.Goals.{then-has+then-credential-eq-SIMPLE_MEMBERSHIP, then-has+else-credential-eq-SIMPLE_MEMBERSHIP, else-has}
+use Rattle.levels.proofs.first_level.Goals.{then-has+then-is, then-has+else-is, else-has}
 use Rattle.levels.proofs.first_level.Goals as goal
 
 pub loop-i-init : goal.loop-i-init
@@ -13,14 +14,14 @@ loop-i-preserved c =
     let so_far = c.loop-i.invariant in
     let told = sym c.has.ensures in
     elim c.if-has.branch [
-      | then-has+then-credential-eq-SIMPLE_MEMBERSHIP w ↦
+      | then-has+then-is w ↦
           first-is _ _ _ _ _ _ _ _ w.rows-is w.others-is
-          (first-named _ _ _ _ _ _ so_far _ w.credential-credential.ensures (told ∙ w.if-has.true)
-          w.if-credential-eq-SIMPLE_MEMBERSHIP.true _ _ w.role_cell-cell.ensures.0 w.role_cell-cell.ensures.1
+          (first-named _ _ _ _ _ _ so_far _ w.credential.ensures (told ∙ w.if-has.true)
+          (is-number w.is.ensures w.if-is.true) _ _ w.role_cell-cell.ensures.0 w.role_cell-cell.ensures.1
           w.asked_cell.ensures.0 _ w.with.ensures)
-      | then-has+else-credential-eq-SIMPLE_MEMBERSHIP w ↦
+      | then-has+else-is w ↦
           first-is _ _ _ _ _ _ _ _ w.rows-is (w.others-is ∙ w.with-others.ensures)
-          (first-other _ _ _ _ _ _ so_far _ w.credential-credential.ensures (told ∙ w.if-has.true)
-          w.if-credential-eq-SIMPLE_MEMBERSHIP.false)
+          (first-other _ _ _ _ _ _ so_far _ w.credential.ensures (told ∙ w.if-has.true)
+          (not-number w.is.ensures w.if-is.false))
       | else-has w ↦ first-is _ _ _ _ _ _ _ _ w.rows-is w.others-is (first-outside _ _ _ _ _ _ so_far (told ∙ w.if-has.false))
     ]
