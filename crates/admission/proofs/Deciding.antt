@@ -28,7 +28,8 @@ use Rattle.table.proofs.WellFormed.{wf-credential}
 use Rattle.attached.specs.Attached.{automata_of, owed_of}
 use Rattle.derivation.proofs.Using.{automaton-shows}
 use Rattle.members.specs.Members.{Members}
-use Rattle.search.specs.Search.{Prepared, TellsMet, provable}
+use Rattle.search.specs.Search.{TellsMet, provable}
+use Rattle.search.specs.declared.prepared.Request.{Request}
 use Rattle.search.proofs.Sharing.{part_none}
 use Rattle.goals.specs.declared.Terms.{Terms}
 use Rattle.settling.specs.Settling.{Asks, all_automata, is_lacking, lacking_of, without_all}
@@ -211,12 +212,16 @@ module _ (t : List ℕ) (q : Query) (S A O : ℕ) (free : bit_or A (bit_or O (ow
   free-proved k proved e = to-proved t q S A O k (sym same-proved ∙ proved) e
 
 -- one automaton fewer is to be decided, on the same terms, or on others that ask more
-module _ {t : List ℕ} {q : Query} {index arcs rows : List ℕ} {terms : Terms} {marks k : ℕ}
-    (u : Undecided t q index arcs rows terms marks k) where
-  pub undecided-next : Undecided t q index arcs rows terms marks (k - 1)
+module _ {r : Request} {rows : List ℕ} {terms : Terms} {marks k : ℕ} (u : Undecided r rows terms marks k) where
+  abbrev t : List ℕ
+  t = r.table.now
+
+  wf : WellFormed t
+  wf = r.prepared.well_formed
+
+  pub undecided-next : Undecided r rows terms marks (k - 1)
   undecided-next =
       record {
-        prepared = u.prepared;
         members = u.members;
         marks-are = u.marks-are;
         there = omega (arith, u.there);
@@ -224,10 +229,9 @@ module _ {t : List ℕ} {q : Query} {index arcs rows : List ℕ} {terms : Terms}
       }
 
   pub undecided-with : {A O : ℕ} {more : Terms} → Asks terms A O more → O < all_sets
-      → Undecided t q index arcs rows more marks (k - 1)
+      → Undecided r rows more marks (k - 1)
   undecided-with asks few =
       record {
-        prepared = u.prepared;
         members = rw (asks.allowed-is, asks.last-is) u.members;
         marks-are = u.marks-are;
         there = omega (arith, u.there);
@@ -236,23 +240,19 @@ module _ {t : List ℕ} {q : Query} {index arcs rows : List ℕ} {terms : Terms}
 
   -- it may be sought what can be met of all that the set may owe, and what is found tells it
   module _ {all : Terms} (asks : Asks terms terms.constraints (bit_or terms.owed (owed_of t terms.allowed)) all) where
-    pub may-seek : Prepared t q index arcs
-        × (Members t all.allowed q.depth all.last rows × (all.owed < all_sets))
+    pub may-seek : Members t all.allowed r.query.depth all.last rows × (all.owed < all_sets)
     may-seek = (
-      u.prepared,
-      (
-        rw (asks.allowed-is, asks.last-is) u.members,
-        rw asks.owed-is (asked-few t u.prepared.well_formed terms.allowed terms.owed u.few),
-      ),
+      rw (asks.allowed-is, asks.last-is) u.members,
+      rw asks.owed-is (asked-few t wf terms.allowed terms.owed u.few),
     )
 
-    pub sought : {found : Family} → TellsMet t q all.allowed all.constraints all.owed found
-        → MetFound t q terms all.owed found
+    pub sought : {found : Family} → TellsMet t r.query all.allowed all.constraints all.owed found
+        → MetFound t r.query terms all.owed found
     sought tells = record { asked_is = asks.owed-is; tells = rw (asks.allowed-is, asks.every-is, asks.owed-is) at tells }
 
   -- there are no more than eight
   pub few-left : k ≤ most_automata
-  few-left = omega (arith, u.there, u.prepared.well_formed.sized.counted.few_automata)
+  few-left = omega (arith, u.there, wf.sized.counted.few_automata)
 
   pub owing-few : (k ≡ 0 → ⊥) → bit_or terms.owed (2 ^ (k - 1)) < all_sets
   owing-few some = or_lt 8 terms.owed (2 ^ (k - 1)) u.few (pow-lt {i = k - 1} {j = 8} (omega (arith, some, few-left)))
@@ -260,11 +260,10 @@ module _ {t : List ℕ} {q : Query} {index arcs rows : List ℕ} {terms : Terms}
   -- what automaton k demands, by the marks
   module _ (some : k ≡ 0 → ⊥) where
     pub by-mark : in_set marks (k - 1) ≡ true → (automaton t (suc (k - 1))).mark ≡ 1
-    by-mark h = (marked-shows t u.prepared.well_formed all_automata (k - 1) (rw u.marks-are at h)).2
+    by-mark h = (marked-shows t wf all_automata (k - 1) (rw u.marks-are at h)).2
 
     pub by-no-mark : in_set marks (k - 1) ≡ false → eqb (automaton t (suc (k - 1))).mark 1 ≡ false
     by-no-mark h =
-        let wf = u.prepared.well_formed in
         let l : k - 1 < automata t = omega (arith, some, u.there) in
         refuted _ (λ one.
         false-true (sym (rw u.marks-are at h)

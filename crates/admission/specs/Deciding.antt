@@ -9,15 +9,15 @@ use Rattle.table.specs.declared.Query.{Query}
 use Rattle.attached.specs.Attached.{automata_of, marked_of, owed_of}
 use Rattle.members.specs.Members.{Members}
 use Rattle.goals.specs.declared.Terms.{Terms}
-use Rattle.search.specs.Search.{Prepared, TellsMet}
+use Rattle.search.specs.Search.{TellsMet}
+use Rattle.search.specs.declared.prepared.Request.{Request}
 use Rattle.settling.specs.Settling.{all_automata}
 
 -- the first k automata are to be decided, on the terms of a search: `marks` has those of the table that demand some word
-pub record Undecided (t : List ℕ) (q : Query) (index arcs rows : List ℕ) (terms : Terms) (marks k : ℕ) : Type 0 where
-  pub prepared : Prepared t q index arcs
-  pub members : Members t terms.allowed q.depth terms.last rows
-  pub marks-are : marks ≡ marked_of t all_automata
-  pub there : k ≤ automata t
+pub record Undecided (r : Request) (rows : List ℕ) (terms : Terms) (marks k : ℕ) : Type 0 where
+  pub members : Members r.table.now terms.allowed r.query.depth terms.last rows
+  pub marks-are : marks ≡ marked_of r.table.now all_automata
+  pub there : k ≤ automata r.table.now
   pub few : terms.owed < all_sets
 
 -- what can be met of `asked`, which is all that is owed and all that the set may owe

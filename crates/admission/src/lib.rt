@@ -10,7 +10,6 @@ ghost use Rattle.std.specs.Int.Bits.{bit_or};
 ghost use Rattle.families.specs.Families.{all_sets};
 ghost use Rattle.table.specs.Layout.{automata, automaton};
 ghost use Rattle.attached.specs.Attached.{marked_of, owed_of};
-ghost use Rattle.search.specs.Search.{Prepared};
 ghost use Rattle.settling.specs.Settling.{all_automata};
 ghost use Rattle.admission.specs.Admits;
 ghost use Rattle.admission.specs.Admits.{admits_by, admits_to};
@@ -18,32 +17,23 @@ ghost use Rattle.admission.specs.Deciding.{Borne, Known, MetFound, Undecided};
 
 use families::Family;
 use goals::Terms;
-use sets::{AutomatonSet, CredentialSet, StateSet};
-use table::{Number, Query, layout};
+use search::Request;
+use sets::{AutomatonSet, CredentialSet};
+use table::layout;
 
 const ALL_AUTOMATA: AutomatonSet = 255;
 
 // Whether some accepted record uses only credentials of the set.
-pub fn admits(
-    table: &[Number],
-    query: Query,
-    index: &[u8],
-    arcs: &[StateSet],
-    set: CredentialSet,
-) -> bool
-    requires { Prepared table.now query index.now arcs.now }
-    ensures { result ≡ Admits.admits table.now query set }
+pub fn admits(request: &Request, set: CredentialSet) -> bool
+    ensures { result ≡ Admits.admits request.now.table.now request.now.query set }
 {
     admits_under(
-        table,
-        query,
-        index,
-        arcs,
+        request,
         set,
         0,
         0,
-        attached::marked(table, ALL_AUTOMATA),
-        layout::automata(table),
+        attached::marked(request.table, ALL_AUTOMATA),
+        layout::automata(request.table),
     )
 }
 
@@ -51,65 +41,59 @@ pub fn admits(
 // bears can be done without or met beside them. `marks` are the automata of the table that demand some word.
 #[cycle(admit)]
 fn admits_under(
-    table: &[Number],
-    query: Query,
-    index: &[u8],
-    arcs: &[StateSet],
+    request: &Request,
     set: CredentialSet,
     constraints: AutomatonSet,
     owed: AutomatonSet,
     marks: AutomatonSet,
     k: usize,
 ) -> bool
-    requires prepared { Prepared table.now query index.now arcs.now }
-    requires marks_value { marks ≡ marked_of table.now all_automata }
-    requires k_bound { (k ≤ automata table.now) × (owed < all_sets) }
-    ensures { result ≡ admits_to table.now query set constraints owed k }
+    requires marks_value { marks ≡ marked_of request.now.table.now all_automata }
+    requires k_bound { (k ≤ automata request.now.table.now) × (owed < all_sets) }
+    ensures { result ≡ admits_to request.now.table.now request.now.query set constraints owed k }
 {
     let mut rows = [0; levels::TABLE_CELLS];
-    let last = levels::fill(table, index, set, layout::wide(query.depth), &mut rows);
+    let last = levels::fill(
+        request.table,
+        request.index,
+        set,
+        layout::wide(request.query.depth),
+        &mut rows,
+    );
     let terms = Terms {
         allowed: set,
-        constraints: constraints,
-        owed: owed,
-        last: last,
+        constraints,
+        owed,
+        last,
     };
-    admits_over(table, query, index, arcs, &rows, terms, marks, k)
+    admits_over(request, &rows, terms, marks, k)
 }
 
 // The same on the terms of a search, with the table of members of the set.
 #[cycle(admit)]
 fn admits_over(
-    table: &[Number],
-    query: Query,
-    index: &[u8],
-    arcs: &[StateSet],
+    request: &Request,
     rows: &[CredentialSet],
     terms: Terms,
     marks: AutomatonSet,
     k: usize,
 ) -> bool
-    requires { Undecided table.now query index.now arcs.now rows.now terms marks k }
-    ensures { result ≡ admits_to table.now query terms.allowed terms.constraints terms.owed k }
+    requires { Undecided request.now rows.now terms marks k }
+    ensures { result ≡ admits_to request.now.table.now request.now.query terms.allowed terms.constraints terms.owed k }
 {
-    let all = settling::owing_all(table, terms, marks);
+    let all = settling::owing_all(request.table, terms, marks);
     if all.constraints | all.owed == 0 {
-        return admits_free(table, query, index, arcs, rows, terms, marks, k);
+        return admits_free(request, rows, terms, marks, k);
     }
-    let found = search::query_search(table, query, index, arcs, rows, all);
-    admits_found(
-        table, query, index, arcs, rows, terms, marks, all.owed, found, k,
-    )
+    let found = search::query_search(request, rows, all);
+    admits_found(request, rows, terms, marks, all.owed, found, k)
 }
 
 // The same where it is found what can be met of `asked`, which is all that is owed and all that the set may owe. What cannot be met
 // beside what is owed is done without.
 #[cycle(admit)]
 fn admits_found(
-    table: &[Number],
-    query: Query,
-    index: &[u8],
-    arcs: &[StateSet],
+    request: &Request,
     rows: &[CredentialSet],
     terms: Terms,
     marks: AutomatonSet,
@@ -117,9 +101,9 @@ fn admits_found(
     found: Family,
     k: usize,
 ) -> bool
-    requires undecided { Undecided table.now query index.now arcs.now rows.now terms marks k }
-    requires met_found { MetFound table.now query terms asked found }
-    ensures { result ≡ admits_to table.now query terms.allowed terms.constraints terms.owed k }
+    requires undecided { Undecided request.now rows.now terms marks k }
+    requires met_found { MetFound request.now.table.now request.now.query terms asked found }
+    ensures { result ≡ admits_to request.now.table.now request.now.query terms.allowed terms.constraints terms.owed k }
 {
     if !found.covers(terms.owed) {
         return false;
@@ -129,62 +113,42 @@ fn admits_found(
     }
     let lost = settling::lacking(found, terms.owed, asked, k);
     if lost != 0 {
-        let fewer = settling::without(table, terms.allowed, lost);
-        return admits_under(
-            table,
-            query,
-            index,
-            arcs,
-            fewer,
-            terms.constraints,
-            terms.owed,
-            marks,
-            k,
-        );
+        let fewer = settling::without(request.table, terms.allowed, lost);
+        return admits_under(request, fewer, terms.constraints, terms.owed, marks, k);
     }
-    let borne = attached::automata_of(table, terms.allowed);
-    admits_by(
-        table, query, index, arcs, rows, terms, marks, borne, found, k,
-    )
+    let borne = attached::automata_of(request.table, terms.allowed);
+    admits_by(request, rows, terms, marks, borne, found, k)
 }
 
 // The same where no automaton is imposed and none can be owed: whether the set proves is known without a search.
 #[cycle(admit)]
 fn admits_free(
-    table: &[Number],
-    query: Query,
-    index: &[u8],
-    arcs: &[StateSet],
+    request: &Request,
     rows: &[CredentialSet],
     terms: Terms,
     marks: AutomatonSet,
     k: usize,
 ) -> bool
-    requires undecided { Undecided table.now query index.now arcs.now rows.now terms marks k }
-    requires allowed_value { bit_or terms.constraints (bit_or terms.owed (owed_of table.now terms.allowed)) ≡ 0 }
-    ensures { result ≡ admits_to table.now query terms.allowed terms.constraints terms.owed k }
+    requires undecided { Undecided request.now rows.now terms marks k }
+    requires allowed_value { bit_or terms.constraints (bit_or terms.owed (owed_of request.now.table.now terms.allowed)) ≡ 0 }
+    ensures { result ≡ admits_to request.now.table.now request.now.query terms.allowed terms.constraints terms.owed k }
 {
-    if !search::is_member(table, query, index, rows, terms) {
+    if !search::is_member(request, rows, terms) {
         return false;
     }
     if k == 0 {
         return true;
     }
-    let borne = attached::automata_of(table, terms.allowed);
+    let borne = attached::automata_of(request.table, terms.allowed);
     let found = Family::only(0);
-    admits_by(
-        table, query, index, arcs, rows, terms, marks, borne, found, k,
-    )
+    admits_by(request, rows, terms, marks, borne, found, k)
 }
 
 // Whether each automaton from k down to 1 that the set bears can be done without or met, where `found` tells what can be met of
 // all that the set may owe.
 #[cycle(admit)]
 fn admits_by(
-    table: &[Number],
-    query: Query,
-    index: &[u8],
-    arcs: &[StateSet],
+    request: &Request,
     rows: &[CredentialSet],
     terms: Terms,
     marks: AutomatonSet,
@@ -192,42 +156,26 @@ fn admits_by(
     found: Family,
     k: usize,
 ) -> bool
-    requires undecided { Undecided table.now query index.now arcs.now rows.now terms marks k }
-    requires known { Known table.now query terms borne found }
-    ensures { result ≡ admits_by table.now query terms.allowed terms.constraints terms.owed k }
+    requires undecided { Undecided request.now rows.now terms marks k }
+    requires known { Known request.now.table.now request.now.query terms borne found }
+    ensures { result ≡ admits_by request.now.table.now request.now.query terms.allowed terms.constraints terms.owed k }
 {
     if k == 0 {
         return true;
     }
     if !sets::has(borne, k - 1) {
-        return admits_by(
-            table,
-            query,
-            index,
-            arcs,
-            rows,
-            terms,
-            marks,
-            borne,
-            found,
-            k - 1,
-        );
+        return admits_by(request, rows, terms, marks, borne, found, k - 1);
     }
     if sets::has(marks, k - 1) {
-        return owes_one(
-            table, query, index, arcs, rows, terms, marks, borne, found, k,
-        );
+        return owes_one(request, rows, terms, marks, borne, found, k);
     }
-    imposes_one(table, query, index, arcs, rows, terms, marks, k)
+    imposes_one(request, rows, terms, marks, k)
 }
 
 // The same where automaton k is borne and demands some word: whether it can be met is known, so that is asked first.
 #[cycle(admit)]
 fn owes_one(
-    table: &[Number],
-    query: Query,
-    index: &[u8],
-    arcs: &[StateSet],
+    request: &Request,
     rows: &[CredentialSet],
     terms: Terms,
     marks: AutomatonSet,
@@ -235,85 +183,40 @@ fn owes_one(
     found: Family,
     k: usize,
 ) -> bool
-    requires undecided { Undecided table.now query index.now arcs.now rows.now terms marks k }
-    requires known { Known table.now query terms borne found }
-    requires borne { Borne table.now terms.allowed k × ((automaton table.now (suc (k - 1))).mark ≡ 1) }
-    ensures { result ≡ admits_by table.now query terms.allowed terms.constraints terms.owed k }
+    requires undecided { Undecided request.now rows.now terms marks k }
+    requires known { Known request.now.table.now request.now.query terms borne found }
+    requires borne { Borne request.now.table.now terms.allowed k × ((automaton request.now.table.now (suc (k - 1))).mark ≡ 1) }
+    ensures { result ≡ admits_by request.now.table.now request.now.query terms.allowed terms.constraints terms.owed k }
 {
     let more = settling::owing(terms, k);
     if found.covers(more.owed) {
-        if admits_by(
-            table,
-            query,
-            index,
-            arcs,
-            rows,
-            more,
-            marks,
-            borne,
-            found,
-            k - 1,
-        ) {
+        if admits_by(request, rows, more, marks, borne, found, k - 1) {
             return true;
         }
     }
-    let fewer = settling::without_one(table, terms.allowed, k);
-    admits_under(
-        table,
-        query,
-        index,
-        arcs,
-        fewer,
-        terms.constraints,
-        terms.owed,
-        marks,
-        k - 1,
-    )
+    let fewer = settling::without_one(request.table, terms.allowed, k);
+    admits_under(request, fewer, terms.constraints, terms.owed, marks, k - 1)
 }
 
 // The same where automaton k is borne and demands every word.
 #[cycle(admit)]
 fn imposes_one(
-    table: &[Number],
-    query: Query,
-    index: &[u8],
-    arcs: &[StateSet],
+    request: &Request,
     rows: &[CredentialSet],
     terms: Terms,
     marks: AutomatonSet,
     k: usize,
 ) -> bool
-    requires undecided { Undecided table.now query index.now arcs.now rows.now terms marks k }
-    requires borne { Borne table.now terms.allowed k × (eqb (automaton table.now (suc (k - 1))).mark 1 ≡ false) }
-    ensures { result ≡ admits_by table.now query terms.allowed terms.constraints terms.owed k }
+    requires undecided { Undecided request.now rows.now terms marks k }
+    requires borne { Borne request.now.table.now terms.allowed k × (eqb (automaton request.now.table.now (suc (k - 1))).mark 1 ≡ false) }
+    ensures { result ≡ admits_by request.now.table.now request.now.query terms.allowed terms.constraints terms.owed k }
 {
-    let fewer = settling::without_one(table, terms.allowed, k);
-    if admits_under(
-        table,
-        query,
-        index,
-        arcs,
-        fewer,
-        terms.constraints,
-        terms.owed,
-        marks,
-        k - 1,
-    ) {
+    let fewer = settling::without_one(request.table, terms.allowed, k);
+    if admits_under(request, fewer, terms.constraints, terms.owed, marks, k - 1) {
         return true;
     }
     let more = settling::imposing(terms, k);
-    let all = settling::owing_all(table, more, marks);
-    let found = search::query_search(table, query, index, arcs, rows, all);
-    admits_found(
-        table,
-        query,
-        index,
-        arcs,
-        rows,
-        more,
-        marks,
-        all.owed,
-        found,
-        k - 1,
-    )
+    let all = settling::owing_all(request.table, more, marks);
+    let found = search::query_search(request, rows, all);
+    admits_found(request, rows, more, marks, all.owed, found, k - 1)
 }

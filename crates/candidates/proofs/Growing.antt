@@ -1,14 +1,20 @@
 -- A set that is not admitted, grown credential by credential, and what lies outside of it.
 use mathlib.Core.Path.{◌≡◌, refl, sym, ap, ◌∙◌}
-use mathlib.Core.List.{List}
-use mathlib.Core.Bool.{Bool, true, false, not}
-use Prim.Native.Nat.{ℕ, ◌+◌, ◌-◌, ◌*◌, ◌%◌, ◌^◌, ◌<◌, ◌≤◌}
+use mathlib.Core.List.{List, [], ◌∷◌}
+use mathlib.Core.Bool.{Bool, true, false, not, ◌||◌}
+use mathlib.Core.Logic.{⊎_elim}
+use Prim.Native.Nat.{ℕ, zero, suc, ◌+◌, ◌-◌, ◌*◌, ◌%◌, ◌^◌, ◌<◌, ◌≤◌}
 use native.Mathlib.Omega.{arith}
-use lib.ListN.{get_or, length}
+use lib.ListN.{get_or, length, take}
 use lib.Bits.{bit_and, bit_or, bit_xor, or_lt}
 use lib.Dec.{eqb, ltb}
 use borrow.Author.Tests.{eq-eqb, eqb-true, le-ltb, lt-ltb, ne_eqb}
 use lib.Pow.{pow-lt, pow_pos}
+use Rattle.std.specs.List.{list_any}
+use Rattle.std.proofs.Math.Seq.{take-suc}
+use Rattle.std.proofs.lemmas.Bool.{cases_lt}
+use Rattle.std.proofs.lemmas.List.{take_all}
+use Rattle.std.proofs.lemmas.List.Folds.{list_any-append}
 use Rattle.sets.specs.Logic.{◌and◌, ◌or◌, any_below}
 use Rattle.sets.specs.Sets.{in_set, part}
 use Rattle.sets.proofs.Tests.{and_both, and-false, and-is-off, any_next, any-on}
@@ -71,27 +77,32 @@ pub beyond-fails : {p : ℕ → Bool} (set i usable : ℕ) {more : ℕ} → Bear
 beyond-fails {p} set i usable bears out fails e =
     ap p e ∙ sym (bears (bit_or set (2 ^ i))) ∙ ap p (beyond-same set i usable out) ∙ bears set ∙ fails
 
--- whether one of the sets found so far is a part of the set, set by set
-module _ (sets : List ℕ) (set : ℕ) where
-  pub listed-none : has_listed sets 0 set ≡ false
-  unfolding has_listed any_below
-  listed-none = refl
+-- one of the first so many sets found is a part of the set, as far as the buffer has cells for them
+one-more : (a b : Bool) → (a || (b || false)) ≡ (a or (true and b))
+unfolding ◌or◌ ◌and◌
+one-more true b = refl
+one-more false true = refl
+one-more false false = refl
 
-  pub listed_here : (i found : ℕ) → i < found → i < length sets → bit_and (get_or sets i 0) set ≡ get_or sets i 0
-      → has_listed sets found set ≡ true
-  unfolding has_listed part
-  listed_here i found l there e = any-reached _ found i l (and_both (lt-ltb i (length sets) there) (eq-eqb _ _ e))
+none-more : (a b : Bool) → a ≡ (a or (false and b))
+unfolding ◌and◌
+none-more a b = sym (or-false a)
 
-  pub listed_next : (i : ℕ) → has_listed sets i set ≡ false → (bit_and (get_or sets i 0) set ≡ get_or sets i 0 → ⊥)
-      → has_listed sets (i + 1) set ≡ false
-  unfolding has_listed part
-  listed_next i before e = any_next _ i before (rw (ne_eqb _ _ e) (and-false (ltb i (length sets))))
+any-taken : (p : ℕ → Bool) (xs : List ℕ) (n : ℕ)
+    → list_any p (take n xs) ≡ any_below (λ i. ltb i (length xs) and p (get_or xs i 0)) n
+unfolding any_below
+any-taken p xs zero = refl
+any-taken p xs (suc n) =
+    ⊎_elim
+    (λ l. rw (take-suc xs n 0 l, list_any-append p (take n xs) (get_or xs n 0 ∷ []), any-taken p xs n, lt-ltb n (length xs) l)
+    (one-more _ _))
+    (λ l. ap (list_any p) (take_all (suc n) xs (omega arith) ∙ sym (take_all n xs l)) ∙ any-taken p xs n
+    ∙ rw (le-ltb n (length xs) l) (none-more _ _))
+    (cases_lt n (length xs))
 
-  -- beyond the buffer's cells there is none
-  pub listed-whole : (i found : ℕ) → length sets ≤ i → has_listed sets i set ≡ false → has_listed sets found set ≡ false
-  unfolding has_listed
-  listed-whole i found end before =
-      any-on _ i found before (λ k from l. and-is-off _ (le-ltb k (length sets) (omega arith)))
+pub listed-taken : (sets : List ℕ) (found set : ℕ) → list_any (λ s. part s set) (take found sets) ≡ has_listed sets found set
+unfolding has_listed
+listed-taken sets found set = any-taken (λ s. part s set) sets found
 
 -- a set is kept where it is least
 module _ {p : ℕ → Bool} {set : ℕ} {sets : List ℕ} {found : ℕ} where

@@ -9,47 +9,38 @@ ghost use Rattle.sets.specs.Sets.{in_set};
 ghost use Rattle.cuts.specs.Cuts.{Cuts, is_least};
 ghost use Rattle.table.specs.Layout.{credentials};
 ghost use Rattle.table.specs.Holding.{WellFormed};
-ghost use Rattle.search.specs.Search.{Prepared};
 ghost use Rattle.admission.specs.Admits.{admits};
 ghost use Rattle.candidates.specs.Candidates.{Bears, Grown, InsertedIfLeast, has_listed};
 
-use sets::{CredentialSet, StateSet};
-use table::{Number, Query, layout};
+use search::Request;
+use sets::CredentialSet;
+use table::{Number, layout};
 
 // Puts an admitted set into the buffer if it is minimal. That is known where each of its credentials is in some cut the only one;
 // where the array is full it is tested.
 pub fn keep(
-    table: &[Number],
-    query: Query,
-    index: &[u8],
-    arcs: &[StateSet],
+    request: &Request,
     set: CredentialSet,
     full: bool,
     sets: &mut [CredentialSet],
     found: &mut usize,
 )
-    requires prepared { Prepared table.now query index.now arcs.now }
-    requires set_bound { set < 2 ^ credentials table.now }
-    requires set_value { admits table.now query set ≡ true }
-    requires set_value_2 { full ≡ false → is_least (admits table.now query) set ≡ true }
+    requires set_bound { set < 2 ^ credentials request.now.table.now }
+    requires set_value { admits request.now.table.now request.now.query set ≡ true }
+    requires set_value_2 { full ≡ false → is_least (admits request.now.table.now request.now.query) set ≡ true }
     requires found_bound { found.old < 2 ^ 32 }
-    ensures { InsertedIfLeast (admits table.now query) set sets.old found.old
+    ensures { InsertedIfLeast (admits request.now.table.now request.now.query) set sets.old found.old
         sets.new found.new }
 {
-    if full {
-        if !minimal::is_minimal(table, query, index, arcs, set) {
-            return;
-        }
+    if full && !minimal::is_minimal(request, set) {
+        return;
     }
     sorted::insert(sets, found, set);
 }
 
 // Grows a set that is not admitted, credential by credential, while it is not.
 pub fn grown(
-    table: &[Number],
-    query: Query,
-    index: &[u8],
-    arcs: &[StateSet],
+    request: &Request,
     usable: CredentialSet,
     cuts: &[CredentialSet],
     count: usize,
@@ -57,21 +48,16 @@ pub fn grown(
     found: usize,
     chosen: CredentialSet,
 ) -> CredentialSet
-    requires prepared { Prepared table.now query index.now arcs.now }
-    requires bears { Bears (admits table.now query) usable }
-    requires cuts { Cuts (admits table.now query) (credentials table.now) cuts.now count }
-    requires chosen_bound { chosen < 2 ^ credentials table.now }
-    requires chosen_value { admits table.now query chosen ≡ false }
-    ensures { Grown (admits table.now query) (credentials table.now) chosen result }
+    requires bears { Bears (admits request.now.table.now request.now.query) usable }
+    requires cuts { Cuts (admits request.now.table.now request.now.query) (credentials request.now.table.now) cuts.now count }
+    requires chosen_bound { chosen < 2 ^ credentials request.now.table.now }
+    requires chosen_value { admits request.now.table.now request.now.query chosen ≡ false }
+    ensures { Grown (admits request.now.table.now request.now.query) (credentials request.now.table.now) chosen result }
 {
-    let n = layout::credentials(table);
+    let n = layout::credentials(request.table);
     let mut set = chosen;
-    let mut i = 0;
-    while i < n {
-        set = grown_by(
-            table, query, index, arcs, usable, cuts, count, sets, found, set, i,
-        );
-        i += 1;
+    for i in 0..n {
+        set = grown_by(request, usable, cuts, count, sets, found, set, i);
     }
     set
 }
@@ -80,10 +66,7 @@ pub fn grown(
 // where the set does not meet one of the cuts; and it is admitted where a set of the list is a part of it. These are asked first.
 // Consulting the list affects speed, not correctness: a set that is not grown is as good a result.
 fn grown_by(
-    table: &[Number],
-    query: Query,
-    index: &[u8],
-    arcs: &[StateSet],
+    request: &Request,
     usable: CredentialSet,
     cuts: &[CredentialSet],
     count: usize,
@@ -92,13 +75,12 @@ fn grown_by(
     set: CredentialSet,
     i: usize,
 ) -> CredentialSet
-    requires prepared { Prepared table.now query index.now arcs.now }
-    requires bears { Bears (admits table.now query) usable }
-    requires cuts { Cuts (admits table.now query) (credentials table.now) cuts.now count }
-    requires set_bound { set < 2 ^ credentials table.now }
-    requires set_value { admits table.now query set ≡ false }
-    requires i_bound { i < credentials table.now }
-    ensures { Grown (admits table.now query) (credentials table.now) set result }
+    requires bears { Bears (admits request.now.table.now request.now.query) usable }
+    requires cuts { Cuts (admits request.now.table.now request.now.query) (credentials request.now.table.now) cuts.now count }
+    requires set_bound { set < 2 ^ credentials request.now.table.now }
+    requires set_value { admits request.now.table.now request.now.query set ≡ false }
+    requires i_bound { i < credentials request.now.table.now }
+    ensures { Grown (admits request.now.table.now request.now.query) (credentials request.now.table.now) set result }
 {
     if sets::has(set, i) {
         return set;
@@ -113,7 +95,7 @@ fn grown_by(
     if has_listed(sets, found, more) {
         return set;
     }
-    if admission::admits(table, query, index, arcs, more & usable) {
+    if admission::admits(request, more & usable) {
         return set;
     }
     more
@@ -123,17 +105,7 @@ fn grown_by(
 fn has_listed(sets: &[CredentialSet], found: usize, set: CredentialSet) -> bool
     ensures { result ≡ has_listed sets.now found set }
 {
-    let mut i = 0;
-    while i < found {
-        if i == sets.len() {
-            return false;
-        }
-        if sets[i] & set == sets[i] {
-            return true;
-        }
-        i += 1;
-    }
-    false
+    sets.iter().take(found).any(|s| s & set == *s)
 }
 
 // The table's credentials outside of a set of them.

@@ -1,16 +1,15 @@
 -- docs/DEFINITION.md, "The list" and rows 9 and 10: the minimal sets, and what a buffer holds afterwards. specs/Demands.antt
 -- states that this is the list that the definition means.
-use Rattle.std.specs.Prelude.{ℕ, ◌^◌, ◌≡◌, List, Bool, not, length, eqb, leb}
+use Rattle.std.specs.Prelude.{ℕ, ◌^◌, ◌≡◌, List, Bool, not, length, eqb, leb, Result}
 use Rattle.cuts.specs.Cuts.{is_least}
 use Rattle.sorted.specs.Sorted.{laid, those}
 use Rattle.table.specs.Outcome.{Outcome, ◌and_then◌, demand}
 use Rattle.table.specs.Outcome.Outcome.{accepted, refused}
 use Rattle.table.specs.Layout.{credentials}
-use Rattle.table.specs.Checks.{request_outcome, told}
+use Rattle.table.specs.Checks.{outcome_of, request_outcome}
 use Rattle.table.specs.declared.Query.{Query}
+use Rattle.table.specs.declared.Refusal.{Refusal}
 use Rattle.admission.specs.Admits.{admits}
-use Rattle.listing.specs.declared.Listing.{Listing}
-use Rattle.listing.specs.declared.Listing.TheVariants as listing'
 
 -- some accepted record uses only credentials of S, and none uses only credentials of a proper part of it
 abbrev pub is_minimal : List ℕ → Query → ℕ → Bool
@@ -40,6 +39,6 @@ afterwards (refused number position) sets buffer = buffer
 unfoldable pub buffer_after : List ℕ → Query → List ℕ → List ℕ
 buffer_after t q buffer = afterwards (request_outcome t q) (minimal_sets t q) buffer
 
-unfoldable pub listing_told : Listing → Outcome
-listing_told (listing'.Listed count) = accepted count
-listing_told (listing'.Refused why) = told why
+-- what the answer tells: the count, or why nothing is listed
+abbrev pub listing_told : Result ℕ Refusal → Outcome
+listing_told result = outcome_of (λ count. count) result

@@ -6,20 +6,16 @@
 
 ghost use Rattle.cuts.specs.Cuts.{Ready};
 ghost use Rattle.table.specs.Layout.{credentials};
-ghost use Rattle.search.specs.Search.{Prepared};
 ghost use Rattle.admission.specs.Admits.{admits};
 ghost use Rattle.candidates.specs.Candidates.{Bears};
 ghost use Rattle.regions.specs.Below.{Decided, Ended, Held};
 
-use sets::{CredentialSet, StateSet};
-use table::{Number, Query};
+use search::Request;
+use sets::CredentialSet;
 
 // Finds the minimal sets of a region: those without one of its free credentials, then those with it.
 pub fn below(
-    table: &[Number],
-    query: Query,
-    index: &[u8],
-    arcs: &[StateSet],
+    request: &Request,
     usable: CredentialSet,
     chosen: CredentialSet,
     free: CredentialSet,
@@ -28,39 +24,28 @@ pub fn below(
     sets: &mut [CredentialSet],
     found: &mut usize,
 )
-    requires prepared { Prepared table.now query index.now arcs.now }
-    requires bears { Bears (admits table.now query) usable }
-    requires ready { Ready (admits table.now query) (credentials table.now) chosen free cuts.old count.old }
-    requires held { Held (credentials table.now) chosen free sets.old found.old }
-    ensures { Ended table.now query chosen free cuts.old count.old
+    requires bears { Bears (admits request.now.table.now request.now.query) usable }
+    requires ready { Ready (admits request.now.table.now request.now.query) (credentials request.now.table.now) chosen free cuts.old count.old }
+    requires held { Held (credentials request.now.table.now) chosen free sets.old found.old }
+    ensures { Ended request.now.table.now request.now.query chosen free cuts.old count.old
         cuts.new count.new sets.old found.old sets.new found.new }
 {
-    let among = decide(
-        table, query, index, arcs, usable, chosen, free, cuts, count, sets, found,
-    );
+    let among = decide(request, usable, chosen, free, cuts, count, sets, found);
     if among == 0 {
         return;
     }
     let next = cuts::highest(among);
     let rest = free ^ (1 << next);
     let more = sets::with(chosen, next);
-    below(
-        table, query, index, arcs, usable, chosen, // without it
-        rest, cuts, count, sets, found,
-    );
-    below(
-        table, query, index, arcs, usable, more, // with it
-        rest, cuts, count, sets, found,
-    );
+    // without it, then with it
+    below(request, usable, chosen, rest, cuts, count, sets, found);
+    below(request, usable, more, rest, cuts, count, sets, found);
 }
 
 // What of a region is left to branch on: the free credentials of a cut that `chosen` does not meet, or none where the region is
 // done with. Where the array of cuts is full, any free credential.
 fn decide(
-    table: &[Number],
-    query: Query,
-    index: &[u8],
-    arcs: &[StateSet],
+    request: &Request,
     usable: CredentialSet,
     chosen: CredentialSet,
     free: CredentialSet,
@@ -69,11 +54,10 @@ fn decide(
     sets: &mut [CredentialSet],
     found: &mut usize,
 ) -> CredentialSet
-    requires prepared { Prepared table.now query index.now arcs.now }
-    requires bears { Bears (admits table.now query) usable }
-    requires ready { Ready (admits table.now query) (credentials table.now) chosen free cuts.old count.old }
-    requires held { Held (credentials table.now) chosen free sets.old found.old }
-    ensures { Decided table.now query chosen free cuts.old count.old
+    requires bears { Bears (admits request.now.table.now request.now.query) usable }
+    requires ready { Ready (admits request.now.table.now request.now.query) (credentials request.now.table.now) chosen free cuts.old count.old }
+    requires held { Held (credentials request.now.table.now) chosen free sets.old found.old }
+    ensures { Decided request.now.table.now request.now.query chosen free cuts.old count.old
         cuts.new count.new sets.old found.old sets.new
         found.new result }
 {
@@ -84,27 +68,16 @@ fn decide(
     if among != 0 {
         return among;
     }
-    if admission::admits(table, query, index, arcs, chosen) {
-        candidates::keep(
-            table,
-            query,
-            index,
-            arcs,
-            chosen,
-            *count == cuts.len(),
-            sets,
-            found,
-        );
+    if admission::admits(request, chosen) {
+        candidates::keep(request, chosen, *count == cuts.len(), sets, found);
         return 0;
     }
     if *count == cuts.len() {
         return free;
     }
     let cut = candidates::outside(
-        table,
-        candidates::grown(
-            table, query, index, arcs, usable, cuts, *count, sets, *found, chosen,
-        ),
+        request.table,
+        candidates::grown(request, usable, cuts, *count, sets, *found, chosen),
     );
     cuts[*count] = cut;
     *count += 1;

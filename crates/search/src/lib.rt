@@ -5,16 +5,15 @@
 #![tactic(auto)]
 
 mod asking; // asking.rt: the goals that a credential asks
+mod prepared; // prepared.rt: a table and a query, prepared for a search
 mod seeking; // seeking.rt: goal search and credential search, which call each other
 
 ghost use Rattle.std.specs.Prelude.{◌≡◌, ◌<◌};
 ghost use Rattle.families.specs.Families.{all_sets};
 ghost use Rattle.automata.specs.Together.{starting_sets};
 ghost use Rattle.members.specs.Above.{nothing_above};
-ghost use Rattle.table.specs.Holding.{WellFormed};
-ghost use Rattle.table.specs.Checks.{Valid};
-ghost use Rattle.members.specs.Members.{Aimed, Indexed, Members};
-ghost use Rattle.search.specs.Search.{Prepared, Stands, TellsMet, provable};
+ghost use Rattle.members.specs.Members.{Members};
+ghost use Rattle.search.specs.Search.{Stands, TellsMet, provable};
 ghost use Rattle.search.specs.Failing.{FoundBelow, goal_test};
 ghost use Rattle.search.specs.Grounds.{RememberedOn, SearchableOn};
 
@@ -23,34 +22,27 @@ use automata::StateSets;
 use families::Family;
 use goals::{Ground, Spot, Terms};
 use members::Above;
+pub use prepared::Request;
 pub use seeking::{Answer, credential_search, goal_search};
-use sets::{CredentialSet, StateSet};
-use table::{Number, Query, layout};
+use sets::CredentialSet;
+use table::layout;
 
 // Whether some derivation of the queried membership uses only allowed credentials, where no automaton is imposed and none owed: the
 // table of members tells it by itself.
-pub fn is_member(
-    table: &[Number],
-    query: Query,
-    index: &[u8],
-    rows: &[CredentialSet],
-    terms: Terms,
-) -> bool
-    requires well_formed { WellFormed table.now × Valid query }
-    requires indexed { Indexed table.now index.now × Aimed table.now query index.now }
-    requires members { Members table.now terms.allowed query.depth terms.last rows.now }
-    ensures { result ≡ provable table.now query terms.allowed 0 0 }
+pub fn is_member(request: &Request, rows: &[CredentialSet], terms: Terms) -> bool
+    requires { Members request.now.table.now terms.allowed request.now.query.depth terms.last rows.now }
+    ensures { result ≡ provable request.now.table.now request.now.query terms.allowed 0 0 }
 {
-    let person = members::goal_person(index);
-    if layout::credentials(table) <= person {
+    let person = members::goal_person(request.index);
+    if layout::credentials(request.table) <= person {
         return false;
     }
-    let place = members::goal_role(index);
-    let levels = layout::wide(query.depth);
+    let place = members::goal_role(request.index);
+    let levels = layout::wide(request.query.depth);
     let ground = Ground {
-        table,
-        index,
-        arcs: &[],
+        table: request.table,
+        index: request.index,
+        arcs: request.arcs,
         rows,
         terms,
     };
@@ -58,33 +50,23 @@ pub fn is_member(
 }
 
 // Which sets of the owed automata can be met by derivations of the queried membership that use only allowed credentials and each
-// word of which is accepted by each of the automata `constraints`. The index is that of the table and the query
-// (`indexing::index`), the arcs are an index of the table's edges (crate moves), and the rows up to the last are the table of
-// members of the allowed credentials (`levels::fill`). Where few credentials are allowed a small memory will do, which is
-// cleared sooner.
-pub fn query_search(
-    table: &[Number],
-    query: Query,
-    index: &[u8],
-    arcs: &[StateSet],
-    rows: &[CredentialSet],
-    terms: Terms,
-) -> Family
-    requires prepared { Prepared table.now query index.now arcs.now }
-    requires members { Members table.now terms.allowed query.depth terms.last rows.now }
+// word of which is accepted by each of the automata `constraints`. The rows up to the last are the table of members of the allowed
+// credentials (`levels::fill`). Where few credentials are allowed a small memory will do, which is cleared sooner.
+pub fn query_search(request: &Request, rows: &[CredentialSet], terms: Terms) -> Family
+    requires members { Members request.now.table.now terms.allowed request.now.query.depth terms.last rows.now }
     requires owed_lt_all_sets { terms.owed < all_sets }
-    ensures { TellsMet table.now query terms.allowed terms.constraints terms.owed result }
+    ensures { TellsMet request.now.table.now request.now.query terms.allowed terms.constraints terms.owed result }
 {
-    let person = members::goal_person(index);
-    if layout::credentials(table) <= person {
+    let person = members::goal_person(request.index);
+    if layout::credentials(request.table) <= person {
         return Family::none();
     }
-    let place = members::goal_role(index);
-    let levels = layout::wide(query.depth);
+    let place = members::goal_role(request.index);
+    let levels = layout::wide(request.query.depth);
     let ground = Ground {
-        table,
-        index,
-        arcs,
+        table: request.table,
+        index: request.index,
+        arcs: request.arcs,
         rows,
         terms,
     };

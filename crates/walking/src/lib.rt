@@ -14,7 +14,7 @@ ghost use Rattle.derivation.specs.Rules.{goal_of};
 ghost use Rattle.derivation.specs.Forest.{written};
 ghost use Rattle.members.specs.Above.{nothing_above};
 ghost use Rattle.members.specs.Members.{Members};
-ghost use Rattle.search.specs.Search.{Prepared, Stands, goal_at, provable, proves};
+ghost use Rattle.search.specs.Search.{Stands, goal_at, provable, proves};
 ghost use Rattle.search.specs.Failing.{FoundBelow, Remembered};
 ghost use Rattle.search.specs.Grounds.{RememberedOn, SearchableOn};
 ghost use Rattle.choice.specs.Choice.{Wanted, suits_on};
@@ -25,9 +25,9 @@ use automata::StateSets;
 use families::Family;
 use goals::{Ground, Spot, Terms};
 use members::Above;
-use search::Pair;
+use search::{Pair, Request};
 use sets::{AutomatonSet, CredentialSet, StateSet};
-use table::{Number, Query, layout};
+use table::{Number, layout};
 
 // What a walk tells: the cell behind the record, and which of the owed automata the words of the record meet.
 #[derive(Clone, Copy)]
@@ -38,43 +38,39 @@ struct Reached {
 
 // Walks the whole record, from the query's goal on, which has to meet all that is owed.
 pub fn from_goal(
-    table: &[Number],
-    query: Query,
-    index: &[u8],
-    arcs: &[StateSet],
+    request: &Request,
     rows: &[CredentialSet],
     terms: Terms,
     memory: &mut [u32],
     most: usize,
     rec: &mut [Number],
 ) -> usize
-    requires prepared { Prepared table.now query index.now arcs.now }
-    requires members { Members table.now terms.allowed query.depth terms.last rows.now }
-    requires remembered { Remembered table.now terms.allowed terms.constraints terms.owed memory.old }
-    requires owed_value { provable table.now query terms.allowed terms.constraints terms.owed ≡ true }
+    requires members { Members request.now.table.now terms.allowed request.now.query.depth terms.last rows.now }
+    requires remembered { Remembered request.now.table.now terms.allowed terms.constraints terms.owed memory.old }
+    requires owed_value { provable request.now.table.now request.now.query terms.allowed terms.constraints terms.owed ≡ true }
     requires most_bound { most < 2 ^ 63 }
-    ensures { Walked 0 most (written (first_forest table.now terms.allowed terms.constraints terms.owed
-        query.depth nothing_above (starting_sets table.now) (eqb terms.owed) (goal_of query ∷ [])))
+    ensures { Walked 0 most (written (first_forest request.now.table.now terms.allowed terms.constraints terms.owed
+        request.now.query.depth nothing_above (starting_sets request.now.table.now) (eqb terms.owed) (goal_of request.now.query ∷ [])))
         rec.old rec.new result
-        × Remembered table.now terms.allowed terms.constraints terms.owed memory.new }
+        × Remembered request.now.table.now terms.allowed terms.constraints terms.owed memory.new }
 {
     let ground = Ground {
-        table,
-        index,
-        arcs,
+        table: request.table,
+        index: request.index,
+        arcs: request.arcs,
         rows,
         terms,
     };
     let start = Spot {
-        levels: layout::wide(query.depth),
-        states: StateSets::start(table),
+        levels: layout::wide(request.query.depth),
+        states: StateSets::start(request.table),
         above: Above::nothing(),
     };
     let walked = walk(
         &ground,
         Family::only(terms.owed),
-        members::goal_person(index),
-        members::goal_role(index),
+        members::goal_person(request.index),
+        members::goal_role(request.index),
         start,
         memory,
         most,

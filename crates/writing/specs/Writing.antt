@@ -1,16 +1,15 @@
 -- docs/DEFINITION.md, "The first record" and rows 15 and 16: what the writing call tells, and what the lent cells hold
 -- afterwards.
-use Rattle.std.specs.Prelude.{ℕ, ◌≡◌, List, Bool, length, leb}
+use Rattle.std.specs.Prelude.{ℕ, ◌≡◌, List, Bool, length, leb, Result}
 use Rattle.sorted.specs.Sorted.{laid}
 use Rattle.table.specs.Outcome.{Outcome, ◌and_then◌, demand}
 use Rattle.table.specs.Outcome.Outcome.{accepted, refused}
-use Rattle.table.specs.Checks.{request_outcome, told}
+use Rattle.table.specs.Checks.{outcome_of, request_outcome}
 use Rattle.table.specs.declared.Query.{Query}
+use Rattle.table.specs.declared.Refusal.{Refusal}
 use Rattle.attached.specs.Attached.{every_of, owed_of}
 use Rattle.listing.specs.Minimal.{is_minimal}
 use Rattle.walking.specs.First.{first_record}
-use Rattle.writing.specs.declared.Written.{Written}
-use Rattle.writing.specs.declared.Written.TheVariants as written'
 
 -- 15: the set is not on the list; 16: there are fewer cells than the record has numbers; otherwise its length
 unfoldable pub fitted : Bool → ℕ → ℕ → Outcome
@@ -38,6 +37,6 @@ abbrev pub TellsRecord : List ℕ → Query → ℕ → List ℕ → List ℕ �
 TellsRecord t q S before after o =
     (o ≡ fitted (is_minimal t q S) (length (first_record t q S)) (length before)) × (after ≡ filled o (first_record t q S) before)
 
-unfoldable pub written_told : Written → Outcome
-written_told (written'.Length len) = accepted len
-written_told (written'.Refused why) = told why
+-- what the answer tells: the length, or why nothing is written
+abbrev pub written_told : Result ℕ Refusal → Outcome
+written_told result = outcome_of (λ len. len) result
