@@ -19,12 +19,9 @@ pub fn begin(table: &[Number], arcs: &mut [StateSet])
     requires arcs_value { arcs.old ≡ replicate index_cells 0 }
     ensures { Arcs table.now arcs.new }
 {
-    let a = layout::automata(table);
-    let mut k = 0;
-    while k < a {
+    for k in 0..layout::automata(table) {
         let automaton = layout::automaton(table, k + 1);
         arcs[k] = layout::states(automaton.accepting);
-        k += 1;
     }
 }
 
@@ -36,7 +33,7 @@ pub fn ask(table: &[Number], arcs: &mut [StateSet], place: usize)
     requires place_bound { place < credentials table.now }
     ensures { Arcs table.now arcs.new }
 {
-    if arcs.len() == 0 {
+    if arcs.is_empty() {
         return;
     }
     let asked = arcs[FIRST_MADE + place];
@@ -74,13 +71,9 @@ fn fill(table: &[Number], arcs: &mut [StateSet], place: usize)
     ensures { Arcs table.now arcs.new × RowMade place arcs.old arcs.new }
 {
     placing::clear(arcs, place);
-    let credential = layout::credential(table, place + 1);
-    let role = credential.role;
-    let e = layout::edges(table);
-    let mut k = 0;
-    while k < e {
-        k += 1;
-        let edge = layout::edge(table, k);
+    let role = layout::credential(table, place + 1).role;
+    for k in 0..layout::edges(table) {
+        let edge = layout::edge(table, k + 1);
         if edges::matches(edge, role) {
             let l = placing::find(arcs, place, 1 << edge.to);
             placing::put(arcs, place, l, edge);

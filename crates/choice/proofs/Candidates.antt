@@ -29,14 +29,6 @@ module _ (index : List ℕ) (S place : ℕ) where
   pub none_yet : (last : ℕ) → NoneBehind index S place last 0
   none_yet last k behind before may = omega arith
 
-  pub none-next : (last i : ℕ) → NoneBehind index S place last i → usable index S place i ≡ false
-      → NoneBehind index S place last (i + 1)
-  none-next last i none off k behind before may = go (ℕ_discrete k i)
-    where
-      go : Dec (k ≡ i) → ⊥
-      go (yes e) = false-true (sym off ∙ sym (ap (usable index S place) e) ∙ may)
-      go (no e) = none k behind (omega arith) may
-
 -- none of the first n from i on may be used
 abbrev pub NoneFrom : List ℕ → ℕ → ℕ → ℕ → ℕ → Type 0
 NoneFrom index S place n i = (k : ℕ) → i ≤ k → k < n → usable index S place k ≡ true → ⊥

@@ -15,7 +15,7 @@ use Rattle.sets.specs.Sets.{in_set}
 use Rattle.sets.proofs.Tests.{and_both, and_first, and_is, and-is-off, and_none, and_second, any_none, any_same, any-shows}
 use Rattle.sets.proofs.Tests.{false-true, or-first, refuted}
 use Rattle.sets.proofs.Members.{below-members, in_set-zero, members-below, one_only, part-le, part-member, part-zero, set_more}
-use Rattle.sets.proofs.Members.{set-not, set_of-members}
+use Rattle.sets.proofs.Members.{set_of-members}
 use Rattle.sets.proofs.Without.{one-is, part-fails, without_other, without-own, without-part}
 use Rattle.families.specs.Families.{FamilyOf, all_sets, in_family, joins}
 use Rattle.families.specs.declared.Family.{Family}
@@ -119,10 +119,6 @@ module _ (t index rows : List ℕ) (row person i j found first second : ℕ)
   pub listed_more : told ≡ true → bit_or found (2 ^ j) ≡ listed_middles t index rows row person i (j + 1)
   unfolding listed_middles
   listed_more on = set_more _ found j so_far (rw (read, read') at (sym e ∙ on))
-
-  pub listed-not : told ≡ false → found ≡ listed_middles t index rows row person i (j + 1)
-  unfolding listed_middles
-  listed-not off = set-not _ found j so_far (rw (read, read') at (sym e ∙ off))
 
 -- credential i + 1, of kind 3, with the principal at j as the middle
 module _ {t index arcs rows : List ℕ} {S levels last : ℕ} (searched : Searchable t index arcs rows S levels last) {person i : ℕ}

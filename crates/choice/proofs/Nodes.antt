@@ -27,19 +27,21 @@ use Rattle.search.proofs.Placing.{link_pairs, proves-at, stands_at}
 use Rattle.choice.specs.declared.Node.{Node}
 use Rattle.choice.specs.Choice.{Made}
 
--- role k + j is at place j of the list from role k on
-role-from : (index : List ℕ) (person i n k j : ℕ) → j < n
-    → get_or (role_pairs index person i n k) j (pair 0 0) ≡ pair person (get_or index (asked_cell i (k + j)) 0)
-unfolding role_pairs
-role-from index person i zero k j l = absurd (omega arith)
-role-from index person i (suc n) k zero l = rw (add-zero k)
-role-from index person i (suc n) k (suc j) l =
-    let next : suc k + j ≡ k + suc j = omega arith in
-    rw next at (role-from index person i n (suc k) j (omega arith))
+-- a list made goal by goal, from goal k on, has goal k + j at place j
+module _ (each : ℕ → ℕ → List Pair) (one : ℕ → Pair) (more : (n k : ℕ) → each (suc n) k ≡ one k ∷ each n (suc k)) where
+  made_at : (n k j : ℕ) → j < n → get_or (each n k) j (pair 0 0) ≡ one (k + j)
+  made_at zero k j l = absurd (omega arith)
+  made_at (suc n) k zero l = rw (more n k, add-zero k)
+  made_at (suc n) k (suc j) l =
+      let next : suc k + j ≡ k + suc j = omega arith in
+      rw (more n k) (made_at n (suc k) j (omega arith) ∙ ap one next)
 
 pub roles-at : (index : List ℕ) (person i n k : ℕ) → k < n
     → get_or (role_pairs index person i n 0) k (pair 0 0) ≡ pair person (get_or index (asked_cell i k) 0)
-roles-at index person i n k l = rw (zero-add k) at (role-from index person i n 0 k l)
+unfolding role_pairs
+roles-at index person i n k l =
+    rw (zero-add k) at
+    (made_at (role_pairs index person i) (λ k. pair person (get_or index (asked_cell i k) 0)) (λ n k. refl) n 0 k l)
 
 -- a goal that stands at these places: its principal has one, and its role one where some credential defines it
 pub record Placed (t : List ℕ) (p : Pair) (g : Goal) : Type 0 where

@@ -10,7 +10,7 @@ use lib.Pow.{pow-add}
 use borrow.Author.Tests.{eq-eqb, ne_eqb}
 use Rattle.sets.specs.Logic.{◌and◌, ◌or◌, any_below}
 use Rattle.sets.specs.Sets.{in_set}
-use Rattle.sets.proofs.Tests.{and_both, and_first, and_is, and_none, any-all, any_next, any-reached, any-shows}
+use Rattle.sets.proofs.Tests.{and_both, and_first, and_is, and_none, any_next, any-reached, any-shows}
 use Rattle.sets.proofs.Tests.{false-true, same_test}
 use Rattle.sets.proofs.Members.{in_set-zero}
 use Rattle.families.specs.Families.{FamilyOf, all_sets, in_family}
@@ -94,69 +94,52 @@ any-one-more : (p : ℕ → Bool) (n : ℕ) → any_below p (n + 1) ≡ (any_bel
 unfolding any_below
 any-one-more p n = rw (add-one n)
 
--- where the sets of f are gone through: those before `at` are done, and `at` is one of them, or the end
-pub record Reached (f : Family) (at : ℕ) : Type 0 where
-  pub most : at ≤ all_sets
-  pub here : at < all_sets → in_family f at ≡ true
-
-reached : {f : Family} {from next : ℕ} → Next f from next → Reached f next
-reached step = record { most = step.most; here = step.here }
-
--- For each set Y of f the sets X are gathered that pass q Y.
+-- For each set Y of f before `at` the sets X are gathered that pass q Y.
 pub record Gathered (q : ℕ → ℕ → Bool) (f : Family) (at : ℕ) (all : Family) : Type 0 where
-  pub place : Reached f at
   pub sets : FamilyOf (λ X. any_below (λ Y. in_family f Y and q Y X) at) all
 
 module _ (q : ℕ → ℕ → Bool) (f : Family) where
-  pub gathered_none : (at : ℕ) (all : Family) → Next f 0 at → FamilyOf (λ X. false) all → Gathered q f at all
+  pub gathered_none : (all : Family) → FamilyOf (λ X. false) all → Gathered q f 0 all
   unfolding any_below
-  gathered_none at all step none =
-      record { place = reached step; sets = λ X l. none X l ∙ sym (any-through f (λ Y. q Y X) 0 at step) }
+  gathered_none all none = record { sets = none }
 
-  pub gathered_next : (at next : ℕ) (all more : Family) → Gathered q f at all → at < all_sets → Next f (at + 1) next
-      → FamilyOf (λ X. in_family all X or q at X) more → Gathered q f next more
-  gathered_next at next all more so_far less step new =
+  pub gathered_next : (at next : ℕ) (all more : Family) → Gathered q f at all → Next f at next → next < all_sets
+      → FamilyOf (λ X. in_family all X or q next X) more → Gathered q f (next + 1) more
+  gathered_next at next all more so_far step less new =
       record {
-        place = reached step;
         sets = λ X l.
-            new X l ∙ rw (so_far.sets X l) (ap (λ b. any_below (λ Y. in_family f Y and q Y X) at or b) (here X))
-            ∙ sym (any-one-more (λ Y. in_family f Y and q Y X) at) ∙ sym (any-through f (λ Y. q Y X) (at + 1) next step);
+            let p = λ (Y : ℕ). in_family f Y and q Y X in
+            let here : p next ≡ q next X = and_is (step.here less) refl in
+            new X l ∙ rw (so_far.sets X l, ← any-through f (λ Y. q Y X) at next step) (ap (λ b. any_below p next or b) (sym here))
+            ∙ sym (any-one-more p next);
       }
-    where
-      here : (X : ℕ) → q at X ≡ (in_family f at and q at X)
-      here X = sym (and_is (so_far.place.here less) refl)
 
-  pub gathered-all : (at : ℕ) (all : Family) → Gathered q f at all → all_sets ≤ at
+  pub gathered-all : (at : ℕ) (all : Family) → Gathered q f at all → Next f at all_sets
       → FamilyOf (λ X. any_below (λ Y. in_family f Y and q Y X) all_sets) all
-  gathered-all at all so_far end X l =
-      let e : at ≡ all_sets = omega (arith, so_far.place.most) in
-      so_far.sets X l ∙ ap (any_below (λ Y. in_family f Y and q Y X)) e
+  gathered-all at all so_far end X l = so_far.sets X l ∙ sym (any-through f (λ Y. q Y X) at all_sets end)
 
 -- No set of f before `at` passes q.
 pub record Sought (q : ℕ → Bool) (f : Family) (at : ℕ) : Type 0 where
-  pub place : Reached f at
   pub none : any_below (λ Y. in_family f Y and q Y) at ≡ false
 
 module _ (q : ℕ → Bool) (f : Family) where
-  pub sought-none : (at : ℕ) → Next f 0 at → Sought q f at
+  pub sought-none : Sought q f 0
   unfolding any_below
-  sought-none at step = record { place = reached step; none = any-through f q 0 at step }
+  sought-none = record { none = refl }
 
-  pub sought-next : (at next : ℕ) → Sought q f at → Next f (at + 1) next → q at ≡ false → Sought q f next
+  pub sought-next : (at next : ℕ) → Sought q f at → Next f at next → q next ≡ false → Sought q f (next + 1)
   sought-next at next so_far step out =
       record {
-        place = reached step;
-        none = any-through f q (at + 1) next step
-            ∙ any_next (λ Y. in_family f Y and q Y) at so_far.none (and_none (in_family f at) out);
+        none = any_next (λ Y. in_family f Y and q Y) next (any-through f q at next step ∙ so_far.none) (and_none (in_family f next) out);
       }
 
-  pub sought-here : (at : ℕ) → Sought q f at → at < all_sets → q at ≡ true → any_below (λ Y. in_family f Y and q Y) all_sets ≡ true
-  sought-here at so_far less passes =
-      any-reached (λ Y. in_family f Y and q Y) all_sets at less (and_both (so_far.place.here less) passes)
+  pub sought-here : (at next : ℕ) → Next f at next → next < all_sets → q next ≡ true
+      → any_below (λ Y. in_family f Y and q Y) all_sets ≡ true
+  sought-here at next step less passes =
+      any-reached (λ Y. in_family f Y and q Y) all_sets next less (and_both (step.here less) passes)
 
-  pub sought-all : (at : ℕ) → Sought q f at → all_sets ≤ at → any_below (λ Y. in_family f Y and q Y) all_sets ≡ false
-  sought-all at so_far end =
-      any-all (λ Y. in_family f Y and q Y) at all_sets (omega (arith, so_far.place.most)) so_far.none
+  pub sought-all : (at : ℕ) → Sought q f at → Next f at all_sets → any_below (λ Y. in_family f Y and q Y) all_sets ≡ false
+  sought-all at so_far end = any-through f q at all_sets end ∙ so_far.none
 
 -- what is added by a family of those that pass the test
 pub or-made : (p : ℕ → Bool) (f g more : Family) → FamilyOf p g → FamilyOf (λ X. in_family f X or in_family g X) more

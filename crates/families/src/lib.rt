@@ -3,6 +3,7 @@
 // function makes; proofs/Covering.antt has the laws of what a family covers.
 #![tactic(auto)]
 
+mod going; // going.rt: the sets of a family, one after the other
 mod spreading; // spreading.rt: bits put into all numbers of a word at once
 
 ghost use Rattle.std.specs.Prelude.{◌≡◌, false, not, true, ◌<◌, ◌≤◌, eqb};
@@ -116,10 +117,8 @@ impl Family {
         ensures { FamilyOf (joins self other) result }
     {
         let mut all = Family::none();
-        let mut set = self.next(0);
-        while set < ALL_SETS {
+        for set in self.sets() {
             all = all.or(other.raised(set));
-            set = self.next(set + 1);
         }
         all
     }
@@ -167,12 +166,10 @@ impl Family {
         requires { set < all_sets }
         ensures { result ≡ Families.completes self later set }
     {
-        let mut more = later.next(0);
-        while more < ALL_SETS {
+        for more in later.sets() {
             if self.has(set | more) {
                 return true;
             }
-            more = later.next(more + 1);
         }
         false
     }

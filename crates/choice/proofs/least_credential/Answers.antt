@@ -41,7 +41,7 @@ loop-i-preserved c =
     let wide : length c.args.spot.above.persons ≡ most_credentials = search rules in
     let so_far = c.loop-i.invariant in
     elim c.if-may_use.branch [
-      then-may_use+else-meets w ↦
+      | then-may_use+else-meets w ↦
           let (judged, remembered) = w.credential_search-answer.ensures in
           let proved = own-wanted _ _ _ _ _ _ _ _ pre.wanted (judged-told wide judged) w.meets.ensures in
           record {

@@ -15,13 +15,13 @@ loop-j-preserved c =
     let told = sym c.has.ensures in
     let there : c.loop-j.j < credentials c.args.table.now = omega arith in
     elim c.if-has.branch [
-      then-has+then-comes_before w ↦
+      | then-has+then-comes_before w ↦
           rw w.best-is
           (named_here _ _ _ _ so_far there (told ∙ w.if-has.true) (sym w.comes_before.ensures ∙ w.if-comes_before.true))
       | else-has w ↦
           rw w.best-is
           (elim w.else-has.branch [
-            else-has-via-then-has+else-comes_before u ↦
+            | else-has-via-then-has+else-comes_before u ↦
                 named-kept _ _ _ _ so_far (sym u.comes_before.ensures ∙ u.if-comes_before.false)
             | else-has-via-else-has u ↦ named-out _ _ _ _ so_far (told ∙ u.if-has.false)
           ])
