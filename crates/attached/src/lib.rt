@@ -46,14 +46,7 @@ pub fn marked(table: &[Number], set: AutomatonSet) -> AutomatonSet
     requires { WellFormed table.now }
     ensures { result ≡ marked_of table.now set }
 {
-    let a = layout::automata(table);
-    let mut mask = 0;
-    for k in 0..a {
-        if is_marked(table, set, k) {
-            mask = sets::with(mask, k);
-        }
-    }
-    mask
+    sets::those(layout::automata(table), |k| is_marked(table, set, k))
 }
 
 // Whether automaton k + 1 is in the set and has mark 1.
