@@ -59,8 +59,7 @@ pub fn goal_search(
         return failed(Above::nothing());
     }
     if spot.above.has(person, place) {
-        let itself = Above::nothing();
-        return failed(itself.with(person, place));
+        return failed(Above::nothing().with(person, place));
     }
     let slot = failures::slot(person, place, spot.states, failures::slot_count(memory));
     let known = recalled(memory, slot, ground.terms.owed, person, place, spot);
@@ -69,8 +68,8 @@ pub fn goal_search(
     }
     let below = Spot {
         levels: spot.levels - 1,
-        states: spot.states,
         above: spot.above.with(person, place),
+        ..spot
     };
     let answer = definers_search(ground, known.wanted, person, place, below, memory);
     let found = answer.found;
@@ -114,21 +113,20 @@ fn definers_search(
         (credential g.table.now (suc place)).role spot.states) person place) spot.above wanted result.found result.blocking
         × RememberedOn g memory.new }
 {
-    let below = goals::stepped(ground, place, spot.states);
-    if goals::any_dead(ground.terms.constraints, below.dead) {
+    let moved = goals::stepped(ground, place, spot.states);
+    if goals::any_dead(ground.terms.constraints, moved.dead) {
         return failed(Above::nothing());
     }
-    let most = goals::left_owed(ground.terms.owed, below.dead);
-    let moved = Spot {
-        levels: spot.levels,
-        states: below.states,
-        above: spot.above,
+    let most = goals::left_owed(ground.terms.owed, moved.dead);
+    let below = Spot {
+        states: moved.states,
+        ..spot
     };
     let mut found = Family::none();
     let mut blocking = Above::nothing();
     for i in 0..layout::credentials(ground.table) {
         if goals::may_use(ground, place, i) {
-            let answer = credential_search(ground, person, i, moved, memory);
+            let answer = credential_search(ground, person, i, below, memory);
             found = found.or(answer.found);
             if goals::is_enough(found, most, wanted) {
                 return Answer {

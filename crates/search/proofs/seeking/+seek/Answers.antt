@@ -55,7 +55,7 @@ goal_search-returns-then-has t c =
     let pre = c.requires in
     let may = opened pre.searchable pre.stands c.may_be_proved.ensures c.if-not-may_be_proved.false in
     let again = goal-again _ _ _ _ _ _ _ _ pre.stands may _ (sym c.has.ensures ∙ c.if-has.true) in
-    let blocking-is = c.failed-then-has.ensures.1 ∙ rw c.nothing-itself.ensures at c.with.ensures in
+    let blocking-is = c.failed-then-has.ensures.1 ∙ rw c.nothing-then-has.ensures at c.with.ensures in
     (rw blocking-is (judged-failed c.failed-then-has.ensures.0 (again 0).0 (λ X owed. (again X).1)), pre.remembered)
 
 pub goal_search-slot-slot-requires-clause-person_lt_most_credentials : goal.goal_search-slot-slot-requires-clause-person_lt_most_credentials
@@ -125,9 +125,9 @@ goal_search-returns t c =
 pub definers_search-returns-then-any_dead : goal.definers_search-returns-then-any_dead
 definers_search-returns-then-any_dead t c =
     let (k, imposed, dead) = meets-common _ _ (sym c.any_dead.ensures ∙ c.if-any_dead.true) in (
-      sought-moved _ _ _ _ _ _ _ _ c.stepped-below.ensures
+      sought-moved _ _ _ _ _ _ _ _ c.stepped-moved.ensures
           (sought-judged (judged-never c.failed.ensures.0 (c.failed.ensures.1 ∙ c.nothing.ensures) (λ X owed b.
-          dead-tried _ _ _ _ _ _ c.stepped-below.ensures X (part-le X _ owed) k (imposed-demanded _ X k imposed) dead _ b _))),
+          dead-tried _ _ _ _ _ _ c.stepped-moved.ensures X (part-le X _ owed) k (imposed-demanded _ X k imposed) dead _ b _))),
       c.requires.remembered,
     )
 
@@ -146,8 +146,8 @@ definers_search-returns-then-is_enough t c =
     let finds = tried-finds c.requires.searchable.indexed stands there _ _ _ _ _ _
     (omega (arith, c.loop-i-test.true, c.credentials-i-end.ensures.same)) c.may_use.ensures c.if-may_use.true c.or-found.ensures
     c.loop-i.invariant.judged.finds own.finds in (
-      sought-moved _ _ _ _ _ _ _ _ c.stepped-below.ensures
-          (sought-enough _ _ _ _ c.requires.remembered.few _ _ _ _ c.stepped-below.ensures c.left_owed-most.ensures c.is_enough.ensures
+      sought-moved _ _ _ _ _ _ _ _ c.stepped-moved.ensures
+          (sought-enough _ _ _ _ c.requires.remembered.few _ _ _ _ c.stepped-moved.ensures c.left_owed-most.ensures c.is_enough.ensures
           c.if-is_enough.true finds c.nothing-then-is_enough.ensures),
       now-remembered,
     )
@@ -177,7 +177,7 @@ definers_search-loop-i-preserved t c =
 pub definers_search-returns : goal.definers_search-returns
 definers_search-returns t c =
     let (stands, there) = c.requires.stands in (
-      sought-moved _ _ _ _ _ _ _ _ c.stepped-below.ensures
+      sought-moved _ _ _ _ _ _ _ _ c.stepped-moved.ensures
           (sought-judged (tried-all c.requires.searchable.indexed stands there _ _ _ _ _ _
           (omega (arith, c.loop-i-test.false, c.credentials-i-end.ensures.same)) c.loop-i.invariant.judged)),
       c.loop-i.invariant.remembered,

@@ -39,7 +39,7 @@ abbrev pub invariant-definers_search-loop-i : goal.invariant-definers_search-loo
 invariant-definers_search-loop-i l =
     let g = l.ground in record {
       judged : Judged g.terms.owed (tried_test g.table.now g.terms.allowed g.terms.constraints g.terms.owed
-          l.moved.levels l.moved.states l.person l.place l.i) l.moved.above l.found l.blocking;
+          l.below.levels l.below.states l.person l.place l.i) l.below.above l.found l.blocking;
       remembered : RememberedOn g l.memory;
     }
 
