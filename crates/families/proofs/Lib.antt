@@ -2,7 +2,6 @@
 pub mod Lifting
 pub mod Words
 pub mod Pairs
-pub mod Filling
 pub mod Raising
 pub mod Stepping
 pub mod Leaving

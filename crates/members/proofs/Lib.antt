@@ -1,5 +1,4 @@
 -- Laws that belong to no one function; crates above cite those marked `pub mod`.
-pub mod Arrays
 pub mod Reading
 pub mod Places
 pub mod Persons

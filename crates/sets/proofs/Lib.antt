@@ -2,3 +2,4 @@
 pub mod Tests
 pub mod Members
 pub mod Without
+pub mod Filling

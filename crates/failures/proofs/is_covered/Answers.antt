@@ -5,7 +5,7 @@ use Rattle.std.proofs.lemmas.Iterator.{cases_from_all, YieldsList-from_slice, Yi
 use Rattle.std.proofs.lemmas.List.{get_or-drop, get_or-take}
 use Rattle.sets.specs.Sets.{part}
 use Rattle.failures.specs.Failures.{blocking_cell}
-use Rattle.members.proofs.Arrays.{side-by-side}
+use Rattle.failures.proofs.Pairs.{side-by-side}
 use Rattle.failures.proofs.is_covered.Goals as goal
 
 pub returns : goal.returns

@@ -1,6 +1,6 @@
 -- `families::Family::or` meets its contract: each word of the union has the sets of both words. Assumes nothing.
 use Rattle.std.proofs.Common.{rules, bit_or}
-use Rattle.families.proofs.Filling.{filled}
+use Rattle.sets.proofs.Filling.{filled}
 use Rattle.families.proofs.Words.{either-word, word}
 use Rattle.families.proofs.Family.or.Goals as goal
 
