@@ -5,7 +5,7 @@ use mathlib.Core.Bool.{Bool, true, false, not}
 use Prim.Native.Nat.{ℕ, ◌+◌, ◌<◌, ◌≤◌}
 use native.Mathlib.Omega.{arith}
 use lib.ListN.{get_or}
-use lib.Bits.{bit_and, bit_xor, and_le_l}
+use lib.Bits.{bit_and, bit_xor}
 use lib.Dec.{eqb, ltb}
 use borrow.Author.Tests.{eq-eqb, eqb-true, le-ltb, lt-ltb, ltb-true, ne_eqb}
 use Rattle.sets.specs.Logic.{◌and◌, any_below, pick}
@@ -116,10 +116,6 @@ module _ (named person : ℕ) {cell : ℕ} (e : cell ≡ named) (A O acc : ℕ) 
         only X few
         ∙ ap (λ x. eqb (bit_and O x) X) read
         ∙ sym (and_is (eq-eqb named person (sym e ∙ same)) (and_is (eq-eqb (bit_and A acc) A (rw read at all)) refl))
-
--- what is met of the owed automata is no more than they are
-pub and-few : (O x : ℕ) → O < all_sets → bit_and O x < all_sets
-and-few O x few = let l = and_le_l O x in omega (arith, few)
 
 -- the family, or O alone where the family has it
 pub trimmed-one : (found rest : Family) (O : ℕ) → O < all_sets → {has : Bool} → has ≡ in_family found O → has ≡ true
