@@ -1,28 +1,24 @@
 -- The rules, case by case: what a credential asks once the code's tests are known.
 use mathlib.Core.Path.{◌≡◌, refl, sym, ap, ◌∙◌}
-use mathlib.Core.List.{List, map, map-append}
+use mathlib.Core.List.{List}
 use mathlib.Core.Bool.{Bool, true, false, not, ◌&&◌}
 use mathlib.Core.Option.{none, some}
-use Prim.Native.Nat.{ℕ, ◌+◌, ◌≤◌, ◌<◌}
+use Prim.Native.Nat.{ℕ, ◌≤◌, ◌<◌}
 use native.Mathlib.Omega.{arith}
-use native.Mathlib.Numerals.{add-one}
-use lib.ListN.{get_or, length, set, take, length-set}
-use lib.Seq.{take-suc, take-suc-set}
 use lib.Dec.{eqb}
 use borrow.Author.Tests.{ne_eqb, le-leb, lt-leb, not-true, not-false}
 use Rattle.sets.specs.Logic.{◌and◌, pick}
-use Rattle.table.specs.Limits.{most_parts, most_principals}
+use Rattle.table.specs.Limits.{most_principals}
 use Rattle.table.specs.Layout.{Numbered, cells, credential, credentials, parts, principal, same_role}
 use Rattle.table.specs.Holding.{WellFormed}
 use Rattle.table.specs.Checks.{chain_ok, is_principal, is_principal_to, within}
 use Rattle.table.proofs.WellFormed.{wf-chain-ok, wf-credential}
-use Rattle.table.specs.declared.Role.{Role}
 use Rattle.table.specs.declared.Goal.{Goal}
 use Rattle.table.specs.declared.Credential.{Credential}
 use Rattle.sets.proofs.Tests.{and_is, and-is-off, passed}
 use Rattle.table.proofs.Equality.{role-eq}
 use Rattle.derivation.proofs.Usable.{usable-numbered}
-use Rattle.derivation.specs.Rules.{asks, asks_by, containment_asks, goal, intersection_asks}
+use Rattle.derivation.specs.Rules.{asks, asks_by, containment_asks, intersection_asks}
 use Rattle.derivation.specs.Rules.{linking_asks, membership_asks, premises, premises_by, usable, when}
 
 pub when-off : {test : Bool} (goals : List Goal) → test ≡ false → none ≡ when test goals

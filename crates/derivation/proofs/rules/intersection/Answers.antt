@@ -7,7 +7,6 @@ use Rattle.few.proofs.Listing.{listed-inside}
 use Rattle.derivation.specs.Rules as rules
 use mathlib.Core.Option.{some}
 use borrow.Author.Tests.{eq-eqb, ne_eqb}
-use Rattle.few.specs.Listed.{listed}
 use Rattle.derivation.specs.Held.{given}
 use Rattle.derivation.proofs.Asking.{when-off, when-on}
 use Rattle.derivation.proofs.rules.intersection.Goals as goal

@@ -12,9 +12,9 @@ pub returns-then-c-goal : goal.returns-then-c-goal
 unfolding given
 returns-then-c-goal c =
     when-off _
-    (elim c.then-c-goal.branch
-    [ then-c-goal-via-then-c-goal w ↦ and-is-off _ (ne_eqb _ _ w.if-c-goal.true)
-    | then-c-goal-via-else-c-goal+then-middle-ne0 w ↦ and_is (eq-eqb _ _ w.if-c-goal.false) (ne_eqb _ 0 w.if-middle-ne0.true)
+    (elim c.then-c-goal.branch [
+      | then-c-goal-via-then-c-goal w ↦ and-is-off _ (ne_eqb _ _ w.if-c-goal.true)
+      | then-c-goal-via-else-c-goal+then-middle-ne0 w ↦ and_is (eq-eqb _ _ w.if-c-goal.false) (ne_eqb _ 0 w.if-middle-ne0.true)
     ])
 
 pub returns : goal.returns
