@@ -113,7 +113,7 @@ fn with_asked(index: &[u8], i: usize, places: CredentialSet) -> CredentialSet
     ensures { WithAsked index.now i 4 places result }
 {
     let mut more = places;
-    for k in 0..4 {
+    for k in 0..layout::MOST_PARTS {
         more = sets::with(more, members::asked_cell(index, i, k));
     }
     more
