@@ -6,7 +6,6 @@
 pub mod layout; // layout.rt: the records of a table, by number
 
 ghost use Rattle.std.specs.Prelude.{◌≡◌, eqb};
-ghost use Rattle.table.specs.Layout.{same_role};
 ghost use Rattle.table.specs.Kinds.{Reads, kind_number, label_number, mark_number};
 ghost use Rattle.table.specs.Checks.{number_of};
 
@@ -26,14 +25,6 @@ pub struct Name(pub Number);
 pub struct Role {
     pub owner: Principal,
     pub name: Name,
-}
-
-impl Role {
-    pub fn same(self, other: Role) -> bool
-        ensures { result ≡ same_role self other }
-    {
-        self.owner.0 == other.owner.0 && self.name.0 == other.name.0
-    }
 }
 
 // A principal's membership in a role.
@@ -98,14 +89,6 @@ impl TryFrom<Number> for Kind {
     }
 }
 
-pub const SIMPLE_MEMBERSHIP: Number = 1;
-
-pub const SIMPLE_CONTAINMENT: Number = 2;
-
-pub const LINKING_CONTAINMENT: Number = 3;
-
-pub const INTERSECTION_CONTAINMENT: Number = 4;
-
 // One part of an intersection; next is the number of the following cell, or 0.
 #[derive(Clone, Copy)]
 pub struct Cell {
@@ -153,10 +136,6 @@ impl TryFrom<Number> for Mark {
     }
 }
 
-pub const EVERY_WORD: Number = 0;
-
-pub const SOME_WORD: Number = 1;
-
 #[derive(Clone, Copy)]
 pub struct Edge {
     pub automaton: Number,
@@ -190,14 +169,6 @@ impl TryFrom<Number> for Label {
         }
     }
 }
-
-pub const THIS_ROLE: Number = 1;
-
-pub const EVERY_ROLE: Number = 2;
-
-pub const OTHER_ROLES: Number = 3;
-
-pub const ROLES_OF_OWNER: Number = 4;
 
 // Why an input is stopped, by the numbers of docs/DEFINITION.md, "Where each input is stopped". The row of marks has the last
 // number, though it is made right behind the row of edges.
