@@ -55,6 +55,10 @@ pub among-some : (L x : ℕ) → (x ≡ 0 → ⊥) → {told : Bool} → told �
 unfolding among
 among-some L x some e = e ∙ sym (and_is (ap not (ne_eqb x 0 some)) refl)
 
+-- credential i + 1 is in S and bears none of L
+abbrev pub stays : List ℕ → ℕ → ℕ → ℕ → Bool
+stays t S L i = in_set S i and not (among L (credential t (suc i)).automaton)
+
 -- the credentials of S among the first n that bear none of L
 abbrev pub without_to : List ℕ → ℕ → ℕ → ℕ → ℕ
 without_to t S L n = set_of (λ c. in_set S c and not (among L (credential t (suc c)).automaton)) n
@@ -63,9 +67,6 @@ without_to t S L n = set_of (λ c. in_set S c and not (among L (credential t (su
 module _ (t : List ℕ) (S L i kept : ℕ) (so_far : kept ≡ without_to t S L i) where
   without-off : (in_set S i and not (among L (credential t (suc i)).automaton)) ≡ false → kept ≡ without_to t S L (i + 1)
   without-off = set-not _ kept i so_far
-
-  pub without-outside : in_set S i ≡ false → kept ≡ without_to t S L (i + 1)
-  without-outside out = without-off (and-is-off _ out)
 
   -- which is in the set, and which the code has read as x
   module _ (inside : in_set S i ≡ true) (x : Credential) (read : x ≡ credential t (i + 1)) {told : Bool}

@@ -59,13 +59,7 @@ pub fn lacking(found: Family, owed: AutomatonSet, asked: AutomatonSet, k: usize)
     requires { (owed < all_sets) × (k ≤ most_automata) }
     ensures { result ≡ lacking_of found owed asked k }
 {
-    let mut lost = 0;
-    for j in 0..k {
-        if is_lacking(found, owed, asked, j) {
-            lost = sets::with(lost, j);
-        }
-    }
-    lost
+    sets::those(k, |j| is_lacking(found, owed, asked, j))
 }
 
 // Automaton j + 1 is asked for and cannot be met beside what is owed.
@@ -84,14 +78,9 @@ pub fn without(table: &[Number], set: CredentialSet, automata: AutomatonSet) -> 
     requires { WellFormed table.now }
     ensures { result ≡ without_all table.now set automata }
 {
-    let n = layout::credentials(table);
-    let mut kept = 0;
-    for i in 0..n {
-        if sets::has(set, i) && !is_among(automata, layout::credential(table, i + 1).automaton) {
-            kept = sets::with(kept, i);
-        }
-    }
-    kept
+    sets::those(layout::credentials(table), |i| {
+        sets::has(set, i) && !is_among(automata, layout::credential(table, i + 1).automaton)
+    })
 }
 
 // The credentials of the set that do not bear automaton k.
