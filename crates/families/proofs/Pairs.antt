@@ -20,17 +20,20 @@ use Rattle.families.specs.Families.{all_sets, family_words, is_part}
 use Rattle.families.specs.declared.Family.{Family}
 use Rattle.families.proofs.Words.{beyond, common, meets-here, meets-not, none_below, within_all, within-next, within-not, word}
 
+-- one of the first n passes
 any-listed : {A : Type 0} (p : A → Bool) (d : A) (xs : List A) (n : ℕ) → n ≤ length xs
     → list_any p (take n xs) ≡ any_below (λ i. p (get_or xs i d)) n
 unfolding any_below ◌or◌
 any-listed p d xs zero few = refl
 any-listed p d xs (suc n) few =
-    rw (← add-one n, list_any_more p xs n d few, any-listed p d xs n (omega arith)) (go (any_below (λ i. p (get_or xs i d)) n) (p (get_or xs n d)))
+    rw (← add-one n, list_any_more p xs n d few, any-listed p d xs n (omega arith))
+    (go (any_below (λ i. p (get_or xs i d)) n) (p (get_or xs n d)))
   where
     go : (a b : Bool) → (a || b) ≡ (a or b)
     go true b = refl
     go false b = refl
 
+-- all pass where none fails
 not-all : {A : Type 0} (p : A → Bool) (xs : List A) → list_all p xs ≡ not (list_any (λ x. not (p x)) xs)
 not-all p [] = refl
 not-all p (x ∷ xs) = rw (not-all p xs) (go (p x) (list_any (λ x. not (p x)) xs))
@@ -77,7 +80,8 @@ module _ (f g : Family) (own : length f.words ≡ family_words) (its : length g.
     pub part-pairs : list_all (λ p. part p.0 p.1) (zip f.words g.words) ≡ is_part f g
     unfolding part
     part-pairs =
-        not-all {A = ℕ × ℕ} (λ p. part p.0 p.1) (zip f.words g.words) ∙ ap not (any-pair (λ p. not (part p.0 p.1))) ∙ go (any_below outside family_words) refl
+        not-all {A = ℕ × ℕ} (λ p. part p.0 p.1) (zip f.words g.words) ∙ ap not (any-pair (λ p. not (part p.0 p.1)))
+        ∙ go (any_below outside family_words) refl
       where
         outside : ℕ → Bool
         outside j = not (part (word f j) (word g j))
