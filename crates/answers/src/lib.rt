@@ -3,8 +3,7 @@
 #![tactic(auto)]
 
 ghost use Rattle.std.specs.Prelude.{◌≡◌};
-ghost use Rattle.table.specs.Outcome.{Outcome};
-ghost use Rattle.table.specs.Checks.{as_query, told};
+ghost use Rattle.table.specs.Checks.{as_query, outcome_of};
 ghost use Rattle.answers.specs.Answer.{answered};
 
 use table::{Name, Principal, Query, Refusal};
@@ -17,23 +16,22 @@ pub fn query_of(principal: u16, owner: u16, name: u16, depth: u16) -> Query
         principal: Principal(principal),
         owner: Principal(owner),
         name: Name(name),
-        depth: depth,
+        depth,
     }
 }
 
-// Accepted: the result is 0, and the value is written.
-pub fn accept(value: u64, told: &mut u64) -> u32
-    ensures { answered result told.new ≡ Outcome.accepted value }
+// Accepted: the result is 0, and the value is written. Refused: it is the refusal's number, and the position is written.
+pub fn answer(outcome: Result<u64, Refusal>, value: &mut u64) -> u32
+    ensures { answered result value.new ≡ outcome_of (λ v. v) outcome }
 {
-    *told = value;
-    0
-}
-
-// Refused: the result is the refusal's number, and the position is written.
-pub fn refuse(why: Refusal, position: &mut u64) -> u32
-    ensures { answered result position.new ≡ told why }
-{
-    *position = why.position as u64;
-    let reason = why.reason;
-    reason.number()
+    match outcome {
+        Ok(accepted) => {
+            *value = accepted;
+            0
+        }
+        Err(why) => {
+            *value = why.position as u64;
+            why.reason.into()
+        }
+    }
 }
