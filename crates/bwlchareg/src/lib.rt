@@ -11,20 +11,12 @@ ghost use Rattle.writing.specs.Writing.{record_after, writing};
 ghost use Rattle.answers.specs.Answer.{answered};
 ghost use Rattle.bwlchareg.specs.Version.{version};
 
-use checks::{QueryCheck, TableCheck};
-use listing::Listing;
-use verifier::Verdict;
-use writing::Written;
-
 // The table's rows: whether the table is accepted.
 #[unsafe(no_mangle)]
 pub extern "C" fn bwlchareg_check(table: &[u16], position: &mut u64) -> u32
     ensures { answered result position.new ≡ table_outcome table.now }
 {
-    match checks::check_table(table) {
-        TableCheck::Accepted => answers::accept(0, position),
-        TableCheck::Refused(why) => answers::refuse(why, position),
-    }
+    answers::answer(checks::check_table(table).map(|_| 0), position)
 }
 
 // The request's rows: whether the table is accepted and the query valid.
@@ -41,10 +33,7 @@ pub extern "C" fn bwlchareg_check_query(
         ≡ request_outcome table.now (as_query principal owner name depth) }
 {
     let query = answers::query_of(principal, owner, name, depth);
-    match checks::check_request(table, query) {
-        QueryCheck::Valid => answers::accept(0, position),
-        QueryCheck::Refused(why) => answers::refuse(why, position),
-    }
+    answers::answer(checks::check_request(table, query).map(|_| 0), position)
 }
 
 // The holder's end: the minimal sets, ascending, in the buffer's first cells. The value is their count.
@@ -63,10 +52,7 @@ pub extern "C" fn bwlchareg_list(
         × (sets.new ≡ buffer_after table.now (as_query principal owner name depth) sets.old) }
 {
     let query = answers::query_of(principal, owner, name, depth);
-    match listing::list(table, query, sets) {
-        Listing::Listed(count) => answers::accept(count as u64, value),
-        Listing::Refused(why) => answers::refuse(why, value),
-    }
+    answers::answer(listing::list(table, query, sets).map(|count| count as u64), value)
 }
 
 // The verifier's end: whether the record derives the queried membership and complies. The value is its used set.
@@ -84,10 +70,7 @@ pub extern "C" fn bwlchareg_verify(
         ≡ verdict table.now (as_query principal owner name depth) rec.now }
 {
     let query = answers::query_of(principal, owner, name, depth);
-    match verifier::verify(table, query, rec) {
-        Verdict::Accepted(used) => answers::accept(used as u64, value),
-        Verdict::Refused(why) => answers::refuse(why, value),
-    }
+    answers::answer(verifier::verify(table, query, rec).map(|used| used as u64), value)
 }
 
 // The holder's end, after the list: the first record of a listed set, in the buffer's first cells. The value is its length.
@@ -107,10 +90,7 @@ pub extern "C" fn bwlchareg_write(
         × (rec.new ≡ record_after table.now (as_query principal owner name depth) set rec.old) }
 {
     let query = answers::query_of(principal, owner, name, depth);
-    match writing::write(table, query, set, rec) {
-        Written::Length(len) => answers::accept(len as u64, value),
-        Written::Refused(why) => answers::refuse(why, value),
-    }
+    answers::answer(writing::write(table, query, set, rec).map(|len| len as u64), value)
 }
 
 // The version of the interface; CHANGELOG.md says what stays as it is within one.
