@@ -9,24 +9,21 @@ use native.Mathlib.Numerals.{add-one, sub-one}
 use native.Mathlib.Decide.{dec_lt, ℕ_discrete}
 use lib.ListN.{length, get_or, set, replicate, length-set, get_or-replicate}
 use lib.Seq.{get_or-set_same, get_or-set_other}
-use lib.Bits.{bit_and, bit_or, or_zero_r}
+use lib.Bits.{bit_or, or_zero_r}
 use lib.Dec.{eqb, ltb}
 use borrow.Author.Tests.{ne_eqb, le-leb}
 use Rattle.sets.specs.Logic.{◌and◌, pick}
-use Rattle.sets.specs.Sets.{set_of}
-use Rattle.sets.proofs.Members.{meets-not, meets-some, set_more, set-not}
 use Rattle.table.specs.Limits.{last_state, most_automata}
 use Rattle.table.specs.Layout.{Numbered, automata, automaton, credential, edge, edges}
 use Rattle.table.specs.Holding.{WellFormed}
 use Rattle.table.specs.Checks.{within}
 use Rattle.table.specs.declared.Role.{Role}
 use Rattle.table.specs.declared.Credential.{Credential}
-use Rattle.table.specs.declared.Automaton.{Automaton}
 use Rattle.table.specs.declared.Edge.{Edge}
 use Rattle.table.proofs.WellFormed.{wf-edge}
 use Rattle.edges.specs.Edges.{leads}
 use Rattle.automata.specs.Automata.{accepts_from, moved, moved_by, starting}
-use Rattle.automata.specs.Together.{accepting_set, dead_set, moved_on, moved_sets, starting_sets, together}
+use Rattle.automata.specs.Together.{dead_set, moved_on, moved_sets, starting_sets, together}
 use Rattle.automata.specs.declared.Moved.{Moved}
 use Rattle.automata.specs.declared.StateSets.{StateSets}
 use Rattle.automata.proofs.Each.{together_at, together-beyond, together-is}
@@ -150,24 +147,10 @@ empty-moved t r s k empty = go (dec_lt k most_automata)
 abbrev pub is_empty : StateSets → ℕ → Bool
 is_empty s k = eqb (get_or s.sets k 0) 0
 
--- the automata among the first k that accept
+-- automaton k + 1 accepts
 module _ (t : List ℕ) (s : StateSets) where
   abbrev pub accepts_at : ℕ → Bool
   accepts_at k = accepts_from t (suc k) (get_or s.sets k 0)
-
-  -- automaton k + 1, which the code has read as m, accepts or does not
-  module _ (k : ℕ) {mask : ℕ} (so_far : mask ≡ set_of accepts_at k) {m : Automaton} (read : m ≡ automaton t (k + 1)) where
-    pub accepting-more : (bit_and (get_or s.sets k 0) m.accepting ≡ 0 → ⊥) → bit_or mask (2 ^ k) ≡ set_of accepts_at (k + 1)
-    unfolding accepts_from
-    accepting-more h = set_more accepts_at mask k so_far (meets-some _ _ (rw (read, add-one k) at h))
-
-    pub accepting-same : bit_and (get_or s.sets k 0) m.accepting ≡ 0 → mask ≡ set_of accepts_at (k + 1)
-    unfolding accepts_from
-    accepting-same h = set-not accepts_at mask k so_far (meets-not _ _ (rw (read, add-one k) at h))
-
-  pub accepting-all : (k : ℕ) → k ≡ automata t → set_of accepts_at k ≡ accepting_set t s
-  unfolding accepting_set
-  accepting-all k all = rw all
 
 -- an edge that the code has read as e leads inside the eight automata and the sixteen states
 pub edge-there : (t : List ℕ) → WellFormed t → (i : ℕ) → Numbered (edges t) i → {e : Edge} → e ≡ edge t i

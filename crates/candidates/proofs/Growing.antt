@@ -3,12 +3,12 @@ use mathlib.Core.Path.{◌≡◌, refl, sym, ap, ◌∙◌}
 use mathlib.Core.List.{List, [], ◌∷◌}
 use mathlib.Core.Bool.{Bool, true, false, not, ◌||◌}
 use mathlib.Core.Logic.{⊎_elim}
-use Prim.Native.Nat.{ℕ, zero, suc, ◌+◌, ◌-◌, ◌*◌, ◌%◌, ◌^◌, ◌<◌, ◌≤◌}
+use Prim.Native.Nat.{ℕ, zero, suc, ◌-◌, ◌*◌, ◌%◌, ◌^◌, ◌<◌, ◌≤◌}
 use native.Mathlib.Omega.{arith}
 use lib.ListN.{get_or, length, take}
 use lib.Bits.{bit_and, bit_or, bit_xor, or_lt}
 use lib.Dec.{eqb, ltb}
-use borrow.Author.Tests.{eq-eqb, eqb-true, le-ltb, lt-ltb, ne_eqb}
+use borrow.Author.Tests.{eqb-true, le-ltb, lt-ltb}
 use lib.Pow.{pow-lt, pow_pos}
 use Rattle.std.specs.List.{list_any}
 use Rattle.std.proofs.Math.Seq.{take-suc}
@@ -17,8 +17,7 @@ use Rattle.std.proofs.lemmas.List.{take_all}
 use Rattle.std.proofs.lemmas.List.Folds.{list_any-append}
 use Rattle.sets.specs.Logic.{◌and◌, ◌or◌, any_below}
 use Rattle.sets.specs.Sets.{in_set, part}
-use Rattle.sets.proofs.Tests.{and_both, and-false, and-is-off, any_next, any-on}
-use Rattle.sets.proofs.Tests.{any-reached, false-true, or-false}
+use Rattle.sets.proofs.Tests.{and-false, false-true, or-false}
 use Rattle.sets.proofs.Members.{in_set-and, in_set-or, in_set-pow, one_bit, part-or-left, part-refl, part-trans, same-members}
 use Rattle.sets.proofs.Without.{outside-members}
 use Rattle.cuts.specs.Cuts.{Cuts, is_least, meets_all}

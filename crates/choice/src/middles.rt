@@ -1,6 +1,6 @@
 // The least middle with which a credential of kind 3 proves its goal such that what is wanted can be met. Principals stand in the
 // order of their first simple memberships (crate members), and are compared here by their numbers.
-ghost use Rattle.std.specs.Prelude.{◌≡◌, true, suc, ◌<◌, ◌≤◌, ◌^◌, length};
+ghost use Rattle.std.specs.Prelude.{◌≡◌, true, suc, ◌<◌, ◌≤◌, ◌^◌, length, MatchOption, unwrap_or};
 ghost use Rattle.table.specs.Limits.{most_depth};
 ghost use Rattle.table.specs.Layout.{credential, credentials};
 ghost use Rattle.table.specs.Holding.{WellFormed};
@@ -72,24 +72,25 @@ fn least_named(table: &[Number], places: CredentialSet) -> usize
     ensures { LeastNamed table.now places result }
 {
     let n = layout::credentials(table);
-    let mut best = n;
+    let mut best = None;
     for j in 0..n {
         if sets::has(places, j) && comes_before(table, j, best) {
-            best = j;
+            best = Some(j);
         }
     }
-    best
+    best.unwrap_or(n)
 }
 
 // The first number of credential j + 1 is less than that of `best` + 1, or there is no such credential.
-fn comes_before(table: &[Number], j: usize, best: usize) -> bool
+fn comes_before(table: &[Number], j: usize, best: Option<usize>) -> bool
     requires well_formed { WellFormed table.now }
-    requires j_bound { (j < credentials table.now) × (best ≤ credentials table.now) }
-    ensures { result ≡ comes_before table.now j best }
+    requires j_bound { j < credentials table.now }
+    requires best_bound { MatchOption best (Unit {0}) (λ b. b < credentials table.now) }
+    ensures { result ≡ comes_before table.now j (unwrap_or best (credentials table.now)) }
 {
-    if layout::credentials(table) <= best {
+    let Some(best) = best else {
         return true;
-    }
+    };
     let one = layout::credential(table, j + 1);
     let other = layout::credential(table, best + 1);
     one.first < other.first

@@ -2,7 +2,9 @@
 use mathlib.Core.Path.{◌≡◌, refl, sym, ap, ◌∙◌}
 use mathlib.Core.List.{List}
 use mathlib.Core.Bool.{Bool, true, false, not}
-use Prim.Native.Nat.{ℕ, ◌+◌, ◌<◌, ◌≤◌}
+use Prim.Native.Nat.{ℕ, zero, suc, ◌+◌, ◌<◌, ◌≤◌}
+use native.Mathlib.Decide.{ℕ_discrete}
+use Rattle.std.specs.List.{list_any, range_with_len}
 use native.Mathlib.Omega.{arith}
 use lib.ListN.{get_or}
 use lib.Bits.{bit_and, bit_xor}
@@ -10,7 +12,7 @@ use lib.Dec.{eqb, ltb}
 use borrow.Author.Tests.{eq-eqb, eqb-true, le-ltb, lt-ltb, ltb-true, ne_eqb}
 use Rattle.sets.specs.Logic.{◌and◌, any_below, pick}
 use Rattle.sets.specs.Sets.{in_set, part}
-use Rattle.sets.proofs.Tests.{and_first, and_is, and-is-off, and_none, and_second, any-all, any_next, any-reached, failed, false-true}
+use Rattle.sets.proofs.Tests.{and_first, and_is, and-is-off, and_none, and_second, any_none, any-reached, failed, false-true}
 use Rattle.sets.proofs.Tests.{passed}
 use Rattle.sets.proofs.Members.{in_set-and, part-le, part-shown, part-trans}
 use Rattle.sets.proofs.Without.{in_set-xor}
@@ -77,23 +79,37 @@ module _ (t : List ℕ) (A : ℕ) (r : Role) (s : StateSets) where
   unfolding stepped_on
   steps e = ap (λ (y : Moved). y.states) e
 
--- the search among the roles before role k
+-- a role before role k stands at its place
 pub asked_here : (index : List ℕ) (i k j : ℕ) → j < k → get_or index (asked_cell i j) 0 ≡ get_or index (asked_cell i k) 0
     → true ≡ asked_before index i k
 unfolding asked_before
 asked_here index i k j l same = sym (any-reached _ k j l (eq-eqb _ _ same))
 
-pub asked-nowhere : (index : List ℕ) (i k j : ℕ) → j ≡ k
-    → any_below (λ j. eqb (get_or index (asked_cell i j) 0) (get_or index (asked_cell i k) 0)) j ≡ false → false ≡ asked_before index i k
-unfolding asked_before
-asked-nowhere index i k j e none = sym (any-all _ j k e none)
+-- `any` over a range tells whether some number below its end passes
+module _ (p : ℕ → Bool) where
+  ranged : (a n : ℕ) → list_any p (range_with_len a n) ≡ true → (k : ℕ) × (k < a + n) × (p k ≡ true)
+  ranged a zero h = absurd (false-true h)
+  ranged a (suc n) h = go (p a) refl (ranged (a + 1) n)
+    where
+      go : (b : Bool) → p a ≡ b
+          → (list_any p (range_with_len (a + 1) n) ≡ true → (k : ℕ) × (k < a + 1 + n) × (p k ≡ true))
+          → (k : ℕ) × (k < a + suc n) × (p k ≡ true)
+      go true e more = (a, omega arith, e)
+      go false e more = let (k, l, on) = more (rw e at h) in (k, omega (arith, l), on)
 
-pub asked-next : (index : List ℕ) (i k j : ℕ) {one other : ℕ}
-    → any_below (λ j. eqb (get_or index (asked_cell i j) 0) (get_or index (asked_cell i k) 0)) j ≡ false
-    → one ≡ get_or index (asked_cell i j) 0 → other ≡ get_or index (asked_cell i k) 0 → (one ≡ other → ⊥)
-    → any_below (λ j. eqb (get_or index (asked_cell i j) 0) (get_or index (asked_cell i k) 0)) (j + 1) ≡ false
-asked-next index i k j before here there differ =
-    any_next _ j before (ne_eqb _ _ (λ same. differ (here ∙ same ∙ sym there)))
+  unranged : (a n : ℕ) → list_any p (range_with_len a n) ≡ false → (k : ℕ) → a ≤ k → k < a + n → p k ≡ false
+  unranged a zero h k from l = absurd (omega arith)
+  unranged a (suc n) h k from l = go (p a) refl (ℕ_discrete k a) (unranged (a + 1) n)
+    where
+      go : (b : Bool) → p a ≡ b → Dec (k ≡ a)
+          → (list_any p (range_with_len (a + 1) n) ≡ false → (k : ℕ) → a + 1 ≤ k → k < a + 1 + n → p k ≡ false) → p k ≡ false
+      go true e here more = absurd (false-true (sym (rw e at h)))
+      go false e (yes same) more = ap p same ∙ e
+      go false e (no other) more = more (rw e at h) k (omega (arith, other)) (omega arith)
+
+  pub any-ranged : (n : ℕ) (r : Bool) → r ≡ list_any p (range_with_len 0 n) → r ≡ any_below p n
+  any-ranged n true e = let (k, l, on) = ranged 0 n (sym e) in sym (any-reached p n k (omega (arith, l)) on)
+  any-ranged n false e = sym (any_none p n (λ k l. unranged 0 n (sym e) k (omega arith) (omega arith)))
 
 -- a simple membership names another principal; or it names this one, and the word that ends there is accepted by the imposed
 -- automata or not

@@ -201,12 +201,7 @@ pub fn is_asked_before(index: &[u8], i: usize, k: usize) -> bool
     ensures { result ≡ asked_before index.now i k }
 {
     let place = members::asked_cell(index, i, k);
-    for j in 0..k {
-        if members::asked_cell(index, i, j) == place {
-            return true;
-        }
-    }
-    false
+    (0..k).any(|j| members::asked_cell(index, i, j) == place)
 }
 
 // The family, or the owed set alone where the family has it: whoever meets that meets all.

@@ -7,7 +7,6 @@ ghost use Rattle.listing.specs.Minimal.{buffer_after, listing, listing_told};
 ghost use Rattle.decoding.specs.Decoding.{query_of, query_size};
 ghost use Rattle.input.specs.Input.{input_buffer, input_outcome, table_of};
 
-use listing::Listing;
 use sets::CredentialSet;
 use table::{Number, Reason, Refusal};
 
@@ -17,7 +16,7 @@ const QUERY_SIZE: usize = 4;
 
 // Lists the minimal sets for the query and the table that the bytes hold; the buffer is as `list` leaves it. Bytes after the
 // first 4,096 are ignored and not counted. An odd count, or one too small for a query, is refused as a short head.
-pub fn list_input(bytes: &[u8], sets: &mut [CredentialSet]) -> Listing
+pub fn list_input(bytes: &[u8], sets: &mut [CredentialSet]) -> Result<usize, Refusal>
     ensures { (listing_told result ≡ input_outcome bytes.now (length sets.old))
         × (sets.new ≡ input_buffer bytes.now sets.old) }
 {
@@ -28,10 +27,10 @@ pub fn list_input(bytes: &[u8], sets: &mut [CredentialSet]) -> Listing
         position: 0,
     };
     if read.len() != 2 * half {
-        return Listing::Refused(short);
+        return Err(short);
     }
     if half < QUERY_SIZE {
-        return Listing::Refused(short);
+        return Err(short);
     }
     let mut numbers = [0; MOST_NUMBERS];
     decoding::decode(read, &mut numbers);
@@ -39,7 +38,7 @@ pub fn list_input(bytes: &[u8], sets: &mut [CredentialSet]) -> Listing
 }
 
 // The query's four numbers, then the table.
-fn list_numbers(numbers: &[Number], sets: &mut [CredentialSet]) -> Listing
+fn list_numbers(numbers: &[Number], sets: &mut [CredentialSet]) -> Result<usize, Refusal>
     requires { query_size ≤ length numbers.now }
     ensures { (listing_told result
         ≡ listing (table_of numbers.now) (query_of numbers.now) (length sets.old))

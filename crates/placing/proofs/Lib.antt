@@ -1,5 +1,4 @@
 -- Laws that belong to no one function; crates above cite those marked `pub mod`.
 pub mod Cells
-pub mod Clearing
 pub mod Looking
 pub mod Putting

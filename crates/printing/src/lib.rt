@@ -7,7 +7,6 @@ ghost use Rattle.table.specs.Checks.{told};
 ghost use Rattle.lines.specs.Printed.{Filled, printed, room};
 ghost use Rattle.printing.specs.Program.{program_prints};
 
-use listing::Listing;
 use table::Refusal;
 
 // 4,096 lines of ten digits, and a last line.
@@ -29,8 +28,8 @@ fn put_answer(input: &[u8], out: &mut [u8]) -> usize
 {
     let mut sets = [0u32; CELLS];
     match input::list_input(input, &mut sets) {
-        Listing::Listed(count) => lines::put_list(out, &sets[..count]),
-        Listing::Refused(why) => put_refusal(out, why),
+        Ok(count) => lines::put_list(out, &sets[..count]),
+        Err(why) => put_refusal(out, why),
     }
 }
 
@@ -38,6 +37,5 @@ fn put_refusal(out: &mut [u8], why: Refusal) -> usize
     requires { room ≤ length out.old }
     ensures { Filled (printed (told why) []) out.old out.new result }
 {
-    let reason = why.reason;
-    lines::put_place(out, reason.number() as usize, why.position)
+    lines::put_place(out, u32::from(why.reason) as usize, why.position)
 }

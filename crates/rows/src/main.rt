@@ -6,12 +6,9 @@
 
 ghost use Rattle.std.specs.Prelude.{◌≤◌, ◌≡◌, length};
 
-use listing::Listing;
 use std::io;
 use std::io::{ErrorKind, Read};
-use table::{Name, Number, Principal, Query, Refusal, layout};
-use verifier::Verdict;
-use writing::Written;
+use table::{Number, Query, Refusal, layout};
 
 const BLOCK_BYTES: usize = 1024;
 
@@ -76,12 +73,7 @@ fn run(out: &impl Print, case: &[Number]) -> io::Result<()>
     if BLOCK < end {
         return print_bad(out);
     }
-    let query = Query {
-        principal: Principal(case[1]),
-        owner: Principal(case[2]),
-        name: Name(case[3]),
-        depth: case[4],
-    };
+    let query = answers::query_of(case[1], case[2], case[3], case[4]);
     match case[0] {
         LIST => run_list(out, &case[HEAD..record_at], query, cells),
         VERIFY => run_verify(out, &case[HEAD..record_at], query, &case[record_at..end]),
@@ -115,8 +107,8 @@ fn run_list_into(
     sets: &mut [u32],
 ) -> io::Result<()> {
     match listing::list(table, query, sets) {
-        Listing::Listed(count) => print_row(out, 0, count, sets),
-        Listing::Refused(why) => print_refused(out, why, sets),
+        Ok(count) => print_row(out, 0, count, sets),
+        Err(why) => print_refused(out, why, sets),
     }
 }
 
@@ -141,8 +133,8 @@ fn run_list_with_into(
     sets: &mut [u32],
 ) -> io::Result<()> {
     match listing::list_with(table, query, room, sets) {
-        Listing::Listed(count) => print_row(out, 0, count, sets),
-        Listing::Refused(why) => print_refused(out, why, sets),
+        Ok(count) => print_row(out, 0, count, sets),
+        Err(why) => print_refused(out, why, sets),
     }
 }
 
@@ -180,14 +172,13 @@ fn run_write_into(
     rec: &mut [Number],
 ) -> io::Result<()> {
     match writing::write(table, query, set, rec) {
-        Written::Length(len) => print_record(out, 0, len, rec),
-        Written::Refused(why) => print_unwritten(out, why, rec),
+        Ok(len) => print_record(out, 0, len, rec),
+        Err(why) => print_unwritten(out, why, rec),
     }
 }
 
 fn print_unwritten(out: &impl Print, why: Refusal, rec: &[Number]) -> io::Result<()> {
-    let reason = why.reason;
-    print_record(out, reason.number(), why.position, rec)
+    print_record(out, why.reason.into(), why.position, rec)
 }
 
 // As `print_row`, with the cells of a record.
@@ -202,14 +193,13 @@ fn print_record(out: &impl Print, number: u32, value: usize, rec: &[Number]) -> 
 
 fn run_verify(out: &impl Print, table: &[Number], query: Query, rec: &[Number]) -> io::Result<()> {
     match verifier::verify(table, query, rec) {
-        Verdict::Accepted(used) => print_row(out, 0, used as usize, &[]),
-        Verdict::Refused(why) => print_refused(out, why, &[]),
+        Ok(used) => print_row(out, 0, used as usize, &[]),
+        Err(why) => print_refused(out, why, &[]),
     }
 }
 
 fn print_refused(out: &impl Print, why: Refusal, cells: &[u32]) -> io::Result<()> {
-    let reason = why.reason;
-    print_row(out, reason.number(), why.position, cells)
+    print_row(out, why.reason.into(), why.position, cells)
 }
 
 // 0 and a value, or a refusal's number and position; then every cell of the buffer afterwards.

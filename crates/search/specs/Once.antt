@@ -1,7 +1,7 @@
 -- A request holds the fact that it is prepared (src/prepared.rt), so that this fact may be proved in one way only: requests with
 -- the same table, query, index and arcs are the same. It is made of equations and orders, and of one choice between two equations
 -- that exclude each other.
-use Rattle.std.specs.Prelude.{ℕ, ◌≡◌, List, ◌⊎◌, length}
+use Rattle.std.specs.Prelude.{ℕ, ◌≡◌, List, ◌⊎◌}
 use Rattle.std.specs.Coded.{Coded, code_by, coded_ℕ, coded×, coded⊎}
 use Rattle.std.proofs.Common.{inl, inr, refl, ap}
 use Rattle.std.proofs.Props.{props}

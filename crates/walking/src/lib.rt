@@ -26,7 +26,7 @@ use families::Family;
 use goals::{Ground, Spot, Terms};
 use members::Above;
 use search::{Pair, Request};
-use sets::{AutomatonSet, CredentialSet, StateSet};
+use sets::{AutomatonSet, CredentialSet};
 use table::{Number, layout};
 
 // What a walk tells: the cell behind the record, and which of the owed automata the words of the record meet.

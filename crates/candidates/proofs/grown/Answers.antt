@@ -1,5 +1,4 @@
 -- `candidates::grown` meets its contract: each step takes the set on by one credential, where it is still not admitted.
-use Rattle.std.proofs.Common.{arith}
 use Rattle.candidates.proofs.Growing.{grown-on, grown-same}
 use Rattle.candidates.proofs.grown.Goals as goal
 

@@ -1,21 +1,17 @@
--- A role at the place of role k is found, or there is none among those before it.
-use Rattle.std.proofs.Common.{◌∙◌, arith, refl, sym}
-use Rattle.sets.specs.Logic.{any_below}
-use Rattle.goals.proofs.Testing.{asked_here, asked-next, asked-nowhere}
+-- The closure tells of a role whether it stands at the place of role k.
+use Rattle.std.proofs.Common.{ℕ, Bool, eqb, get_or, refl, arith, rules, tests}
+use Rattle.std.proofs.lemmas.Iterator.{YieldsList-from_range}
+use Rattle.std.proofs.lemmas.Iterator.Search.{any_from_yields_List}
+use Rattle.members.specs.Members.{asked_cell}
+use Rattle.goals.specs.Goals.{asked_before}
+use Rattle.goals.proofs.Testing.{any-ranged}
 use Rattle.goals.proofs.is_asked_before.Goals as goal
 
-pub loop-j-init : goal.loop-j-init
-unfolding any_below
-loop-j-init c = refl
-
-pub returns-then-asked_cell-place : goal.returns-then-asked_cell-place
-returns-then-asked_cell-place c =
-    asked_here _ _ _ _ c.loop-j-test.true
-    (sym c.asked_cell.ensures.0 ∙ c.if-asked_cell-place.true ∙ c.asked_cell-place.ensures.0)
-
-pub loop-j-preserved : goal.loop-j-preserved
-loop-j-preserved c =
-    asked-next _ _ _ _ c.loop-j.invariant c.asked_cell.ensures.0 c.asked_cell-place.ensures.0 c.if-asked_cell-place.false
-
 pub returns : goal.returns
-returns c = asked-nowhere _ _ _ _ (omega arith) c.loop-j.invariant
+unfolding asked_before
+returns c =
+    let index = c.args.index.now in
+    let test : ℕ → Bool = λ j. eqb (get_or index (asked_cell c.args.i j) 0) c.asked_cell-place.result in
+    rw c.asked_cell-place.ensures.0 at
+    (any-ranged test c.args.k c.any.result (any_from_yields_List test _ _ c.any.result c.any.ensures.ran
+    (YieldsList-from_range 0 c.args.k c.args.k refl (omega arith)) (λ x b q told. search (rules, tests))))

@@ -1,6 +1,6 @@
 -- `listing::list_checked` meets its contract: where what bears on the query is not admitted there is no minimal set; otherwise the
 -- sets are listed, with an index of arcs where automata are attached.
-use Rattle.std.proofs.Common.{refl, ◌∙◌}
+use Rattle.std.proofs.Common.{refl}
 use Rattle.sets.proofs.Tests.{failed}
 use Rattle.table.specs.Checks.{number_of}
 use Rattle.table.proofs.Told.{tells-whole}

@@ -1,7 +1,6 @@
 -- Without any of the first i credentials that the set has, it is not admitted.
 use Rattle.std.proofs.Common.{◌≡◌, false}
 use Rattle.sets.specs.Logic.{any_below}
-use Rattle.table.specs.Layout.{credentials}
 use Rattle.admission.specs.Admits.{admits}
 use Rattle.minimal.proofs.Spare.{spare}
 use Rattle.minimal.proofs.is_minimal.Given as goal

@@ -19,11 +19,11 @@ enum-known-count c = search rules
 
 array-share-prefix-sets : tie.Need-slice_bounds-sets-end
 array-share-prefix-sets c =
-    listed-within _ _ _ c.list_input.ensures c.list_input.auto.sets _ c.in-Listed.is
+    listed-within _ _ _ c.list_input.ensures c.list_input.auto.sets _ c.in-Ok.is
 
 slice-aggregate-put-list : tie.Need-slice_bounds-put_list-end
 slice-aggregate-put-list c =
-    let within = listed-within _ _ _ c.list_input.ensures c.list_input.auto.sets _ c.in-Listed.is in
+    let within = listed-within _ _ _ c.list_input.ensures c.list_input.auto.sets _ c.in-Ok.is in
     sym (length-take-le _ _ within)
 
 put-list-requires : tie.Need-put_list-requires
@@ -36,20 +36,20 @@ enum-known-why c = search rules
 put-refusal-requires : tie.Need-put_refusal-requires
 put-refusal-requires c κs = search rules
 
-same_length : tie.Need-shape_of-out-in-Listed
+same_length : tie.Need-shape_of-out-in-Ok
 same_length c = search rules
 
-returns : tie.Need-returns-in-Listed
+returns : tie.Need-returns-in-Ok
 returns c =
-    listed-filled _ _ _ c.list_input.ensures c.list_input.auto.sets _ c.in-Listed.is
+    listed-filled _ _ _ c.list_input.ensures c.list_input.auto.sets _ c.in-Ok.is
     c.put_list.ensures
 
-same-length-2 : tie.Need-shape_of-out-in-Refused
+same-length-2 : tie.Need-shape_of-out-in-Err
 same-length-2 c = search rules
 
-returns-2 : tie.Need-returns-in-Refused
+returns-2 : tie.Need-returns-in-Err
 returns-2 c =
-    refused-filled _ _ _ c.list_input.ensures c.list_input.auto.sets _ c.in-Refused.is
+    refused-filled _ _ _ c.list_input.ensures c.list_input.auto.sets _ c.in-Err.is
     c.put_refusal.ensures
 
 pub put_answer_spec : {M : Type 1} → statement M

@@ -1,5 +1,5 @@
 -- `writing::write_settled` meets its contract: the record is walked without cells, and written where it fits.
-use Rattle.std.proofs.Common.{arith, refl}
+use Rattle.std.proofs.Common.{refl}
 use Rattle.table.specs.Checks.{number_of, outcome_of}
 use Rattle.table.proofs.Told.{tells-whole}
 use Rattle.writing.proofs.Passes.{counted-longer, counted-written, passed-by, proves-under, tells-instead}
