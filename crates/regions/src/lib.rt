@@ -37,9 +37,8 @@ pub fn below(
     let next = cuts::highest(among);
     let rest = free ^ (1 << next);
     let more = sets::with(chosen, next);
-    // without it, then with it
-    below(request, usable, chosen, rest, cuts, count, sets, found);
-    below(request, usable, more, rest, cuts, count, sets, found);
+    below(request, usable, chosen, rest, cuts, count, sets, found); // without it
+    below(request, usable, more, rest, cuts, count, sets, found); // with it
 }
 
 // What of a region is left to branch on: the free credentials of a cut that `chosen` does not meet, or none where the region is
