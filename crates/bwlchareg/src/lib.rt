@@ -52,7 +52,10 @@ pub extern "C" fn bwlchareg_list(
         × (sets.new ≡ buffer_after table.now (as_query principal owner name depth) sets.old) }
 {
     let query = answers::query_of(principal, owner, name, depth);
-    answers::answer(listing::list(table, query, sets).map(|count| count as u64), value)
+    answers::answer(
+        listing::list(table, query, sets).map(|count| count as u64),
+        value,
+    )
 }
 
 // The verifier's end: whether the record derives the queried membership and complies. The value is its used set.
@@ -70,7 +73,10 @@ pub extern "C" fn bwlchareg_verify(
         ≡ verdict table.now (as_query principal owner name depth) rec.now }
 {
     let query = answers::query_of(principal, owner, name, depth);
-    answers::answer(verifier::verify(table, query, rec).map(|used| used as u64), value)
+    answers::answer(
+        verifier::verify(table, query, rec).map(|used| used as u64),
+        value,
+    )
 }
 
 // The holder's end, after the list: the first record of a listed set, in the buffer's first cells. The value is its length.
@@ -90,7 +96,10 @@ pub extern "C" fn bwlchareg_write(
         × (rec.new ≡ record_after table.now (as_query principal owner name depth) set rec.old) }
 {
     let query = answers::query_of(principal, owner, name, depth);
-    answers::answer(writing::write(table, query, set, rec).map(|len| len as u64), value)
+    answers::answer(
+        writing::write(table, query, set, rec).map(|len| len as u64),
+        value,
+    )
 }
 
 // The version of the interface; CHANGELOG.md says what stays as it is within one.

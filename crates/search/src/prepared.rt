@@ -11,6 +11,5 @@ pub struct Request<'a> {
     pub query: Query,
     pub index: &'a [u8],
     pub arcs: &'a [StateSet],
-    pub ghost prepared: { Prepared table.now query index.now arcs.now }
-        by { prepared_once table.now query index.now arcs.now },
+    pub ghost prepared: { Prepared table.now query index.now arcs.now } by { prepared_once table.now query index.now arcs.now },
 }

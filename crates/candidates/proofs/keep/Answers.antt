@@ -10,6 +10,6 @@ returns-then-not-is_minimal c = kept-not (sym c.is_minimal.ensures ∙ c.if-not-
 pub returns : goal.returns
 returns c =
     elim c.else-full.branch [
-      else-full-via-then-full+else-not-is_minimal w ↦ kept-least (sym w.is_minimal.ensures ∙ w.if-not-is_minimal.false) c.insert.ensures
+      | else-full-via-then-full+else-not-is_minimal w ↦ kept-least (sym w.is_minimal.ensures ∙ w.if-not-is_minimal.false) c.insert.ensures
       | else-full-via-else-full w ↦ kept-least (c.requires.set_value_2 w.if-full.false) c.insert.ensures
     ]

@@ -20,10 +20,10 @@ pub returns-then-levels-eq0 : goal.returns-then-levels-eq0
 unfolding stepped number_of given
 returns-then-levels-eq0 c =
     entry_closed _ _ _ _ c.if-rec-lt2.false (sym c.in-Some.ensures)
-    (elim c.then-levels-eq0.branch
-    [ then-levels-eq0-via-then-levels-eq0 w ↦ may_none _ _ _ w.if-levels-eq0.true
-    | then-levels-eq0-via-else-levels-eq0+then-not-is_fresh w ↦
-        may-fresh _ _ _ w.if-levels-eq0.false ∙ failed w.is_fresh.ensures w.if-not-is_fresh.true
+    (elim c.then-levels-eq0.branch [
+      | then-levels-eq0-via-then-levels-eq0 w ↦ may_none _ _ _ w.if-levels-eq0.true
+      | then-levels-eq0-via-else-levels-eq0+then-not-is_fresh w ↦
+          may-fresh _ _ _ w.if-levels-eq0.false ∙ failed w.is_fresh.ensures w.if-not-is_fresh.true
     ])
 
 pub returns : goal.returns

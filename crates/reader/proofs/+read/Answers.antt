@@ -54,7 +54,7 @@ pub read-requires : goal.read-requires
 read-requires t c =
     let here = entered-node c.requires.well_formed c.in_ok-step.ensures in
     let down = kept-down here c.wide-place.ensures.0 _ c.moved.ensures refl c.with_credential-tally.ensures c.len.ensures
-        c.after_node-tally.ensures c.with-deeper.ensures in
+    c.after_node-tally.ensures c.with-deeper.ensures in
     let so_far = rw c.as_slice-next-items.ensures at c.loop-next.invariant.so_far in
     let level = node-level here in
     let deeper = ap length c.with-deeper.ensures in
@@ -65,7 +65,7 @@ returns-in_err-rest-clause-told t c =
     let p = err_from_is_err_and c.from_residual-in_err-rest.result c.from_residual-in_err-rest.ensures.1 in
     let here = entered-node c.requires.well_formed c.in_ok-step.ensures in
     let down = kept-down here c.wide-place.ensures.0 _ c.moved.ensures refl c.with_credential-tally.ensures c.len.ensures
-        c.after_node-tally.ensures c.with-deeper.ensures in
+    c.after_node-tally.ensures c.with-deeper.ensures in
     let so_far = rw c.as_slice-next-items.ensures at c.loop-next.invariant.so_far in
     let child = rw c.as_slice-next-items.ensures at c.in_err-rest.ensures.told in
     let less = rw c.as_slice-next-items.ensures at c.loop-next-test.true in
@@ -82,7 +82,7 @@ pub returns-clause-told : goal.returns-clause-told
 returns-clause-told t c =
     let here = entered-node c.requires.well_formed c.in_ok-step.ensures in
     let down = kept-down here c.wide-place.ensures.0 _ c.moved.ensures refl c.with_credential-tally.ensures c.len.ensures
-        c.after_node-tally.ensures c.with-deeper.ensures in
+    c.after_node-tally.ensures c.with-deeper.ensures in
     let so_far = rw c.as_slice-next-items.ensures at c.loop-next.invariant.so_far in
     let all = rw c.as_slice-next-items.ensures at c.loop-next-test.false in
     children-read here down so_far all

@@ -15,6 +15,6 @@ loop-k-preserved g c =
     let so_far = c.loop-k.invariant p agrees in
     let here = agrees c.loop-k.k c.loop-k-test.true c.test.result c.test.ensures in
     elim c.if-test.branch [
-        then-test w ↦ ap g.S.Width.number w.set-is ∙ w.with-set.ensures ∙ set_more p _ _ so_far (sym here ∙ w.if-test.true)
-        | else-test w ↦ ap g.S.Width.number w.set-is ∙ set-not p _ _ so_far (sym here ∙ w.if-test.false)
+      | then-test w ↦ ap g.S.Width.number w.set-is ∙ w.with-set.ensures ∙ set_more p _ _ so_far (sym here ∙ w.if-test.true)
+      | else-test w ↦ ap g.S.Width.number w.set-is ∙ set-not p _ _ so_far (sym here ∙ w.if-test.false)
     ]
