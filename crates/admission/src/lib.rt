@@ -133,7 +133,7 @@ fn admits_free(
     requires allowed_value { bit_or terms.constraints (bit_or terms.owed (owed_of request.now.table.now terms.allowed)) ≡ 0 }
     ensures { result ≡ admits_to request.now.table.now request.now.query terms.allowed terms.constraints terms.owed k }
 {
-    if !search::is_member(request, rows, terms) {
+    if !search::is_member(request.table, request.query, request.index, rows, terms) {
         return false;
     }
     if k == 0 {

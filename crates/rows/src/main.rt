@@ -186,7 +186,7 @@ fn print_record(out: &impl Print, number: u32, value: usize, rec: &[Number]) -> 
     print!(out; "{number}")?;
     print_next(out, value as u64)?;
     for cell in rec {
-        print_next(out, layout::wide(*cell) as u64)?;
+        print_next(out, u64::from(*cell))?;
     }
     println!(out;)
 }
@@ -212,17 +212,13 @@ fn print_row(out: &impl Print, number: u32, value: usize, cells: &[u32]) -> io::
 
 fn print_cells(out: &impl Print, cells: &[u32]) -> io::Result<()> {
     for cell in cells {
-        print_next(out, wide(*cell))?;
+        print_next(out, u64::from(*cell))?;
     }
     Ok(())
 }
 
 fn print_next(out: &impl Print, number: u64) -> io::Result<()> {
     print!(out; " {number}")
-}
-
-fn wide(cell: u32) -> u64 {
-    cell as u64
 }
 
 fn print_bad(out: &impl Print) -> io::Result<()> {

@@ -12,7 +12,9 @@ ghost use Rattle.std.specs.Prelude.{◌≡◌, ◌<◌};
 ghost use Rattle.families.specs.Families.{all_sets};
 ghost use Rattle.automata.specs.Together.{starting_sets};
 ghost use Rattle.members.specs.Above.{nothing_above};
-ghost use Rattle.members.specs.Members.{Members};
+ghost use Rattle.table.specs.Checks.{Valid};
+ghost use Rattle.table.specs.Holding.{WellFormed};
+ghost use Rattle.members.specs.Members.{Aimed, Indexed, Members};
 ghost use Rattle.search.specs.Search.{Stands, TellsMet, provable};
 ghost use Rattle.search.specs.Failing.{FoundBelow, goal_test};
 ghost use Rattle.search.specs.Grounds.{RememberedOn, SearchableOn};
@@ -25,24 +27,32 @@ use members::Above;
 pub use prepared::Request;
 pub use seeking::{Answer, credential_search, goal_search};
 use sets::CredentialSet;
-use table::layout;
+use table::{Number, Query, layout};
 
 // Whether some derivation of the queried membership uses only allowed credentials, where no automaton is imposed and none owed: the
 // table of members tells it by itself.
-pub fn is_member(request: &Request, rows: &[CredentialSet], terms: Terms) -> bool
-    requires { Members request.now.table.now terms.allowed request.now.query.depth terms.last rows.now }
-    ensures { result ≡ provable request.now.table.now request.now.query terms.allowed 0 0 }
+pub fn is_member(
+    table: &[Number],
+    query: Query,
+    index: &[u8],
+    rows: &[CredentialSet],
+    terms: Terms,
+) -> bool
+    requires well_formed { WellFormed table.now × Valid query }
+    requires indexed { Indexed table.now index.now × Aimed table.now query index.now }
+    requires members { Members table.now terms.allowed query.depth terms.last rows.now }
+    ensures { result ≡ provable table.now query terms.allowed 0 0 }
 {
-    let person = members::goal_person(request.index);
-    if layout::credentials(request.table) <= person {
+    let person = members::goal_person(index);
+    if layout::credentials(table) <= person {
         return false;
     }
-    let place = members::goal_role(request.index);
-    let levels = layout::wide(request.query.depth);
+    let place = members::goal_role(index);
+    let levels = layout::wide(query.depth);
     let ground = Ground {
-        table: request.table,
-        index: request.index,
-        arcs: request.arcs,
+        table,
+        index,
+        arcs: &[],
         rows,
         terms,
     };
