@@ -22,15 +22,11 @@ pub fn list_input(bytes: &[u8], sets: &mut [CredentialSet]) -> Result<usize, Ref
 {
     let read = decoding::counted(bytes);
     let half = read.len() / 2;
-    let short = Refusal {
-        reason: Reason::ShortHead,
-        position: 0,
-    };
     if read.len() != 2 * half {
-        return Err(short);
+        return Err(Reason::ShortHead.into());
     }
     if half < QUERY_SIZE {
-        return Err(short);
+        return Err(Reason::ShortHead.into());
     }
     let mut numbers = [0; MOST_NUMBERS];
     decoding::decode(read, &mut numbers);
