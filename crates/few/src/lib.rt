@@ -2,7 +2,7 @@
 // part of the type, so no contract has to say it. specs/Listed.antt says which list it is; proofs/Listing.antt has its laws.
 #![tactic(auto, unfolding(crate::specs::Listed::listed))]
 
-ghost use Rattle.std.specs.Prelude.{◌≡◌, ◌≤◌, length};
+ghost use Rattle.std.specs.Prelude.{◌≡◌, ◌≤◌, ⊤, length};
 
 use std::alloc::AllocError;
 
@@ -16,6 +16,8 @@ pub struct Few<T, const N: usize> {
 
 impl<T: Copy, const N: usize> Clone for Few<T, N> {
     ghost is_clone = { λ one other. other ≡ one };
+
+    ghost is_infallible = { λ _. ⊤ };
 
     fn clone(&self) -> Result<Self, AllocError> {
         Ok(*self)
