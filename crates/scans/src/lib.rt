@@ -68,12 +68,20 @@ pub fn counts_ok(table: &[Number]) -> bool
         && table[3] <= MOST_EDGES
 }
 
-// Rows 4, 5, 7 and 17: the first record of the row that is not good, by ascending number.
+// Rows 4, 5, 7 and 17: the first record of the row that is not good, by ascending number. Each caller names its row, and has a loop
+// for that row alone.
+#[inline(always)]
 pub fn first_bad(table: &[Number], row: Row) -> Option<usize>
     requires { Sized table.now }
     ensures { FoundBad (good table.now row) (Rows.records table.now row) result }
 {
-    (1..=row.records(table)).find(|i| !row.is_good(table, *i))
+    let n = row.records(table);
+    for i in 0..n {
+        if !row.is_good(table, i + 1) {
+            return Some(i + 1);
+        }
+    }
+    None
 }
 
 // Row 6: the first credential whose chain has not 2 to 4 cells; without part cells there is no chain. A chain is left as soon as a

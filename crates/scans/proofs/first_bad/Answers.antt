@@ -1,14 +1,21 @@
--- `find` stops at the first record that is not good.
-use Rattle.std.proofs.Common.{rules, tests}
-use Rattle.table.proofs.Searching.{first-failure}
-use Rattle.scans.specs.Rows.{good, records}
-use Rattle.scans.proofs.FirstBad.{found_bad}
+-- The loop stops at the first record that is not good.
+use Rattle.std.proofs.Common.{arith, refl}
+use Rattle.sets.proofs.Tests.{failed, passed}
+use Rattle.table.specs.Outcome.{demand_each}
+use Rattle.table.proofs.Stages.{each-passes}
+use Rattle.scans.proofs.FirstBad.{bad-next, bad-none}
 use Rattle.scans.proofs.first_bad.Goals as goal
 
+pub loop-i-init : goal.loop-i-init
+unfolding demand_each
+loop-i-init c = λ number. refl
+
+pub returns-then-not-is_good : goal.returns-then-not-is_good
+returns-then-not-is_good c =
+    bad-next _ _ _ c.loop-i.invariant (omega arith) (failed c.is_good.ensures c.if-not-is_good.true)
+
+pub loop-i-preserved : goal.loop-i-preserved
+loop-i-preserved c = λ number. each-passes _ number _ (c.loop-i.invariant number) (passed c.is_good.ensures c.if-not-is_good.false)
+
 pub returns : goal.returns
-returns c =
-    let ok = good c.args.table.now c.args.row in
-    let n = records c.args.table.now c.args.row in
-    found_bad ok n c.find.result
-    (first-failure ok n c.find.result c.find.ensures.runs
-    (search rules) (search rules) (search rules) (search rules) (λ x q k. search (rules, tests)) (λ x q k. search (rules, tests)))
+returns c = bad-none _ _ _ c.loop-i.invariant (omega arith)

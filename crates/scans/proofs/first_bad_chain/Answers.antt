@@ -1,11 +1,11 @@
 -- Whoever has no chain passes, and so does whoever has 2 to 4 cells; without part cells there is no chain.
 use Rattle.std.proofs.Common.{refl, sym, ◌∙◌, arith}
-use Rattle.table.specs.Outcome.{demand, demand_each}
+use Rattle.table.specs.Outcome.{demand_each}
 use Rattle.table.proofs.Reading.{is-number, not-number}
-use Rattle.table.proofs.Stages.{each-passes, each-through}
+use Rattle.table.proofs.Stages.{each-passes}
 use Rattle.table.proofs.Chains.{walk-goes-on, walk-starts}
 use Rattle.scans.proofs.Chains.{chain-of-kind-4, first-inside, long-enough, next-inside, no-chain, no_cells, too_long, too_short}
-use Rattle.scans.proofs.FirstBad.{bad-next}
+use Rattle.scans.proofs.FirstBad.{bad-next, bad-none}
 use Rattle.scans.proofs.first_bad_chain.Goals as goal
 
 pub returns-then-cells-eq0 : goal.returns-then-cells-eq0
@@ -52,5 +52,4 @@ returns-then-met-lt-LEAST_PARTS c =
     bad-next _ _ _ c.loop-i.invariant (omega arith) (c.loop-j.invariant.whole ∙ short)
 
 pub returns-after-loop-i : goal.returns-after-loop-i
-unfolding demand
-returns-after-loop-i c = λ number. each-through _ number _ _ (omega arith) (c.loop-i.invariant number)
+returns-after-loop-i c = bad-none _ _ _ c.loop-i.invariant (omega arith)
