@@ -4,7 +4,7 @@
 
 ghost use Rattle.std.specs.Prelude.{◌≡◌, [], ◌∷◌, ◌<◌, length};
 ghost use Rattle.table.specs.Limits.{most_depth};
-ghost use Rattle.derivation.specs.Rules.{fresh};
+ghost use Rattle.derivation.specs.Rules.{fresh, same_goal};
 ghost use Rattle.branches.specs.Held.{above};
 
 use few::Few;
@@ -16,7 +16,7 @@ const MOST_LEVELS: usize = 16;
 // The goals above a node, the query's first.
 #[derive(Clone, Copy)]
 pub struct Branch {
-    goals: Few<Goal, MOST_LEVELS>,
+    pub goals: Few<Goal, MOST_LEVELS>,
 }
 
 impl Branch {
@@ -44,15 +44,29 @@ impl Branch {
         }
     }
 
+    // How many goals stand above.
+    pub fn len(&self) -> usize
+        ensures { result ≡ length (above self.now) }
+    {
+        self.goals.len()
+    }
+
     // Whether the goal, as a pair of principal and role, is none of those above it.
     pub fn is_fresh(&self, goal: Goal) -> bool
         ensures { result ≡ fresh (above self.now) goal }
     {
         for other in self.goals.as_slice() {
-            if *other == goal {
+            if is_same(*other, goal) {
                 return false;
             }
         }
         true
     }
+}
+
+// The same pair of principal and role. Kinds 2 and 4 ask of the same principal, so names are compared first.
+fn is_same(one: Goal, other: Goal) -> bool
+    ensures { result ≡ same_goal one other }
+{
+    one.role.name == other.role.name && one == other
 }

@@ -96,7 +96,8 @@ module _ {t : List ℕ} {levels : ℕ} {branch : List Goal} {g : Goal} {s : Stat
   unfolding tally_on onward
   first-passed goals r = ap (onward t s (reader t levels branch goals)) r.told ∙ split t levels branch g goals s rec before
 
-  pub first-stopped : (goals : List Goal) {why : Reason} {after : Tally} → StopsAt t levels branch g s rec before why after
+  pub first-stopped : (goals : List Goal) {left : List ℕ} {why : Reason} {after : Tally}
+      → StopsAt t levels branch g s rec before left why after
       → stopped (number_of why) after.nodes ≡ read_from t levels branch (g ∷ goals) s rec before
   unfolding onward
   first-stopped goals r = ap (onward t s (reader t levels branch goals)) r.told ∙ split t levels branch g goals s rec before

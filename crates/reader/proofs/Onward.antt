@@ -1,5 +1,5 @@
 -- The loop over a node's children: what is kept after the first i of them, with the others still to be read, is the whole.
-use mathlib.Core.Path.{◌≡◌, refl, sym, ap, ◌∙◌}
+use mathlib.Core.Path.{◌≡◌, refl, sym, ◌∙◌}
 use mathlib.Core.List.{List, [], ◌∷◌}
 use Prim.Native.Nat.{ℕ, suc, ◌+◌, ◌-◌, ◌^◌, ◌≤◌, ◌<◌}
 use native.Mathlib.Omega.{arith}
@@ -65,7 +65,8 @@ module _ {t : List ℕ} {levels : ℕ} {branch goals : List Goal} {s : StateSets
         → Onward t levels branch goals s rest₀ kept₀ rest' kept' (i + 1)
     onward-goes child = record { room = omega (arith, o.room, child.room); whole = first-passed _ child ∙ next }
 
-    onward_stops : {why : Reason} {kept' : Tally} → StopsAt t levels branch (get_or goals i no_goal) s rest kept why kept'
+    onward_stops : {left : List ℕ} {why : Reason} {kept' : Tally}
+        → StopsAt t levels branch (get_or goals i no_goal) s rest kept left why kept'
         → stopped (number_of why) kept'.nodes ≡ read_from t levels branch goals s rest₀ kept₀
     onward_stops child = first-stopped (drop (i + 1) goals) child ∙ next
 
@@ -144,10 +145,10 @@ module _ {t : List ℕ} {levels : ℕ} {branch : List Goal} {g : Goal} {s : Stat
     pub children-read : length (listed step.asked) ≤ i → ReadOn t levels branch g s rec before rest kept
     children-read all = record { told = onward-ends o all ∙ node-whole; room = left }
 
-    pub child-stops : {why : Reason} {kept' : Tally} → i < length (listed step.asked)
-        → StopsAt t (levels - 1) deeper (get_or (listed step.asked) i no_goal) below rest kept why kept'
-        → StopsAt t levels branch g s rec before why kept'
-    child-stops less child = record { told = onward_stops o less child ∙ node-whole }
+    pub child-stops : {left : List ℕ} {why : Reason} {kept' : Tally} → i < length (listed step.asked)
+        → StopsAt t (levels - 1) deeper (get_or (listed step.asked) i no_goal) below rest kept left why kept'
+        → StopsAt t levels branch g s rec before rec why kept'
+    child-stops less child = record { told = onward_stops o less child ∙ node-whole; whole = refl }
 
 -- what is kept of a node for its children, by what the code has called
 pub kept-down : {t : List ℕ} {levels : ℕ} {branch : List Goal} {g : Goal} {rec : List ℕ} {step : Step}
@@ -170,10 +171,11 @@ kept-down n place s moves counts uses size keeps branches =
 -- a node that the code could not enter
 pub node-halts : {t : List ℕ} {levels : ℕ} {branch : List Goal} {g : Goal} {s : StateSets} {rec : List ℕ} {before after : Tally}
     {why : Reason} → stepped (Err why) rec ≡ entry t (may levels branch g) g rec → after.nodes ≡ before.nodes + 1
-    → StopsAt t levels branch g s rec before why after
+    → StopsAt t levels branch g s rec before rec why after
 unfolding stepped
 node-halts {t} {levels} {branch} {g} {s} {rec} {before} {after} {why} enters counts =
     record {
       told = rw (counts, add-one before.nodes)
           (node-stops t levels branch g s rec before.used before.nodes before.words.every before.words.some _ (sym enters));
+      whole = refl;
     }

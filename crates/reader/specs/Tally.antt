@@ -61,7 +61,8 @@ pub record ReadOn (t : List ℕ) (levels : ℕ) (branch : List Goal) (g : Goal) 
   pub told : passed_by rest after ≡ read_from t levels branch (g ∷ []) s rec before
   pub room : after.nodes + length rest ≤ before.nodes + length rec
 
--- and where it stops: the reason and the number of nodes tell the reading
+-- and where it stops: the reason and the number of nodes tell the reading, and the whole record is handed back
 pub record StopsAt (t : List ℕ) (levels : ℕ) (branch : List Goal) (g : Goal) (s : StateSets) (rec : List ℕ) (before : Tally)
-    (why : Reason) (after : Tally) : Type 0 where
+    (rest : List ℕ) (why : Reason) (after : Tally) : Type 0 where
   pub told : stopped (number_of why) after.nodes ≡ read_from t levels branch (g ∷ []) s rec before
+  pub whole : rest ≡ rec

@@ -25,8 +25,8 @@ pub struct Tally {
     pub words: WordsKept,
 }
 
-// Reads the derivation of a goal from the front of the record, and hands back what is left behind it. A refusal stops it at node
-// number `tally.nodes`; then the rest of the tally means nothing.
+// Reads the derivation of a goal from the front of the record, and hands back what is left after it. A refusal stops it at node
+// number `tally.nodes`; then the whole record is handed back, and the rest of the tally means nothing.
 pub fn read<'a>(
     table: &[Number],
     rec: &'a [Number],
@@ -36,28 +36,39 @@ pub fn read<'a>(
     branch: Branch,
     arcs: &mut [StateSet],
     tally: &mut Tally,
-) -> Result<&'a [Number], Reason>
+) -> (&'a [Number], Result<(), Reason>)
     requires well_formed { WellFormed table.now }
     requires levels_fit { length (above branch) + levels ≤ most_depth }
     requires rec_bound { tally.old.nodes + length rec.now < 2 ^ 63 }
     requires arcs { Arcs table.now arcs.old }
-    ensures told { MatchResult result
-        (λ rest. ReadOn table.now levels (above branch) goal states rec.now tally.old rest.now tally.new)
-        (λ why. StopsAt table.now levels (above branch) goal states rec.now tally.old why tally.new) }
+    ensures told { MatchResult result.1
+        (λ _. ReadOn table.now levels (above branch) goal states rec.now tally.old result.0.now tally.new)
+        (λ why. StopsAt table.now levels (above branch) goal states rec.now tally.old result.0.now why tally.new) }
     ensures arcs { Arcs table.now arcs.new }
 {
     tally.nodes += 1;
-    let step = entering::enter(table, rec, goal, levels, &branch)?;
+    let step = match entering::enter(table, rec, goal, levels, &branch) {
+        Ok(step) => step,
+        Err(why) => return (rec, Err(why)),
+    };
     // a dead automaton stops nothing: it may belong to no used credential, and 11 to 13 of a later node come before 14
     let place = layout::wide(step.credential) - 1;
     arcs::ask(table, arcs, place);
     let below = moves::moved(states, table, arcs, place).states;
     tally.used = entering::with_credential(tally.used, step.credential);
     tally.words = entering::after_node(table, arcs, tally.words, below, step.asked.len());
-    let deeper = branch.with(goal);
     let mut rest = &rec[2..];
-    for next in step.asked.as_slice() {
-        rest = read(table, rest, *next, levels - 1, below, deeper, arcs, tally)?;
+    // a node that asks nothing hands no branch on, and making one copies all the goals above
+    if step.asked.len() == 0 {
+        return (rest, Ok(()));
     }
-    Ok(rest)
+    let deeper = branch.with(goal);
+    for next in step.asked.as_slice() {
+        let (left, told) = read(table, rest, *next, levels - 1, below, deeper, arcs, tally);
+        match told {
+            Ok(()) => rest = left,
+            Err(why) => return (rec, Err(why)),
+        }
+    }
+    (rest, Ok(()))
 }

@@ -22,6 +22,9 @@ use Rattle.derivation.specs.Rules.{goal_of}
 use Rattle.derivation.specs.Forest.{Forest, count_from, used_from, used_set}
 use Rattle.reader.specs.Reading.{Reading}
 use Rattle.reader.specs.Reading.Reading.{read, stop}
+use Rattle.verifier.specs.DemandTwo.{Stops}
+use Rattle.verifier.specs.DemandTwo.Stops.{short, unfit, deep, again, below, behind}
+use Rattle.verifier.proofs.DemandTwo.{first-refusal}
 use Rattle.attached.specs.Attached.{automata_of}
 use Rattle.reader.specs.Tally.{ReadOn, StopsAt, every_from, passed_by, read_from, some_from, tally, tally_on}
 use Rattle.reader.specs.declared.Tally.{Tally}
@@ -86,6 +89,16 @@ pub begins : {t : List ℕ} {q : Query} {levels : ℕ} {branch : List Goal} {g :
 begins all-levels nothing_above asked starting =
     record { all-levels = all-levels; nothing_above = nothing_above; asked = asked; starting = starting }
 
+-- reading stops with 11, 12 or 13 alone
+stop-number : {t : List ℕ} {levels at number position : ℕ} {branch goals : List Goal} {rec : List ℕ}
+    → Stops t levels branch goals rec at number position → (11 ≤ number) × (number ≤ 13)
+stop-number (short h) = (omega arith, omega arith)
+stop-number (unfit h) = (omega arith, omega arith)
+stop-number (deep h) = (omega arith, omega arith)
+stop-number (again h f) = (omega arith, omega arith)
+stop-number (below h f more) = stop-number more
+stop-number (behind h f d more) = stop-number more
+
 -- numbers are left over: 11 behind the last node
 leftover : (t rest : List ℕ) (f : Forest) (nodes : ℕ) (after : Reading) → after ≡ read rest f → nodes ≡ count_from 0 f
     → (length rest ≡ 0 → ⊥) → refused 11 (nodes + 1) ≡ judged t after
@@ -112,11 +125,17 @@ unfolding tally_on
 whole-told rec b = rw (b.all-levels, b.nothing_above, b.asked, b.starting)
 
 -- reading has stopped there
-pub verdict-stops : {t : List ℕ} {q : Query} {levels : ℕ} {branch : List Goal} {g : Goal} {s : StateSets} {rec : List ℕ}
-    {why : Reason} {kept : Tally} → Begins t q levels branch g s → StopsAt t levels branch g s rec begun why kept
-    → refused (number_of why) kept.nodes ≡ judged t (queried t q rec)
-unfolding judged_by
-verdict-stops {t} {rec = rec} b r = rw (told-stop t (starting_sets t) _ _ _ (r.told ∙ whole-told rec b))
+module _ {t : List ℕ} {q : Query} {levels : ℕ} {branch : List Goal} {g : Goal} {s : StateSets} {rec rest : List ℕ}
+    {why : Reason} {kept : Tally} (b : Begins t q levels branch g s) (r : StopsAt t levels branch g s rec begun rest why kept) where
+  stops-there : queried t q rec ≡ stop (number_of why) kept.nodes
+  stops-there = told-stop t (starting_sets t) _ _ _ (r.told ∙ whole-told rec b)
+
+  pub stops-number : (11 ≤ number_of why) × (number_of why ≤ 13)
+  stops-number = stop-number ((first-refusal t q.depth [] (goal_of q ∷ []) rec 1 (number_of why) kept.nodes).0 stops-there)
+
+  pub verdict-stops : refused (number_of why) kept.nodes ≡ judged t (queried t q rec)
+  unfolding judged_by
+  verdict-stops = rw stops-there
 
 -- reading has passed
 module _ {t : List ℕ} {q : Query} {levels : ℕ} {branch : List Goal} {g : Goal} {s : StateSets} {rec rest : List ℕ} {kept : Tally}

@@ -71,7 +71,7 @@ fn judge_by(
     let goal = derivation::goal_of(query);
     let levels = layout::wide(query.depth);
     let start = StateSets::start(table);
-    let read = reader::read(
+    let (rest, told) = reader::read(
         table,
         rec,
         goal,
@@ -81,15 +81,15 @@ fn judge_by(
         arcs,
         &mut tally,
     );
-    let rest = match read {
-        Ok(rest) => rest,
+    match told {
+        Ok(()) => {}
         Err(reason) => {
             return Err(Refusal {
                 reason,
                 position: tally.nodes,
             });
         }
-    };
+    }
     if rest.len() != 0 {
         return Err(Refusal {
             reason: Reason::RecordLength,

@@ -1,58 +1,63 @@
 -- The node is entered, then its children are read one by one.
-use Rattle.std.proofs.Common.{◌≡◌, refl, ap, arith, length}
-use Rattle.std.proofs.lemmas.Result.{err_from_is_err_and}
+use Rattle.std.proofs.Common.{refl, ap, arith, length}
 use Rattle.reader.proofs.Onward.{child-stops, children-read, entered-node, kept-down, left, node-credential, node-halts, node-level}
-use Rattle.reader.proofs.Onward.{node-long, node-place, onward-goes}
+use Rattle.reader.proofs.Onward.{node-long, node-place, onward-goes, onward-starts}
 use Rattle.reader.proofs.+read.Goals as goal
 
-pub returns-in_err-step-clause-told : goal.returns-in_err-step-clause-told
-returns-in_err-step-clause-told t c =
-    let p = err_from_is_err_and c.from_residual.result c.from_residual.ensures.1 in
-    rw (p.1, p.2) (node-halts c.in_err-step.ensures refl)
+pub returns-in-Err-clause-told : goal.returns-in-Err-clause-told
+returns-in-Err-clause-told t c =
+    node-halts c.in-Err.ensures refl
 
 pub overflow_sub-place : goal.overflow_sub-place
 overflow_sub-place t c =
-    let here = entered-node c.requires.well_formed c.in_ok-step.ensures in
+    let here = entered-node c.requires.well_formed c.in-Ok.ensures in
     omega (arith, c.wide-place.ensures.0, node-credential here)
 
 pub ask-requires-clause-place_bound : goal.ask-requires-clause-place_bound
 ask-requires-clause-place_bound t c =
-    let here = entered-node c.requires.well_formed c.in_ok-step.ensures in
+    let here = entered-node c.requires.well_formed c.in-Ok.ensures in
     node-place here c.wide-place.ensures.0
 
 pub moved-requires-clause-place_bound : goal.moved-requires-clause-place_bound
 moved-requires-clause-place_bound t c =
-    let here = entered-node c.requires.well_formed c.in_ok-step.ensures in
+    let here = entered-node c.requires.well_formed c.in-Ok.ensures in
     node-place here c.wide-place.ensures.0
 
 pub with_credential-tally-requires : goal.with_credential-tally-requires
 with_credential-tally-requires t c =
-    let here = entered-node c.requires.well_formed c.in_ok-step.ensures in
+    let here = entered-node c.requires.well_formed c.in-Ok.ensures in
     node-credential here
 
 pub with-deeper-requires : goal.with-deeper-requires
 with-deeper-requires t c =
-    let here = entered-node c.requires.well_formed c.in_ok-step.ensures in
+    let here = entered-node c.requires.well_formed c.in-Ok.ensures in
     omega (arith, node-level here)
 
 pub slice_bounds-rest-count : goal.slice_bounds-rest-count
 slice_bounds-rest-count t c =
-    let here = entered-node c.requires.well_formed c.in_ok-step.ensures in
+    let here = entered-node c.requires.well_formed c.in-Ok.ensures in
     node-long here
 
 pub slice_bounds-rest-start : goal.slice_bounds-rest-start
 slice_bounds-rest-start t c =
-    let here = entered-node c.requires.well_formed c.in_ok-step.ensures in
+    let here = entered-node c.requires.well_formed c.in-Ok.ensures in
     node-long here
 
 pub overflow_sub-levels : goal.overflow_sub-levels
 overflow_sub-levels t c =
-    let here = entered-node c.requires.well_formed c.in_ok-step.ensures in
+    let here = entered-node c.requires.well_formed c.in-Ok.ensures in
     node-level here
 
-pub read-requires : goal.read-requires
-read-requires t c =
-    let here = entered-node c.requires.well_formed c.in_ok-step.ensures in
+pub returns-then-len-eq0-clause-told : goal.returns-then-len-eq0-clause-told
+returns-then-len-eq0-clause-told t c =
+    let here = entered-node c.requires.well_formed c.in-Ok.ensures in
+    let down = kept-down here c.wide-place.ensures.0 _ c.moved.ensures refl c.with_credential-tally.ensures c.len.ensures
+    c.after_node-tally.ensures refl in
+    children-read here down onward-starts (omega (arith, c.len-2.ensures, c.if-len-eq0.true))
+
+pub read-told-requires : goal.read-told-requires
+read-told-requires t c =
+    let here = entered-node c.requires.well_formed c.in-Ok.ensures in
     let down = kept-down here c.wide-place.ensures.0 _ c.moved.ensures refl c.with_credential-tally.ensures c.len.ensures
     c.after_node-tally.ensures c.with-deeper.ensures in
     let so_far = rw c.as_slice-next-items.ensures at c.loop-next.invariant.so_far in
@@ -60,27 +65,26 @@ read-requires t c =
     let deeper = ap length c.with-deeper.ensures in
     (omega arith, (c.requires.well_formed, (omega arith, (omega (arith, left here down so_far), c.loop-next.invariant.index))))
 
-pub returns-in_err-rest-clause-told : goal.returns-in_err-rest-clause-told
-returns-in_err-rest-clause-told t c =
-    let p = err_from_is_err_and c.from_residual-in_err-rest.result c.from_residual-in_err-rest.ensures.1 in
-    let here = entered-node c.requires.well_formed c.in_ok-step.ensures in
+pub returns-in-Err-told-clause-told : goal.returns-in-Err-told-clause-told
+returns-in-Err-told-clause-told t c =
+    let here = entered-node c.requires.well_formed c.in-Ok.ensures in
     let down = kept-down here c.wide-place.ensures.0 _ c.moved.ensures refl c.with_credential-tally.ensures c.len.ensures
     c.after_node-tally.ensures c.with-deeper.ensures in
     let so_far = rw c.as_slice-next-items.ensures at c.loop-next.invariant.so_far in
-    let child = rw c.as_slice-next-items.ensures at c.in_err-rest.ensures.told in
+    let child = rw c.as_slice-next-items.ensures at (rw c.in-Err-told.is at c.read-told.ensures.told) in
     let less = rw c.as_slice-next-items.ensures at c.loop-next-test.true in
-    rw (p.1, p.2) (child-stops here down so_far less child)
+    child-stops here down so_far less child
 
 pub loop-next-preserved : goal.loop-next-preserved
 loop-next-preserved t c =
     record {
-      so_far = onward-goes c.loop-next.invariant.so_far c.loop-next-test.true c.in_ok-rest.ensures.told;
-      index = c.in_ok-rest.ensures.arcs;
+      so_far = onward-goes c.loop-next.invariant.so_far c.loop-next-test.true (rw c.in-Ok-told.is at c.read-told.ensures.told);
+      index = c.read-told.ensures.arcs;
     }
 
 pub returns-clause-told : goal.returns-clause-told
 returns-clause-told t c =
-    let here = entered-node c.requires.well_formed c.in_ok-step.ensures in
+    let here = entered-node c.requires.well_formed c.in-Ok.ensures in
     let down = kept-down here c.wide-place.ensures.0 _ c.moved.ensures refl c.with_credential-tally.ensures c.len.ensures
     c.after_node-tally.ensures c.with-deeper.ensures in
     let so_far = rw c.as_slice-next-items.ensures at c.loop-next.invariant.so_far in

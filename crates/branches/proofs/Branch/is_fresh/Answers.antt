@@ -1,8 +1,7 @@
 -- Each goal above is another.
-use Rattle.std.proofs.Common.{◌∙◌, sym, refl, get_or}
+use Rattle.std.proofs.Common.{◌∙◌, sym, refl}
 use Rattle.std.proofs.lemmas.List.{take_all}
-use Rattle.table.proofs.Equality.{goal-eq}
-use Rattle.derivation.specs.Rules.{fresh, same_goal}
+use Rattle.derivation.specs.Rules.{fresh}
 use Rattle.derivation.specs.Held.{no_goal}
 use Rattle.branches.specs.Held.{above}
 use Rattle.branches.proofs.Above.{fresh-next, fresh-not}
@@ -12,18 +11,15 @@ pub loop-other-init : goal.loop-other-init
 unfolding fresh
 loop-other-init c = refl
 
-pub returns-then-eq : goal.returns-then-eq
-unfolding above same_goal
-returns-then-eq c =
-    let other = get_or c.as_slice-other-items.result.now c.loop-other.other-index no_goal in
-    let same = sym (goal-eq other c.args.goal c.eq.ensures) ∙ c.if-eq.true in
+pub returns-then-is_same : goal.returns-then-is_same
+unfolding above
+returns-then-is_same c =
+    let same = sym c.is_same.ensures ∙ c.if-is_same.true in
     rw (← c.as_slice-other-items.ensures) (sym (fresh-not _ _ _ no_goal c.loop-other-test.true same))
 
 pub loop-other-preserved : goal.loop-other-preserved
-unfolding same_goal
 loop-other-preserved c =
-    let other = get_or c.as_slice-other-items.result.now c.loop-other.other-index no_goal in
-    let differs = sym (goal-eq other c.args.goal c.eq.ensures) ∙ c.if-eq.false in
+    let differs = sym c.is_same.ensures ∙ c.if-is_same.false in
     fresh-next _ _ _ no_goal c.loop-other-test.true c.loop-other.invariant differs
 
 pub returns : goal.returns

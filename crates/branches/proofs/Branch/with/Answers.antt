@@ -1,5 +1,5 @@
 -- The goal is the nearest of those above.
-use Rattle.std.proofs.Common.{arith, ◌∷◌, []}
+use Rattle.std.proofs.Common.{arith}
 use Rattle.std.proofs.lemmas.List.{length-reverse, reverse-append}
 use Rattle.branches.specs.Held.{above}
 use Rattle.few.specs.Listed.{listed}
