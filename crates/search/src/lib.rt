@@ -19,7 +19,7 @@ ghost use Rattle.search.specs.Search.{Stands, TellsMet, provable};
 ghost use Rattle.search.specs.Failing.{FoundBelow, goal_test};
 ghost use Rattle.search.specs.Grounds.{RememberedOn, SearchableOn};
 
-pub use asking::{Pair, link_asked, roles_asked};
+pub use asking::{Pair, link_asked, roles_asked, same_later};
 use automata::StateSets;
 use families::Family;
 use goals::{Ground, Spot, Terms};
